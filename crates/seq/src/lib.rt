@@ -4,3 +4,6 @@
 pub mod list;
 
 pub use list::{Seq, Text};
+
+#[cfg(test)]
+mod tests;

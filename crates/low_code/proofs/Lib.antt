@@ -1,0 +1,3 @@
+pub mod TreeOf
+pub mod Steady
+pub mod Worked

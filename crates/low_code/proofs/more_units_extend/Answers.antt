@@ -1,0 +1,5 @@
+use Rattle.low_code.proofs.Steady.{more_units_extend}
+use Rattle.low_code.proofs.more_units_extend.Goals as goal
+
+pub returns : goal.returns
+returns c = more_units_extend

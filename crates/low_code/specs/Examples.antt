@@ -1,0 +1,56 @@
+-- A small program with what its runs do, computed from the definitions.
+use Rattle.std.specs.Prelude.{◌≡◌, ℕ, List, [], ◌∷◌, Some}
+use Rattle.low_code.specs.declared.program.Operand.TheVariants.{Var, Num}
+use Rattle.low_code.specs.declared.program.PrimOp.TheVariants.{Add}
+use Rattle.low_code.specs.Tree.{Code, prim, load, save, take, put, get, call, join, give, tail, choose, otherwise, arm, Program}
+use Rattle.low_code.specs.Values.{out_of_units, missing, Answer}
+use Rattle.low_code.specs.Run.{run, done, ended, end_of, world_of}
+
+-- the start stores the next byte in a new cell and calls `shows` on it; of the word that it gives it writes C where that is the
+-- letter B, and else D; then it goes on as `shows`
+abbrev pub start : Code
+start = get 1 (take (2 ∷ []) (save (Var 2) 1 (Var 1) (call 1 0 (Var 2 ∷ []) (3 ∷ [])
+    (join (4 ∷ []) (choose (arm (record { left = Var 3; right = 66 } ∷ []) (give (Num 67 ∷ [])) (otherwise (give (Num 68 ∷ [])))))
+    (put (Var 4) (tail 1 1 (Var 2 ∷ [])))))))
+
+-- writes the byte in a cell, and gives it
+abbrev pub shows : Code
+shows = load 11 (Var 10) 1 (put (Var 11) (give (Var 11 ∷ [])))
+
+abbrev pub letters : Code → Program
+letters first = record {
+  procs = record { params = 0 ∷ []; results = 1; body = first } ∷ record { params = 10 ∷ []; results = 1; body = shows } ∷ [];
+  start = 0;
+  argument = Some 0;
+  globals = 3 ∷ [];
+  width = 3;
+}
+
+-- a run over frames of two words each
+abbrev pub ran : Code → List ℕ → ℕ → Answer
+ran first input n = run (letters first) (λ f. 2) input n
+
+-- a tail call where none may stand
+abbrev pub misplaced : Code
+misplaced = join (4 ∷ []) (tail 1 1 (Var 0 ∷ [])) (give (Var 4 ∷ []))
+
+-- the second test would meet a cell, but the first one fails
+abbrev pub tested : Code
+tested = choose (arm (record { left = Num 1; right = 2 } ∷ record { left = Var 0; right = 0 } ∷ []) (give (Num 1 ∷ [])) (otherwise (give (Num 2 ∷ []))))
+
+-- adds 1 to all ones, which is no byte
+abbrev pub wraps : Code
+wraps = get 1 (prim Add 2 (Var 1) (Num 1) (put (Var 2) (give (Var 2 ∷ []))))
+
+pub record Examples : Type 0 where
+  pub writes : (world_of (ran start (66 ∷ 65 ∷ []) 3)).out ≡ 66 ∷ 67 ∷ 66 ∷ []
+  pub takes_one_byte : (world_of (ran start (66 ∷ 65 ∷ []) 3)).used ≡ 1
+  pub is_done : end_of (ran start (66 ∷ []) 3) ≡ done
+  pub needs_three_units : end_of (ran start (66 ∷ []) 2) ≡ ended out_of_units
+  pub two_frames_at_once : (world_of (ran start (66 ∷ []) 3)).frames ≡ 4
+  pub enters : (world_of (ran start [] 3)).entered ≡ 0 ∷ 1 ∷ 1 ∷ []
+  pub at_the_inputs_end : (world_of (ran start [] 3)).out ≡ 255 ∷ 68 ∷ 255 ∷ []
+  pub tail_ends_its_procedure : (world_of (ran (tail 1 0 (Var 0 ∷ [])) [] 2)).frames ≡ 2
+  pub no_tail_in_a_join : end_of (ran misplaced [] 9) ≡ ended missing
+  pub later_tests_unseen : end_of (ran tested [] 1) ≡ done
+  pub sums_wrap : (world_of (ran wraps [] 1)).out ≡ 0 ∷ []
