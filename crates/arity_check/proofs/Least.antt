@@ -1,0 +1,137 @@
+-- The earliest of some refusals.
+use Rattle.std.proofs.Common.{◌≡◌, ℕ, ◌<◌, true, false, List, [], ◌∷◌, refl, sym, ap, ◌∙◌, subst, arith, Option, Some, None, ◌⊎◌, inl, inr}
+use Rattle.std.specs.Prelude.{if◌then◌else◌, nat_lt}
+use Rattle.std.proofs.lemmas.Bool.{ltb-true}
+use Rattle.std.proofs.lemmas.Grind.{common_steps}
+use Rattle.core_reader.specs.Tree.{Program}
+use Rattle.arity_check.specs.declared.refusal.CheckRefusal.{CheckRefusal}
+use Rattle.arity_check.specs.Order.{rank, IsBefore}
+use Rattle.arity_check.specs.First.{IsFirstRefusal}
+use Rattle.arity_check.specs.Refusal.{rule, rank_of, before, is_before, earlier, least}
+use Rattle.arity_check.specs.Whole.{whole_faults}
+use Rattle.arity_check.proofs.In.{In, Here, There}
+use Rattle.arity_check.proofs.Names.{two_ways}
+use Rattle.arity_check.proofs.Right.{sound, complete, Listed}
+
+order : (m n : ℕ) → (m < n) ⊎ ((m ≡ n) ⊎ (n < m))
+order m n = elim (two_ways (nat_lt m n)) [
+  | inl e ↦ inl (ltb-true m n e)
+  | inr e ↦ elim (two_ways (nat_lt n m)) [ inl f ↦ inr (inr (ltb-true n m f)) | inr f ↦ inr (inl (grind (arith, common_steps, e, f))) ]
+]
+
+before_true : (a b : ℕ × ℕ × ℕ) → before a b ≡ true → IsBefore a b
+before_true a b e = elim (order a.0 b.0) [
+  | inl l ↦ inl l
+  | inr n ↦ elim n [
+    | inl s ↦ elim (order a.1 b.1) [
+      | inl l ↦ inr (s, inl l)
+      | inr m ↦ elim m [
+        | inl t ↦ elim (order a.2 b.2) [
+          | inl l ↦ inr (s, inr (t, omega (arith, l)))
+          | inr w ↦ elim w [ inl u ↦ inr (s, inr (t, omega (arith, u))) | inr g ↦ absurd (grind (arith, common_steps, e, s, t, g)) ]
+        ]
+        | inr g ↦ absurd (grind (arith, common_steps, e, s, g))
+      ]
+    ]
+    | inr g ↦ absurd (grind (arith, common_steps, e, g))
+  ]
+]
+
+before_false : (a b : ℕ × ℕ × ℕ) → before a b ≡ false → IsBefore b a
+before_false a b e = elim (order b.0 a.0) [
+  | inl l ↦ inl l
+  | inr n ↦ elim n [
+    | inl s ↦ elim (order b.1 a.1) [
+      | inl l ↦ inr (s, inl l)
+      | inr m ↦ elim m [
+        | inl t ↦ elim (order b.2 a.2) [
+          | inl l ↦ inr (s, inr (t, omega (arith, l)))
+          | inr w ↦ elim w [ inl u ↦ inr (s, inr (t, omega (arith, u))) | inr g ↦ absurd (grind (arith, common_steps, e, s, t, g)) ]
+        ]
+        | inr g ↦ absurd (grind (arith, common_steps, e, s, g))
+      ]
+    ]
+    | inr g ↦ absurd (grind (arith, common_steps, e, g))
+  ]
+]
+
+before_trans : (a b c : ℕ × ℕ × ℕ) → IsBefore a b → IsBefore b c → IsBefore a c
+before_trans a b c (inl l) (inl m) = inl (omega (arith, l, m))
+before_trans a b c (inl l) (inr m) = let s = m.0 in inl (omega (arith, l, s))
+before_trans a b c (inr l) (inl m) = let s = l.0 in inl (omega (arith, m, s))
+before_trans a b c (inr (s, inl l)) (inr (t, inl m)) = inr (s ∙ t, inl (omega (arith, l, m)))
+before_trans a b c (inr (s, inl l)) (inr (t, inr m)) = let u = m.0 in inr (s ∙ t, inl (omega (arith, l, u)))
+before_trans a b c (inr (s, inr l)) (inr (t, inl m)) = let u = l.0 in inr (s ∙ t, inl (omega (arith, m, u)))
+before_trans a b c (inr (s, inr l)) (inr (t, inr m)) = let u = l.1 in let v = m.1 in inr (s ∙ t, inr (l.0 ∙ m.0, omega (arith, u, v)))
+
+before_self : (a : ℕ × ℕ × ℕ) → IsBefore a a
+before_self a = inr (refl, inr (refl, omega arith))
+
+abbrev Le : CheckRefusal → CheckRefusal → Type 0
+Le r q = IsBefore (rank_of r) (rank_of q)
+
+-- this is the earliest of these and one more
+pub record Earliest (o r : CheckRefusal) (rs : List CheckRefusal) : Type 0 where
+  pub among : (o ≡ r) ⊎ In r rs
+  pub first : Le r o
+  pub all : (q : CheckRefusal) → In q rs → Le r q
+
+earliest_step : (x r : CheckRefusal) (rs : List CheckRefusal) → Le r x → ((q : CheckRefusal) → In q rs → Le r q) → (q : CheckRefusal) → In q (x ∷ rs) → Le r q
+earliest_step x r rs h all q Here = h
+earliest_step x r rs h all q (There i) = all q i
+
+some_same : (a b : CheckRefusal) → Some a ≡ Some b → a ≡ b
+some_same a b e = cc
+
+pub earliest : (o r : CheckRefusal) (rs : List CheckRefusal) → least (Some o) rs ≡ Some r → Earliest o r rs
+unfolding earlier is_before
+earliest o r [] e = record { among = inl (some_same o r e); first = subst (λ r. Le r o) (some_same o r e) (before_self (rank_of o)); all = λ q i. elim i [ ] }
+earliest o r (x ∷ rs) e = elim (two_ways (before (rank_of x) (rank_of o))) [
+  | inl h ↦
+      let w = earliest x r rs (ap (λ b. least (if b then Some x else Some o) rs) (sym h) ∙ e) in
+      record {
+        among = elim w.among [ inl s ↦ inr (subst (λ r. In r (x ∷ rs)) s Here) | inr i ↦ inr (There i) ];
+        first = before_trans (rank_of r) (rank_of x) (rank_of o) w.first (before_true (rank_of x) (rank_of o) h);
+        all = earliest_step x r rs w.first w.all;
+      }
+  | inr h ↦
+      let w = earliest o r rs (ap (λ b. least (if b then Some x else Some o) rs) (sym h) ∙ e) in
+      record {
+        among = elim w.among [ inl s ↦ inl s | inr i ↦ inr (There i) ];
+        first = w.first;
+        all = earliest_step x r rs (before_trans (rank_of r) (rank_of o) (rank_of x) w.first (before_false (rank_of x) (rank_of o) h)) w.all;
+      }
+]
+
+some_least : (o : CheckRefusal) (rs : List CheckRefusal) → least (Some o) rs ≡ None → ⊥
+unfolding earlier is_before
+some_least o [] e = cc
+some_least o (x ∷ rs) e = elim (two_ways (before (rank_of x) (rank_of o))) [
+  | inl h ↦ some_least x rs (ap (λ b. least (if b then Some x else Some o) rs) (sym h) ∙ e)
+  | inr h ↦ some_least o rs (ap (λ b. least (if b then Some x else Some o) rs) (sym h) ∙ e)
+]
+
+none_least : (rs : List CheckRefusal) → least None rs ≡ None → (q : CheckRefusal) → In q rs → ⊥
+unfolding earlier
+none_least [] e q i = elim i [ ]
+none_least (x ∷ rs) e q i = some_least x rs e
+
+first_met : (rs : List CheckRefusal) (r : CheckRefusal) → least None rs ≡ Some r → In r rs × ((q : CheckRefusal) → In q rs → Le r q)
+unfolding earlier
+first_met [] r e = absurd cc
+first_met (x ∷ rs) r e =
+    let w = earliest x r rs e in
+    (elim w.among [ inl s ↦ subst (λ r. In r (x ∷ rs)) s Here | inr i ↦ There i ], earliest_step x r rs w.first w.all)
+
+-- the earliest refusal that is met is the first broken rule
+pub right : (p : Program) (o : Option CheckRefusal) → o ≡ least None (whole_faults p) → IsFirstRefusal p o
+right p None e = λ k at b. let w = complete p b in none_least (whole_faults p) (sym e) w.refusal w.met
+right p (Some r) e =
+    let w = first_met (whole_faults p) r (sym e) in
+    record {
+      broken = sound p r w.0;
+      first = λ k at b.
+          let l : Listed p k at = complete p b in
+          let h : Le r l.refusal = w.1 l.refusal l.met in
+          subst (λ n. IsBefore (rank_of r) (rank n at)) l.rule_is (subst (λ n. IsBefore (rank_of r) (rank (rule l.refusal) n)) l.place_is h);
+    }

@@ -1,0 +1,5 @@
+//! Rows that `read` and `check` are tried on.
+#![tactic(auto)]
+
+#[cfg(test)]
+mod tests;

@@ -1,0 +1,5 @@
+mod Computed
+mod Enough
+mod Longer
+mod Steady
+pub mod Valid

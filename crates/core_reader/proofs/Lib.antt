@@ -1,0 +1,16 @@
+pub mod TreeOf
+pub mod Runs
+pub mod Right
+pub mod Complete
+pub mod Sound
+pub mod Turns
+pub mod Proper
+pub mod Ending
+pub mod Naming
+pub mod Unique
+pub mod Explains
+pub mod Lexing
+pub mod Causes
+pub mod Readability
+pub mod Answers
+pub mod OnlyOne

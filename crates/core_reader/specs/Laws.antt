@@ -1,0 +1,15 @@
+-- What the definitions of texts and their rules say by themselves.
+use Rattle.std.specs.Prelude.{◌≡◌, ℕ, List}
+use Rattle.core_reader.specs.Tree.{Program}
+use Rattle.core_reader.specs.Tokens.{Piece, IsTokens}
+use Rattle.core_reader.specs.Text.{IsText, IsFirstUnread}
+
+-- At most one rule is the first that a text breaks, at one place.
+abbrev pub OneRefusal : Type 0
+OneRefusal = (text : List ℕ) (k at k' at' : ℕ) → IsFirstUnread text k at → IsFirstUnread text k' at' → (k ≡ k') × (at ≡ at')
+
+abbrev pub OneReading : Type 0
+OneReading = (text : List ℕ) (us vs : List Piece) → IsTokens text us → IsTokens text vs → us ≡ vs
+
+abbrev pub OneProgram : Type 0
+OneProgram = (text : List ℕ) (p q : Program) → IsText text p → IsText text q → p ≡ q

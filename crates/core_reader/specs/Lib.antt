@@ -1,0 +1,12 @@
+pub mod Size
+pub mod Tree
+pub mod Bytes
+pub mod Tokens
+pub mod Look
+pub mod Grammar
+pub mod Text
+pub mod Readable
+pub mod Machine
+pub mod Parsed
+pub mod Lexed
+pub mod Laws

@@ -1,0 +1,36 @@
+-- What stands at the front of a text, by its first bytes.
+use Rattle.std.specs.Prelude.{ℕ, ◌+◌, List, [], ◌∷◌, length, ◌==◌, if◌then◌else◌}
+use Rattle.std.specs.List.{take_while}
+use Rattle.core_reader.specs.declared.look.Sign.TheVariants.{Semicolon, Equals, OpenBrace, CloseBrace, Open, Close, Arrow}
+use Rattle.core_reader.specs.declared.look.Kind.TheVariants.{Lower, Upper, Digits, Sign}
+use Rattle.core_reader.specs.declared.look.Found.{Found}
+use Rattle.core_reader.specs.declared.look.Found.TheVariants.{Gap, Token, Bad, End}
+use Rattle.core_reader.specs.Bytes.{is_space, is_lower, is_upper, is_digit, is_inner, is_in_line}
+
+abbrev pub sign_of : ℕ → Found
+sign_of b =
+    if b == 59 then Token 1 (Sign Semicolon)
+    else (if b == 61 then Token 1 (Sign Equals)
+    else (if b == 123 then Token 1 (Sign OpenBrace)
+    else (if b == 125 then Token 1 (Sign CloseBrace)
+    else (if b == 40 then Token 1 (Sign Open)
+    else (if b == 41 then Token 1 (Sign Close)
+    else Bad)))))
+
+abbrev pub looks_minus : List ℕ → Found
+looks_minus [] = Bad
+looks_minus (c ∷ tail) =
+    if c == 45 then Gap (2 + length (take_while is_in_line tail))
+    else (if c == 62 then Token 2 (Sign Arrow)
+    else (if is_digit c then Token (2 + length (take_while is_digit tail)) Digits
+    else Bad))
+
+abbrev pub looks : List ℕ → Found
+looks [] = End
+looks (b ∷ rest) =
+    if is_space b then Gap 1
+    else (if is_lower b then Token (1 + length (take_while is_inner rest)) Lower
+    else (if is_upper b then Token (1 + length (take_while is_inner rest)) Upper
+    else (if is_digit b then Token (1 + length (take_while is_digit rest)) Digits
+    else (if b == 45 then looks_minus rest
+    else sign_of b))))

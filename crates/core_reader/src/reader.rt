@@ -1,0 +1,53 @@
+//! Core text as a program.
+
+ghost use Rattle.std.specs.Prelude.{◌≡◌, OnOk, IfOk, IfErr};
+ghost use Rattle.core_reader.specs.Tree.{program};
+ghost use Rattle.core_reader.specs.Text.{IsText, IsUnbroken, IsCause};
+ghost use Rattle.core_reader.specs.Readable.{IsReadable};
+ghost use Rattle.core_reader.specs.Lexed.{texts_of};
+
+use crate::lexer::lex;
+use crate::parser::parse;
+use crate::refusal::ReadRefusal;
+use crate::syntax::{Core, Names};
+use indexmap::IndexSet;
+use seq::Seq;
+use std::alloc::{AllocError, Global};
+
+/// The most bytes of a text.
+const MOST_BYTES: usize = 1048576;
+
+/// The program that a text stands for: the longest-token reading of the bytes gives tokens from which the grammar
+/// derives it. Places are offsets in bytes, and names have their numbers in the order of first appearance.
+///
+/// The answer is `Ok` exactly where the text breaks none of the rules 1 to 5, and else the first that it breaks, with its
+/// place: rule 5 first, then the first place in text order, and at one place the smaller number. Want of memory may
+/// come in place of each answer.
+pub fn read(alloc: Global, text: &[u8]) -> Result<Core, ReadRefusal>
+    ensures found { IfOk result (λ core. IsText text.now (program core)) }
+    ensures unbroken { OnOk result (IsUnbroken text.now) }
+    ensures readable { IfOk result (λ core. IsReadable (program core)) }
+    ensures refused { IfErr result (IsCause text.now) }
+{
+    if text.len() > MOST_BYTES {
+        return Err(ReadRefusal::TextTooLong);
+    }
+    let lexed = lex(alloc, text)?;
+    let declarations = parse(alloc, lexed.lexemes.as_slice())?;
+    Ok(Core {
+        names: copied(alloc, &lexed.names)?,
+        constructors: Seq::from_vec(declarations.constructors),
+        functions: Seq::from_vec(declarations.functions),
+    })
+}
+
+/// The names as texts of their own.
+fn copied(alloc: Global, names: &IndexSet<&[u8]>) -> Result<Names, AllocError>
+    ensures { IfOk result (λ copy. copy ≡ texts_of names.now.keys) }
+{
+    let mut entries = Vec::new(alloc);
+    for name in names.as_slice() {
+        entries.push(Seq::from_slice(alloc, name)?)?;
+    }
+    Ok(Names::new(entries))
+}

@@ -1,0 +1,9 @@
+pub mod Inclusions
+pub mod Tables
+pub mod System
+pub mod Solution
+pub mod Covers
+pub mod Size
+pub mod Inlining
+pub mod Shown
+pub mod Demands

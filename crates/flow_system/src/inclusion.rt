@@ -1,0 +1,62 @@
+// Flow systems, as data.
+
+ghost use Rattle.std.specs.Prelude.{◌≡◌, IfOk};
+
+use grin_syntax::copies::copy_target;
+use grin_syntax::program::{GlobalCell, ProcId, Site, Tag, TagId, Target, Val, VarId, Word};
+use seq::Seq;
+use std::alloc::{AllocError, Global};
+
+/// What flows: a value; a cell of a site; some number; the result of a procedure; the nodes in the cells that a word may stand for, a word of them (0 is the tag), or the evaluated ones among them;
+/// a function that waits for at least two arguments, with one argument more; the fields of a tag among the nodes that a value may be.
+#[derive(Drop)]
+pub enum Source {
+    Value(Val),
+    ACell(Site),
+    ANumber,
+    Result(ProcId),
+    NodesAt(Word),
+    WordAt(Word, u32),
+    EvaluatedAt(Word),
+    Extended(Val, Word),
+    FieldsOf(Val, TagId),
+}
+
+/// Where it flows to: the variables of a target, the result of a procedure, the cells of a site, or the cells that a word may stand for.
+#[derive(Drop)]
+pub enum Sink {
+    To(Target),
+    Result(ProcId),
+    Site(Site),
+    CellsAt(Word),
+}
+
+/// What an inclusion says: that a source flows to a sink; that the delayed calls in the cells of a site are evaluated, there;
+/// that the functions a value may be, waiting for one argument, are called with this one, and their results flow to a sink.
+#[derive(Drop)]
+pub enum Inclusion {
+    Flows(Source, Sink),
+    Forces(Site),
+    Applies(Val, Word, Sink),
+}
+
+/// The flow system of a program: its tags, its global cells and the parameters of its procedures, to which the inclusions refer, and the inclusions.
+#[derive(Drop)]
+pub struct FlowSystem {
+    pub tags: Seq<Tag>,
+    pub globals: Seq<GlobalCell>,
+    pub params: Seq<Seq<VarId>>,
+    pub inclusions: Seq<Inclusion>,
+}
+
+/// The same sink again.
+pub fn copy_sink(alloc: Global, sink: &Sink) -> Result<Sink, AllocError>
+    ensures { IfOk result (λ c. c ≡ sink.now) }
+{
+    match sink {
+        Sink::To(target) => Ok(Sink::To(copy_target(alloc, target)?)),
+        Sink::Result(f) => Ok(Sink::Result(*f)),
+        Sink::Site(s) => Ok(Sink::Site(*s)),
+        Sink::CellsAt(w) => Ok(Sink::CellsAt(*w)),
+    }
+}

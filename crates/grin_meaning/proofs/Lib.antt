@@ -1,0 +1,9 @@
+pub mod Kept
+pub mod Worked
+pub mod Back
+pub mod Related
+pub mod Following
+pub mod Paired
+pub mod Alike
+pub mod Simulated
+pub mod Vectors

@@ -1,0 +1,10 @@
+pub mod Values
+pub mod Run
+pub mod Keeps
+pub mod Rewritten
+pub mod Follows
+pub mod Names
+pub mod Slim
+pub mod Reached
+pub mod Ready
+pub mod Laws

@@ -1,0 +1,4 @@
+pub mod TreeOf
+pub mod Placed
+pub mod Listed
+pub mod FormedAgain

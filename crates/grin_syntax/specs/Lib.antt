@@ -1,0 +1,6 @@
+pub mod Tree
+pub mod Binders
+pub mod Tags
+pub mod Formed
+pub mod Listing
+pub mod Statements

@@ -1,0 +1,18 @@
+// The intermediate language: its programs, as trees.
+#![tactic(auto)]
+
+pub mod copies;
+mod line;
+mod listing;
+pub mod program;
+mod ranks;
+
+pub use copies::copy;
+pub use listing::list;
+pub use program::{
+    Alt, Block, Cell, GlobalCell, Grin, Op, PrimOp, Proc, ProcId, Shape, Site, Stmt, Tag, TagId,
+    TagKind, Target, Val, VarId, Word,
+};
+
+#[cfg(test)]
+mod tests;

@@ -1,0 +1,4 @@
+pub mod Composed
+pub mod Turns
+pub mod Loops
+pub mod Division

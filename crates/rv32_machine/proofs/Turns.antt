@@ -1,0 +1,164 @@
+-- One step of the machine as a run of one step.
+use Rattle.std.proofs.Common.{◌≡◌, ℕ, List, [], ◌++◌, take, drop, Option, Some, None, true, false, refl, sym, ap, ◌∙◌, subst, arith}
+use Rattle.std.proofs.lemmas.Grind.{common_steps}
+use Rattle.std.specs.Prelude.{slice_get, Bool, IfSome}
+use Rattle.grin_io.specs.declared.outside.Fault.{Fault}
+use Rattle.grin_io.specs.declared.outside.Fault.TheVariants.{Read, Write}
+use Rattle.rv32_machine.specs.declared.machine.TrapKind.{TrapKind}
+use Rattle.rv32_machine.specs.declared.machine.Stop.{Stop}
+use Rattle.rv32_machine.specs.declared.machine.Stop.TheVariants.{Steps, Exit as Exit', Trap as Trap'}
+use Rattle.rv32_machine.specs.declared.machine.StepResult.TheVariants.{Next as Next', Read as Read', Write as Write', Exit, Trap}
+use Rattle.rv32_machine.specs.Memory.{range_bytes}
+use Rattle.rv32_machine.specs.Steps.{State, Stand, state_of, Outcome, Next, Written, Asked, Ended, Trapped, Does, IsAt, step, given}
+use Rattle.rv32_machine.specs.Runs.{Run, Going, Exited, Stopped, stands, after, onward, run, Stays, Told, none, more, TookAll, TookPart, Paused, Refused, Broke}
+use Rattle.rv32_machine.proofs.Composed.{run_none, run_more}
+
+pub end_append : (xs : List ℕ) → xs ≡ xs ++ []
+end_append xs = grind (arith, common_steps)
+
+-- ---- the outcome of a step, by the machine's answer
+
+next_is : (old : State) (o : Outcome) (new : Stand) → Does old o Next' new → (o ≡ Next (state_of new)) × (new.over ≡ false) × (new.waiting ≡ false)
+next_is old (Next s) new h = (ap Next (sym h.1.0), h.1.1, h.1.2)
+next_is old (Written a n b s) new h = cc
+next_is old (Asked a) new h = cc
+next_is old (Ended code) new h = cc
+next_is old (Trapped kind) new h = cc
+
+write_is : (old : State) (o : Outcome) (a n : ℕ) (new : Stand) → Does old o (Write' a n) new → (bytes : List ℕ) × ((o ≡ Written a n bytes (state_of new)) × (new.over ≡ false) × (new.waiting ≡ false) × (range_bytes new.memory a n ≡ Some bytes))
+write_is old (Next s) a n new h = cc
+write_is old (Written a' n' b s) a n new h =
+    let e1 : a' ≡ a = cc in
+    let e2 : n' ≡ n = cc in
+    let e3 : s ≡ state_of new = sym h.1.0 in
+    let e : Written a' n' b s ≡ Written a n b (state_of new) = cc in
+    let r : range_bytes new.memory a n ≡ Some b = ap (λ x. range_bytes new.memory x n) (sym e1) ∙ ap (λ x. range_bytes new.memory a' x) (sym e2) ∙ h.2 in
+    (b, (e, h.1.1, h.1.2, r))
+write_is old (Asked a') a n new h = cc
+write_is old (Ended code) a n new h = cc
+write_is old (Trapped kind) a n new h = cc
+
+read_is : (old : State) (o : Outcome) (a : ℕ) (new : Stand) → Does old o (Read' a) new → (o ≡ Asked a) × (state_of new ≡ old) × (new.over ≡ false) × (new.waiting ≡ true)
+read_is old (Next s) a new h = cc
+read_is old (Written a' n b s) a new h = cc
+read_is old (Asked a') a new h = let e : a' ≡ a = cc in (ap Asked e, h.1.0, h.1.1, h.1.2)
+read_is old (Ended code) a new h = cc
+read_is old (Trapped kind) a new h = cc
+
+exit_is : (old : State) (o : Outcome) (code : ℕ) (new : Stand) → Does old o (Exit code) new → (o ≡ Ended code) × IsAt new old true false
+exit_is old (Next s) code new h = cc
+exit_is old (Written a n b s) code new h = cc
+exit_is old (Asked a) code new h = cc
+exit_is old (Ended code') code new h = let e : code' ≡ code = cc in (ap Ended e, h.1)
+exit_is old (Trapped kind) code new h = cc
+
+trap_is : (old : State) (o : Outcome) (kind : TrapKind) (pc : ℕ) (new : Stand) → Does old o (Trap kind pc) new → (o ≡ Trapped kind) × (pc ≡ old.pc) × IsAt new old true false
+trap_is old (Next s) kind pc new h = cc
+trap_is old (Written a n b s) kind pc new h = cc
+trap_is old (Asked a) kind pc new h = cc
+trap_is old (Ended code) kind pc new h = cc
+trap_is old (Trapped kind') kind pc new h = let e : kind' ≡ kind = cc in let e2 : pc ≡ old.pc = cc in (ap Trapped e, e2, h.1)
+
+-- ---- the run of one step
+
+one : (i : List ℕ) (s : State) → run 1 i s ≡ onward (run 0) i s (step s)
+one i s = run_more 0 i s
+
+pub next_run : (s : State) (new : Stand) → Does s (step s) Next' new → (i : List ℕ) → run 1 i s ≡ stands i (Going (state_of new))
+next_run s new h i = one i s ∙ ap (onward (run 0) i s) (next_is s (step s) new h).0 ∙ run_none i (state_of new)
+
+pub write_run : (s : State) (a n : ℕ) (new : Stand) (bytes : List ℕ) → Does s (step s) (Write' a n) new → range_bytes new.memory a n ≡ Some bytes → (i : List ℕ) → run 1 i s ≡ record { out = bytes; left = i; end = Going (state_of new) }
+write_run s a n new bytes h is i =
+    let k = write_is s (step s) a n new h in
+    let same : k.0 ≡ bytes = cc (k.1.3, is) in
+    one i s
+    ∙ ap (onward (run 0) i s) k.1.0
+    ∙ ap (after k.0) (run_none i (state_of new))
+    ∙ (λ j. record { out = sym (end_append k.0) j; left = i; end = Going (state_of new) })
+    ∙ (λ j. record { out = same j; left = i; end = Going (state_of new) })
+
+pub read_run : (s : State) (a : ℕ) (new : Stand) → Does s (step s) (Read' a) new → (i : List ℕ) → run 1 i s ≡ stands (drop 1 i) (Going (given (state_of new) (slice_get i 0)))
+read_run s a new h i =
+    let k = read_is s (step s) a new h in
+    one i s
+    ∙ ap (onward (run 0) i s) k.0
+    ∙ run_none (drop 1 i) (given s (slice_get i 0))
+    ∙ ap (λ t. stands (drop 1 i) (Going (given t (slice_get i 0)))) (sym k.1)
+
+pub exit_run : (s : State) (code : ℕ) (new : Stand) → Does s (step s) (Exit code) new → (i : List ℕ) → run 1 i s ≡ stands i (Exited code s)
+exit_run s code new h i = one i s ∙ ap (onward (run 0) i s) (exit_is s (step s) code new h).0
+
+pub trap_run : (s : State) (kind : TrapKind) (pc : ℕ) (new : Stand) → Does s (step s) (Trap kind pc) new → (i : List ℕ) → run 1 i s ≡ stands i (Stopped kind s)
+trap_run s kind pc new h i = one i s ∙ ap (onward (run 0) i s) (trap_is s (step s) kind pc new h).0
+
+-- ---- what a turn answers
+
+-- a run that is another one
+pub stays_as : (r q : Run) (stop : Stop) (new : Stand) (left : Option (List ℕ)) → r ≡ q → Stays q stop new left → Stays r stop new left
+stays_as r q stop new left e h = subst (λ x. Stays x stop new left) (sym e) h
+
+pub next_stays : (s : State) (new : Stand) (left : Option (List ℕ)) → Does s (step s) Next' new → (i : List ℕ) → left ≡ Some i → Stays (run 1 i s) Steps new left
+next_stays s new left h i e =
+    let k = next_is s (step s) new h in
+    stays_as _ _ Steps new left (next_run s new h i) (record { stands = (refl, (refl, k.1, k.2)); left_is = e })
+
+pub wrote : (s : State) (a n : ℕ) (new : Stand) → Does s (step s) (Write' a n) new → (bytes : List ℕ) × ((range_bytes new.memory a n ≡ Some bytes) × ((i : List ℕ) → (run 1 i s).out ≡ bytes))
+wrote s a n new h =
+    let k = write_is s (step s) a n new h in
+    (k.0, (k.1.3, (λ i. ap (λ r. r.out) (write_run s a n new k.0 h k.1.3 i))))
+
+pub write_stays : (s : State) (a n : ℕ) (new : Stand) (left : Option (List ℕ)) → Does s (step s) (Write' a n) new → (i : List ℕ) → left ≡ Some i → Stays (run 1 i s) Steps new left
+write_stays s a n new left h i e =
+    let k = write_is s (step s) a n new h in
+    stays_as _ _ Steps new left (write_run s a n new k.0 h k.1.3 i) (record { stands = (refl, (refl, k.1.1, k.1.2)); left_is = e })
+
+pub read_stays : (s : State) (a : ℕ) (mid new : Stand) (left : Option (List ℕ)) → Does s (step s) (Read' a) mid → (i : List ℕ) → IsAt new (given (state_of mid) (slice_get i 0)) false false → left ≡ Some (drop 1 i) → Stays (run 1 i s) Steps new left
+read_stays s a mid new left h i at e =
+    stays_as _ _ Steps new left (read_run s a mid h i) (record { stands = (refl, at); left_is = e })
+
+pub exit_stays : (s : State) (code : ℕ) (new : Stand) (left : Option (List ℕ)) → Does s (step s) (Exit code) new → (i : List ℕ) → left ≡ Some i → Stays (run 1 i s) (Exit' code) new left
+exit_stays s code new left h i e =
+    stays_as _ _ (Exit' code) new left (exit_run s code new h i) (record { stands = (refl, (exit_is s (step s) code new h).1); left_is = e })
+
+pub trap_stays : (s : State) (kind : TrapKind) (pc : ℕ) (new : Stand) (left : Option (List ℕ)) → Does s (step s) (Trap kind pc) new → (i : List ℕ) → left ≡ Some i → Stays (run 1 i s) (Trap' kind pc) new left
+trap_stays s kind pc new left h i e =
+    let k = trap_is s (step s) kind pc new h in
+    stays_as _ _ (Trap' kind pc) new left (trap_run s kind pc new h i) (record { stands = (ap (Trap' kind) k.1, k.2); left_is = e })
+
+-- a content that is told
+pub told : (o : Option (List ℕ)) (P : List ℕ → Type 0) → IfSome o P → Told o P
+told None P h bytes e = cc
+told (Some b) P h bytes e = let same : b ≡ bytes = cc in subst P same h
+
+-- nothing was put
+pub took_none : {K : Type 0} (gives : K → List ℕ → Bool → K → Type 0) (taken : K → Option (List ℕ)) (k : K) (out : List ℕ) → out ≡ [] → TookAll gives taken k k out
+took_none gives taken k out e =
+    subst (λ bytes. TookAll gives taken k k bytes) (sym e) (record { content = λ before is. is ∙ ap Some (end_append before); puts = none })
+
+-- one put
+pub took_one : {K : Type 0} (gives : K → List ℕ → Bool → K → Type 0) (taken : K → Option (List ℕ)) (old new : K) (bytes out : List ℕ) → out ≡ bytes → Told (taken old) (λ before. taken new ≡ Some (before ++ bytes)) → gives old bytes true new → TookAll gives taken old new out
+took_one gives taken old new bytes out e c g =
+    subst (λ b. TookAll gives taken old new b) (sym e) (record { content = c; puts = more none g })
+
+-- a put that failed
+pub part_one : {K : Type 0} (taken : K → Option (List ℕ)) (old new : K) (bytes out : List ℕ) → out ≡ bytes → IfSome (taken old) (λ before. (k : ℕ) × (taken new ≡ Some (before ++ take k bytes))) → TookPart taken old new out
+part_one taken old new bytes out e h before is =
+    let k = told (taken old) (λ b. (k : ℕ) × (taken new ≡ Some (b ++ take k bytes))) h before is in
+    (take k.0 bytes, (drop k.0 bytes, take_drop k.0 bytes ∙ sym e, k.1))
+  where
+    take_drop : (k : ℕ) (xs : List ℕ) → take k xs ++ drop k xs ≡ xs
+    take_drop k xs = grind (arith, common_steps)
+
+pub refused_one : {K : Type 0} (fault : Fault) (gives : K → List ℕ → Bool → K → Type 0) (old new : K) (bytes out : List ℕ) → fault ≡ Write → out ≡ bytes → gives old bytes false new → Broke fault gives old new out
+refused_one fault gives old new bytes out f e g =
+    let r : Refused gives old new out = record { bytes = []; piece = bytes; rest = []; last = old; due_is = sym (end_append bytes) ∙ sym e; puts = none; refused = g } in
+    subst (λ x. Broke x gives old new out) (sym f) r
+
+-- a read that failed: nothing was put
+pub part_none : {K : Type 0} (taken : K → Option (List ℕ)) (k : K) (out : List ℕ) → TookPart taken k k out
+part_none taken k out before is = ([], (out, refl, is ∙ ap Some (end_append before)))
+
+pub paused_none : {K : Type 0} (fault : Fault) (gives : K → List ℕ → Bool → K → Type 0) (k : K) (out : List ℕ) → fault ≡ Read → Broke fault gives k k out
+paused_none fault gives k out f =
+    let p : Paused gives k k out = record { bytes = []; rest = out; due_is = refl; puts = none } in
+    subst (λ x. Broke x gives k k out) (sym f) p

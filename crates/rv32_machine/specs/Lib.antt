@@ -1,0 +1,4 @@
+pub mod Arithmetic
+pub mod Memory
+pub mod Steps
+pub mod Runs

@@ -1,0 +1,23 @@
+//! Laws of runs, which hold of every state and input.
+
+ghost use Rattle.rv32_machine.specs.Runs.{RunsCompose, EndStays, OutputGrows, InputIsUsedInOrder};
+
+/// So many steps and then so many more are all of them together.
+pub fn runs_compose()
+    ensures { RunsCompose }
+{}
+
+/// A run that has ended stays as it is.
+pub fn end_stays()
+    ensures { EndStays }
+{}
+
+/// With more steps a run only writes more.
+pub fn output_grows()
+    ensures { OutputGrows }
+{}
+
+/// A run uses the bytes of its input in their order, and with more steps only more of them.
+pub fn input_is_used_in_order()
+    ensures { InputIsUsedInOrder }
+{}

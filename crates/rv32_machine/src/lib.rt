@@ -1,0 +1,13 @@
+//! A machine that runs programs of RV32IM.
+#![tactic(auto)]
+
+mod arithmetic;
+mod laws;
+mod machine;
+mod memory;
+mod run;
+#[cfg(test)]
+mod tests;
+
+pub use laws::{end_stays, input_is_used_in_order, output_grows, runs_compose};
+pub use machine::{Machine, StepResult, Stop, TrapKind};

@@ -1,0 +1,403 @@
+//! The machine, and what each instruction does to it.
+
+ghost use Rattle.std.specs.Prelude.{◌≡◌, ◌+◌, ◌*◌, ◌<◌, ◌^◌, false, true, Option, Some, IsSome, if◌then◌else◌, ◌⊎◌, IfOk};
+ghost use Rattle.rv32_machine.specs.Arithmetic.{plus, pattern, load_size, load_value, store_size};
+ghost use Rattle.rv32_machine.specs.Memory.{range_bytes, IsInside, bytes_of, number_of};
+ghost use Rattle.rv32_machine.specs.Steps.{start_of, stored, given, Next, Trapped, Ended, Does, IsAt, IsRunning, state_of, reg, with_reg, go_to, put, jump, load, store, write_call, read_call, call, act, step, next_pc};
+ghost use Rattle.rv32_machine.specs.declared.machine.TrapKind.{TrapKind};
+ghost use Rattle.rv32_machine.specs.declared.memory.Access.{Access};
+
+use crate::arithmetic::{
+    imm_value, is_taken, load_size, load_value, op_value, plus, shift_value, store_size,
+};
+use crate::memory::{Access, Region, Right, locate, read, write};
+use elf32::Loaded;
+use rv32_isa::{Imm12, Instr, LoadKind, Reg, StoreKind, decode};
+use std::alloc::{AllocError, Global};
+use std::marker::Model;
+
+/// Why an instruction can't be done.
+#[derive(Clone, Copy, PartialEq, Eq, Debug, Drop)]
+pub enum TrapKind {
+    /// The word is no instruction of RV32IM.
+    IllegalInstruction(u32),
+    /// A jump, a taken branch or the entry goes to an address that is no multiple of four.
+    MisalignedJump,
+    /// A load or a store goes to this address, which is no multiple of its size.
+    MisalignedAccess(u32),
+    /// This address is not in the segment of the access, or no segment has its right.
+    AccessOutside(u32),
+    /// ECALL with a number in x17 that stands for no call.
+    UnknownCall(u32),
+    /// EBREAK.
+    Breakpoint,
+}
+
+/// What a step did.
+#[derive(Clone, Copy, PartialEq, Eq, Debug, Drop)]
+pub enum StepResult {
+    /// The instruction is done.
+    Next,
+    /// A read call asks for a byte of the input, which goes to this address.
+    Read(u32),
+    /// A write call is done: its address and its length in bytes.
+    Write(u32, u32),
+    /// The program ended, with this code.
+    Exit(u32),
+    /// The reason, and the address of the instruction, which is not done.
+    Trap(TrapKind, u32),
+}
+
+/// Where a run stopped.
+#[derive(Clone, Copy, PartialEq, Eq, Debug, Drop)]
+pub enum Stop {
+    /// The program ended, with this code.
+    Exit(u32),
+    /// All steps are done, and the program goes on.
+    Steps,
+    /// The reason, and the address of the instruction, which is not done.
+    Trap(TrapKind, u32),
+}
+
+/// The answer of a call to a file that is not there, -9.
+const NO_FILE: u32 = 4294967287;
+
+/// A machine with a program: 32 registers, the address of the next instruction, and the program's memory.
+#[derive(Drop)]
+pub struct Machine {
+    regs: [u32; 32],
+    pc: u32,
+    regions: Vec<Region>,
+    over: bool,
+    waiting: bool,
+}
+
+impl Model for Machine {
+    ghost use Rattle.rv32_machine.specs.Steps.{Stand};
+
+    ghost Value = { Stand };
+
+    ghost view = { λ m. record { regs = m.regs; pc = m.pc; memory = m.regions.items; over = m.over; waiting = m.waiting } };
+}
+
+impl Machine {
+    /// The machine at the start of a program: all registers are zero, and each segment's bytes are followed by zeros.
+    pub fn load(alloc: Global, image: &Loaded) -> Result<Machine, AllocError>
+        ensures { IfOk result (λ m. IsAt m (start_of image.now) false false) }
+    {
+        let mut regions = Vec::new(alloc);
+        for segment in image.segments.as_slice() {
+            regions.push(Region::new(alloc, segment)?)?;
+        }
+        Ok(Machine {
+            regs: [0; 32],
+            pc: image.entry,
+            regions,
+            over: false,
+            waiting: false,
+        })
+    }
+
+    /// Whether the program has ended, by its exit, a trap or a fault of the input or the output.
+    pub fn over(&self) -> bool
+        ensures { result ≡ self.now.over }
+    {
+        self.over
+    }
+
+    /// Whether a read call waits for `give`.
+    pub fn waiting(&self) -> bool
+        ensures { result ≡ self.now.waiting }
+    {
+        self.waiting
+    }
+
+    /// The `len` bytes from the address `addr` on, a range that is in one segment, as that of a write call is.
+    pub fn bytes(&self, addr: u32, len: u32) -> &[u8]
+        requires { IsSome (range_bytes self.now.memory addr len) }
+        ensures { range_bytes self.now.memory addr len ≡ Some result.now }
+    {
+        if len == 0 {
+            return &[];
+        }
+        match locate(&self.regions, Right::Read, addr, len) {
+            Access::At(region, offset) => self.regions[region].slice(offset, len as usize),
+            Access::Outside(_) => unreachable!(),
+        }
+    }
+
+    /// Does one instruction. Exit and Trap end the program, and a trap leaves registers, memory and the address of the
+    /// instruction. After Read the instruction waits for `give`.
+    #[tactic(auto, unfolding(crate::specs::Steps::step))]
+    pub fn step(&mut self) -> StepResult
+        requires { IsRunning self.old }
+        ensures { Does (state_of self.old) (step (state_of self.old)) result self.new }
+    {
+        if self.pc % 4 != 0 {
+            return self.trap(TrapKind::MisalignedJump);
+        }
+        match locate(&self.regions, Right::Execute, self.pc, 4) {
+            Access::Outside(outside) => self.trap(TrapKind::AccessOutside(outside)),
+            Access::At(region, offset) => {
+                let word = read(&self.regions, region, offset, 4);
+                match decode(word) {
+                    None => self.trap(TrapKind::IllegalInstruction(word)),
+                    Some(instr) => self.act(instr),
+                }
+            }
+        }
+    }
+
+    /// Answers a read call: with a byte of the input, or with `None` at the input's end. The call is then done.
+    pub fn give(&mut self, byte: Option<u8>)
+        requires { self.old.waiting ≡ true }
+        ensures { IsAt self.new (given (state_of self.old) byte) self.old.over false }
+    {
+        self.waiting = false;
+        match byte {
+            None => self.answer(0),
+            Some(byte) => self.answer_byte(byte),
+        }
+    }
+
+    /// Ends the program where it stands, also at a read call that gets no answer.
+    pub(crate) fn stop(&mut self)
+        ensures { IsAt self.new (state_of self.old) true false }
+    {
+        self.over = true;
+        self.waiting = false;
+    }
+
+    /// The answer of a call in x10.
+    fn answer(&mut self, value: u32)
+        ensures { IsAt self.new (with_reg (state_of self.old) 10 value (next_pc (state_of self.old))) self.old.over self.old.waiting }
+    {
+        let pc = self.next_pc();
+        self.set_reg(Reg(10), value, pc);
+    }
+
+    fn answer_byte(&mut self, byte: u8)
+        ensures { IsAt self.new (given (state_of self.old) (Some byte)) self.old.over self.old.waiting }
+    {
+        let address = self.reg(Reg(11));
+        if let Access::At(region, offset) = locate(&self.regions, Right::Write, address, 1) {
+            write(&mut self.regions, region, offset, 1, byte as u32);
+        }
+        self.answer(1)
+    }
+
+    fn reg(&self, number: Reg) -> u32
+        ensures { result ≡ reg (state_of self.now) number }
+    {
+        if number.0 == 0 {
+            0
+        } else {
+            self.regs[number.0 as usize]
+        }
+    }
+
+    /// A value into a register, and where to go on.
+    fn set_reg(&mut self, number: Reg, value: u32, pc: u32)
+        ensures { IsAt self.new (with_reg (state_of self.old) number value pc) self.old.over self.old.waiting }
+    {
+        self.regs[number.0 as usize] = value;
+        self.pc = pc;
+    }
+
+    fn next_pc(&self) -> u32
+        ensures { result ≡ next_pc (state_of self.now) }
+    {
+        plus(self.pc, 4)
+    }
+
+    /// The sum of a register and an immediate.
+    fn at(&self, base: Reg, offset: Imm12) -> u32
+        ensures { result ≡ plus (reg (state_of self.now) base) (pattern offset) }
+    {
+        plus(self.reg(base), offset.0.cast_unsigned())
+    }
+
+    fn trap(&mut self, kind: TrapKind) -> StepResult
+        requires { IsRunning self.old }
+        ensures { Does (state_of self.old) (Trapped kind) result self.new }
+    {
+        self.stop();
+        StepResult::Trap(kind, self.pc)
+    }
+
+    fn exit(&mut self, code: u32) -> StepResult
+        requires { IsRunning self.old }
+        ensures { Does (state_of self.old) (Ended code) result self.new }
+    {
+        self.stop();
+        StepResult::Exit(code)
+    }
+
+    fn put(&mut self, number: Reg, value: u32) -> StepResult
+        requires { IsRunning self.old }
+        ensures { Does (state_of self.old) (put (state_of self.old) number value) result self.new }
+    {
+        let pc = self.next_pc();
+        self.set_reg(number, value, pc);
+        StepResult::Next
+    }
+
+    fn go_to(&mut self, pc: u32) -> StepResult
+        requires { IsRunning self.old }
+        ensures { Does (state_of self.old) (Next (go_to (state_of self.old) pc)) result self.new }
+    {
+        self.pc = pc;
+        StepResult::Next
+    }
+
+    /// A jump that leaves the address of the next instruction in a register.
+    fn link(&mut self, number: Reg, target: u32) -> StepResult
+        requires { IsRunning self.old }
+        ensures { let s = state_of self.old in Does s (jump target (Next (with_reg s number (next_pc s) target))) result self.new }
+    {
+        if target % 4 != 0 {
+            return self.trap(TrapKind::MisalignedJump);
+        }
+        let next = self.next_pc();
+        self.set_reg(number, next, target);
+        StepResult::Next
+    }
+
+    fn branch(&mut self, taken: bool, target: u32) -> StepResult
+        requires { IsRunning self.old }
+        ensures { let s = state_of self.old in Does s (if taken then jump target (Next (go_to s target)) else Next (go_to s (next_pc s))) result self.new }
+    {
+        if taken {
+            if target % 4 != 0 {
+                return self.trap(TrapKind::MisalignedJump);
+            }
+            self.go_to(target)
+        } else {
+            let next = self.next_pc();
+            self.go_to(next)
+        }
+    }
+
+    fn load_into(&mut self, number: Reg, kind: LoadKind, address: u32) -> StepResult
+        requires { IsRunning self.old }
+        ensures { let s = state_of self.old in Does s (load s number (load_value kind) (load_size kind) address) result self.new }
+    {
+        let len = load_size(kind);
+        if address % len != 0 {
+            return self.trap(TrapKind::MisalignedAccess(address));
+        }
+        match locate(&self.regions, Right::Read, address, len) {
+            Access::Outside(outside) => self.trap(TrapKind::AccessOutside(outside)),
+            Access::At(region, offset) => {
+                let value = read(&self.regions, region, offset, len);
+                self.put(number, load_value(kind, value))
+            }
+        }
+    }
+
+    fn store_at(&mut self, len: u32, region: usize, offset: usize, value: u32) -> StepResult
+        requires running { IsRunning self.old }
+        requires len { (len ≡ 1) ⊎ (len ≡ 2) ⊎ (len ≡ 4) }
+        requires inside { IsInside self.old.memory len (Access.At region offset) }
+        ensures { let s = state_of self.old in Does s (stored s (bytes_of len value) (Access.At region offset)) result self.new }
+    {
+        write(&mut self.regions, region, offset, len, value);
+        self.pc = plus(self.pc, 4);
+        StepResult::Next
+    }
+
+    fn store(&mut self, kind: StoreKind, address: u32, value: u32) -> StepResult
+        requires { IsRunning self.old }
+        ensures { let s = state_of self.old in Does s (store s value (store_size kind) address) result self.new }
+    {
+        let len = store_size(kind);
+        if address % len != 0 {
+            return self.trap(TrapKind::MisalignedAccess(address));
+        }
+        match locate(&self.regions, Right::Write, address, len) {
+            Access::Outside(outside) => self.trap(TrapKind::AccessOutside(outside)),
+            Access::At(region, offset) => self.store_at(len, region, offset, value),
+        }
+    }
+
+    fn write_call(&mut self, file: u32, address: u32, len: u32) -> StepResult
+        requires { IsRunning self.old }
+        ensures { let s = state_of self.old in Does s (write_call s file address len) result self.new }
+    {
+        if file != 1 {
+            return self.put(Reg(10), NO_FILE);
+        }
+        if len > 0 {
+            if let Access::Outside(outside) = locate(&self.regions, Right::Read, address, len) {
+                return self.trap(TrapKind::AccessOutside(outside));
+            }
+        }
+        self.answer(len);
+        StepResult::Write(address, len)
+    }
+
+    fn read_call(&mut self, file: u32, address: u32, len: u32) -> StepResult
+        requires { IsRunning self.old }
+        ensures { let s = state_of self.old in Does s (read_call s file address len) result self.new }
+    {
+        if file != 0 {
+            return self.put(Reg(10), NO_FILE);
+        }
+        if len == 0 {
+            return self.put(Reg(10), 0);
+        }
+        match locate(&self.regions, Right::Write, address, len) {
+            Access::Outside(outside) => self.trap(TrapKind::AccessOutside(outside)),
+            Access::At(_, _) => {
+                self.waiting = true;
+                StepResult::Read(address)
+            }
+        }
+    }
+
+    fn call(&mut self) -> StepResult
+        requires { IsRunning self.old }
+        ensures { let s = state_of self.old in Does s (call s) result self.new }
+    {
+        match self.reg(Reg(17)) {
+            93 => self.exit(self.reg(Reg(10))),
+            64 => self.write_call(self.reg(Reg(10)), self.reg(Reg(11)), self.reg(Reg(12))),
+            63 => self.read_call(self.reg(Reg(10)), self.reg(Reg(11)), self.reg(Reg(12))),
+            number => self.trap(TrapKind::UnknownCall(number)),
+        }
+    }
+
+    fn act(&mut self, instr: Instr) -> StepResult
+        requires { IsRunning self.old }
+        ensures { let s = state_of self.old in Does s (act s instr) result self.new }
+    {
+        match instr {
+            Instr::Lui(rd, imm) => self.put(rd, imm.0 * 4096),
+            Instr::Auipc(rd, imm) => self.put(rd, plus(self.pc, imm.0 * 4096)),
+            Instr::Jal(rd, off) => self.link(rd, plus(self.pc, off.0.cast_unsigned())),
+            Instr::Jalr(rd, rs1, imm) => self.link(rd, self.at(rs1, imm) / 2 * 2),
+            Instr::Branch(kind, rs1, rs2, off) => {
+                let taken = is_taken(kind, self.reg(rs1), self.reg(rs2));
+                self.branch(taken, plus(self.pc, off.0.cast_unsigned()))
+            }
+            Instr::Load(kind, rd, rs1, imm) => self.load_into(rd, kind, self.at(rs1, imm)),
+            Instr::Store(kind, rs2, rs1, imm) => self.store(kind, self.at(rs1, imm), self.reg(rs2)),
+            Instr::OpImm(kind, rd, rs1, imm) => {
+                self.put(rd, imm_value(kind, self.reg(rs1), imm.0.cast_unsigned()))
+            }
+            Instr::Shift(kind, rd, rs1, amount) => {
+                self.put(rd, shift_value(kind, self.reg(rs1), amount.0 as u32))
+            }
+            Instr::Op(kind, rd, rs1, rs2) => self.put(
+                rd,
+                op_value(kind, self.reg(rs1), self.reg(rs2)),
+            ),
+            Instr::Fence(_, _, _) => {
+                let next = self.next_pc();
+                self.go_to(next)
+            }
+            Instr::Ecall => self.call(),
+            Instr::Ebreak => self.trap(TrapKind::Breakpoint),
+        }
+    }
+}

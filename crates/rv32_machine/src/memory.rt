@@ -1,0 +1,192 @@
+//! Memory: segments of bytes with rights.
+
+ghost use Rattle.std.specs.Prelude.{◌≡◌, ◌^◌, ◌++◌, ◌-◌, replicate, IfOk, ◌+◌, ◌<◌, ◌≤◌, length, take, drop, slice_index, ◌⊎◌};
+ghost use Rattle.rv32_machine.specs.declared.memory.Access.{Access};
+ghost use Rattle.rv32_machine.specs.Memory.{allows, is_in, within, access, number_of, bytes_of, with_bytes, put_over, IsInside, stretch_of, bytes_at, stored_at};
+
+use elf32::Segment;
+use std::alloc::{AllocError, Global};
+use std::marker::Model;
+
+/// What an access is for.
+#[derive(Clone, Copy, PartialEq, Eq, Debug, Drop)]
+pub enum Right {
+    Read,
+    Write,
+    Execute,
+}
+
+/// A segment of the machine's memory.
+#[derive(Drop)]
+pub struct Region {
+    first: u32,
+    write: bool,
+    exec: bool,
+    bytes: Vec<u8>,
+}
+
+impl Model for Region {
+    ghost use Rattle.std.specs.Prelude.{◌+◌, ◌^◌, ◌≤◌, length};
+    ghost use Rattle.rv32_machine.specs.Memory.{Stretch};
+
+    ghost Value = { Stretch };
+
+    ghost view = { λ r. record { first = r.first; write = r.write; exec = r.exec; bytes = r.bytes.items } };
+
+    ghost invariant = { λ r. r.first + length r.bytes.items ≤ 2 ^ 32 };
+}
+
+impl Region {
+    fn allows(&self, right: Right) -> bool
+        ensures { result ≡ allows right self.now }
+    {
+        match right {
+            Right::Read => true,
+            Right::Write => self.write,
+            Right::Execute => self.exec,
+        }
+    }
+
+    fn is_in(&self, address: u32) -> bool
+        ensures { result ≡ is_in address self.now }
+    {
+        address >= self.first && ((address - self.first) as usize) < self.bytes.len()
+    }
+
+    fn within(&self, address: u32, len: u32, number: usize) -> Access
+        requires { (self.now.first ≤ address) × (0 < len) }
+        ensures { result ≡ within address len number self.now }
+    {
+        let offset = address - self.first;
+        let end = self.bytes.len();
+        if offset as usize + len as usize <= end {
+            Access::At(number, offset as usize)
+        } else {
+            Access::Outside(((self.first as usize + end) % 4294967296) as u32)
+        }
+    }
+
+    /// The segment at the start of a program.
+    pub fn new(alloc: Global, segment: &Segment) -> Result<Region, AllocError>
+        ensures { IfOk result (λ r. r ≡ stretch_of segment.now) }
+    {
+        let mut bytes = Vec::with_capacity(alloc, segment.size as usize)?;
+        bytes.extend_from_slice(segment.bytes.as_slice())?;
+        bytes.resize(segment.size as usize, 0)?;
+        Ok(Region {
+            first: segment.addr,
+            write: segment.write,
+            exec: segment.exec,
+            bytes,
+        })
+    }
+
+    pub fn slice(&self, offset: usize, len: usize) -> &[u8]
+        requires { offset + len ≤ length self.now.bytes }
+        ensures { result.now ≡ take len (drop offset self.now.bytes) }
+    {
+        &self.bytes[offset..offset + len]
+    }
+
+    fn byte(&self, offset: usize) -> u8
+        requires { offset < length self.now.bytes }
+        ensures { result ≡ slice_index self.now.bytes offset }
+    {
+        self.bytes[offset]
+    }
+
+    fn half(&self, offset: usize) -> u32
+        requires { offset + 2 ≤ length self.now.bytes }
+        ensures value { result ≡ number_of (take 2 (drop offset self.now.bytes)) }
+        ensures small { result < 65536 }
+    {
+        let bytes = &self.bytes[offset..offset + 2];
+        bytes[0] as u32 + 256 * bytes[1] as u32
+    }
+
+    fn word(&self, offset: usize) -> u32
+        requires { offset + 4 ≤ length self.now.bytes }
+        ensures { result ≡ number_of (take 4 (drop offset self.now.bytes)) }
+    {
+        let bytes = &self.bytes[offset..offset + 4];
+        bytes[0] as u32 + 256 * (bytes[1] as u32 + 256 * (bytes[2] as u32 + 256 * bytes[3] as u32))
+    }
+
+    fn put_byte(&mut self, offset: usize, value: u32)
+        requires { offset < length self.old.bytes }
+        ensures { self.new ≡ with_bytes self.old (put_over self.old.bytes offset (bytes_of 1 value)) }
+    {
+        self.bytes[offset] = (value % 256) as u8;
+    }
+
+    fn put_half(&mut self, offset: usize, value: u32)
+        requires { offset + 2 ≤ length self.old.bytes }
+        ensures { self.new ≡ with_bytes self.old (put_over self.old.bytes offset (bytes_of 2 value)) }
+    {
+        self.bytes[offset] = (value % 256) as u8;
+        self.bytes[offset + 1] = (value / 256 % 256) as u8;
+    }
+
+    fn put_word(&mut self, offset: usize, value: u32)
+        requires { offset + 4 ≤ length self.old.bytes }
+        ensures { self.new ≡ with_bytes self.old (put_over self.old.bytes offset (bytes_of 4 value)) }
+    {
+        self.bytes[offset] = (value % 256) as u8;
+        self.bytes[offset + 1] = (value / 256 % 256) as u8;
+        self.bytes[offset + 2] = (value / 65536 % 256) as u8;
+        self.bytes[offset + 3] = (value / 16777216) as u8;
+    }
+}
+
+/// Where an access goes.
+#[derive(Clone, Copy, Drop)]
+pub enum Access {
+    /// The number of the segment, and the offset there.
+    At(usize, usize),
+    /// The first address outside.
+    Outside(u32),
+}
+
+/// Where an access goes, in a list of segments.
+#[tactic(auto, unfolding(crate::specs::Memory::access))]
+pub fn locate(regions: &[Region], right: Right, address: u32, len: u32) -> Access
+    requires { 0 < len }
+    ensures found { result ≡ access right regions.now address len }
+    ensures inside { IsInside regions.now len result }
+{
+    for (number, region) in regions.iter().enumerate() {
+        if region.allows(right) && region.is_in(address) {
+            return region.within(address, len, number);
+        }
+    }
+    Access::Outside(address)
+}
+
+/// The number that stands at a place.
+pub fn read(regions: &[Region], number: usize, offset: usize, len: u32) -> u32
+    requires len { (len ≡ 1) ⊎ (len ≡ 2) ⊎ (len ≡ 4) }
+    requires inside { IsInside regions.now len (Access.At number offset) }
+    ensures value { result ≡ number_of (bytes_at regions.now number offset len) }
+    ensures small { result < 256 ^ len }
+{
+    let region = &regions[number];
+    match len {
+        1 => region.byte(offset) as u32,
+        2 => region.half(offset),
+        _ => region.word(offset),
+    }
+}
+
+/// Puts a number at a place.
+pub fn write(regions: &mut [Region], number: usize, offset: usize, len: u32, value: u32)
+    requires len { (len ≡ 1) ⊎ (len ≡ 2) ⊎ (len ≡ 4) }
+    requires inside { IsInside regions.old len (Access.At number offset) }
+    ensures { regions.new ≡ stored_at regions.old number offset (bytes_of len value) }
+{
+    let region = &mut regions[number];
+    match len {
+        1 => region.put_byte(offset, value),
+        2 => region.put_half(offset, value),
+        _ => region.put_word(offset, value),
+    }
+}

@@ -1,0 +1,123 @@
+//! Runs of a program, from a source of bytes to a sink.
+
+ghost use Rattle.std.specs.Prelude.{◌≡◌, ℕ, List, false, true, drop, slice_get, is_ok, IsSome, IfOk, IfErr, OnOk, OnErr};
+ghost use Rattle.grin_io.specs.Causes.{HasCause};
+ghost use Rattle.grin_io.specs.Content.{Takes};
+ghost use Rattle.grin_io.specs.declared.outside.Fault.{Fault};
+ghost use Rattle.rv32_machine.specs.Memory.{range_bytes};
+ghost use Rattle.rv32_machine.specs.Steps.{IsRunning, IsAt, given, state_of};
+ghost use Rattle.rv32_machine.specs.Runs.{run, Told, Stays, TookAll, TookPart, Broke, Faults, is_end};
+
+use crate::machine::{Machine, StepResult, Stop};
+use grin_io::{Failed, Fault, Sink, Source};
+
+impl Machine {
+    /// Does at most `steps` instructions. Each byte that the program reads is one read of the source, and the bytes of
+    /// each of its write calls are one put. After `Steps` the program has not ended, and a later call goes on; after every
+    /// other answer it is over, and a fault of the source or the sink is the last thing that was asked of them.
+    pub fn run<I: Source, K: Sink>(
+        &mut self,
+        steps: u64,
+        input: &mut I,
+        out: &mut K,
+    ) -> Result<Stop, Fault>
+        requires { IsRunning self.old }
+        ensures stands { IfOk result (λ stop. Told (I.left input.old) (λ i. Stays (run steps i (state_of self.old)) stop self.new (I.left input.new))) }
+        ensures output { IfOk result (λ stop. Told (I.left input.old) (λ i. TookAll K.put_gives K.taken out.old out.new (run steps i (state_of self.old)).out)) }
+        ensures part { OnErr result (Told (I.left input.old) (λ i. TookPart K.taken out.old out.new (run steps i (state_of self.old)).out)) }
+        ensures fault { IfErr result (λ fault. Told (I.left input.old) (λ i. Broke fault K.put_gives out.old out.new (run steps i (state_of self.old)).out)) }
+        ensures cause { Faults result (I.faults input.old) (I.faults input.new) (K.faults out.old) (K.faults out.new) }
+        ensures ended { IfOk result (λ stop. self.new.over ≡ is_end stop) }
+        ensures broken { OnErr result (self.new.over ≡ true) }
+        ensures answered { self.new.waiting ≡ false }
+    {
+        for _step in 0..steps {
+            match self.turn(input, out)? {
+                Stop::Steps => {}
+                stop => return Ok(stop),
+            }
+        }
+        Ok(Stop::Steps)
+    }
+
+    /// One instruction, with the byte that it reads or the bytes that it writes: a run of one step.
+    fn turn<I: Source, K: Sink>(&mut self, input: &mut I, out: &mut K) -> Result<Stop, Fault>
+        requires { IsRunning self.old }
+        ensures stands { IfOk result (λ stop. Told (I.left input.old) (λ i. Stays (run 1 i (state_of self.old)) stop self.new (I.left input.new))) }
+        ensures output { IfOk result (λ stop. Told (I.left input.old) (λ i. TookAll K.put_gives K.taken out.old out.new (run 1 i (state_of self.old)).out)) }
+        ensures part { OnErr result (Told (I.left input.old) (λ i. TookPart K.taken out.old out.new (run 1 i (state_of self.old)).out)) }
+        ensures fault { IfErr result (λ fault. Told (I.left input.old) (λ i. Broke fault K.put_gives out.old out.new (run 1 i (state_of self.old)).out)) }
+        ensures cause { Faults result (I.faults input.old) (I.faults input.new) (K.faults out.old) (K.faults out.new) }
+        ensures ended { IfOk result (λ stop. self.new.over ≡ is_end stop) }
+        ensures broken { OnErr result (self.new.over ≡ true) }
+        ensures answered { self.new.waiting ≡ false }
+    {
+        match self.step() {
+            StepResult::Next => Ok(Stop::Steps),
+            StepResult::Read(_) => match self.take_byte(input) {
+                Ok(()) => Ok(Stop::Steps),
+                Err(fault) => Err(fault),
+            },
+            StepResult::Write(addr, len) => match self.put_bytes(addr, len, out) {
+                Ok(()) => Ok(Stop::Steps),
+                Err(fault) => Err(fault),
+            },
+            StepResult::Exit(code) => Ok(Stop::Exit(code)),
+            StepResult::Trap(kind, pc) => Ok(Stop::Trap(kind, pc)),
+        }
+    }
+
+    /// A read call's answer: a byte of the source, or its end.
+    fn take_byte<I: Source>(&mut self, input: &mut I) -> Result<(), Fault>
+        requires over { self.old.over ≡ false }
+        requires waiting { self.old.waiting ≡ true }
+        ensures given { IfOk result (λ _. Told (I.left input.old) (λ i. IsAt self.new (given (state_of self.old) (slice_get i 0)) false false × (I.left input.new ≡ Some (drop 1 i)))) }
+        ensures cause { HasCause (I.faults input.old) (I.faults input.new) result }
+        ensures fault { IfErr result (λ fault. fault ≡ Fault.Read) }
+        ensures running { OnOk result (IsRunning self.new) }
+        ensures broken { OnErr result (self.new.over ≡ true) }
+        ensures answered { self.new.waiting ≡ false }
+    {
+        match next_byte(input) {
+            Ok(byte) => {
+                self.give(byte);
+                Ok(())
+            }
+            Err(Failed) => {
+                self.stop();
+                Err(Fault::Read)
+            }
+        }
+    }
+
+    /// The bytes of a write call, as one put.
+    fn put_bytes<K: Sink>(&mut self, addr: u32, len: u32, out: &mut K) -> Result<(), Fault>
+        requires running { IsRunning self.old }
+        requires range { IsSome (range_bytes self.old.memory addr len) }
+        ensures done { OnOk result (self.new ≡ self.old) }
+        ensures content { (bytes : List ℕ) → range_bytes self.old.memory addr len ≡ Some bytes → Takes (K.taken out.old) (K.taken out.new) bytes result }
+        ensures exactly { (bytes : List ℕ) → range_bytes self.old.memory addr len ≡ Some bytes → K.put_gives out.old bytes (is_ok result) out.new }
+        ensures cause { HasCause (K.faults out.old) (K.faults out.new) result }
+        ensures fault { IfErr result (λ fault. fault ≡ Fault.Write) }
+        ensures broken { OnErr result (self.new.over ≡ true) }
+        ensures answered { self.new.waiting ≡ false }
+    {
+        match out.put(self.bytes(addr, len)) {
+            Ok(()) => Ok(()),
+            Err(Failed) => {
+                self.stop();
+                Err(Fault::Write)
+            }
+        }
+    }
+}
+
+/// One byte of a source, or `None` at its end.
+fn next_byte<I: Source>(input: &mut I) -> Result<Option<u8>, Failed>
+    ensures next { IfOk result (λ byte. Told (I.left input.old) (λ i. (byte ≡ slice_get i 0) × (I.left input.new ≡ Some (drop 1 i)))) }
+    ensures cause { HasCause (I.faults input.old) (I.faults input.new) result }
+{
+    let mut buf = [0];
+    let count = input.read(&mut buf)?;
+    Ok(if count == 0 { None } else { Some(buf[0]) })
+}

@@ -1,0 +1,133 @@
+-- Straight-line code over registers, a heap and a stack: one lemma for code of any length.
+use Rattle.std.proofs.Common.{◌≡◌, ℕ, ◌+◌, ◌*◌, ◌^◌, ◌<◌, ◌≤◌, List, [], ◌∷◌, length, get_or, set, Bool, true, false, ℤ, inl, inr, refl, sym, ap, ◌∙◌, subst, arith}
+use Rattle.std.proofs.Math.ListN.{length-set}
+use Rattle.std.specs.Prelude.{nat_lt, if◌then◌else◌}
+use Rattle.std.proofs.lemmas.Bool.Decides.{nat_tests}
+use Rattle.rv32_isa.specs.declared.instr.Instr.{Instr}
+use Rattle.rv32_isa.specs.declared.instr.Instr.TheVariants.{Lui, Auipc, Jal, Jalr, Branch, Load, Store, OpImm, Shift, Op, Fence, Ecall, Ebreak}
+use Rattle.rv32_isa.specs.declared.instr.LoadKind.TheVariants.{Lb, Lh, Lw, Lbu, Lhu}
+use Rattle.rv32_isa.specs.declared.instr.StoreKind.TheVariants.{Sb, Sh, Sw}
+use Rattle.rv32_machine.specs.Memory.{Stretch, end_of}
+use Rattle.rv32_machine.specs.Arithmetic.{plus, pattern}
+use Rattle.rv32_machine.specs.Steps.{State, Next, act, put}
+use Rattle.rv32_steps.specs.Leads.{at, Leads}
+use Rattle.rv32_steps.specs.Code.{Holds, Stand}
+use Rattle.rv32_steps.specs.Data.{words_bytes, Bases, Words, word_segment, memory_of, LaidOut, slot, IsSlot, IsWord, word_at, with_word}
+use Rattle.rv32_steps.specs.Straight.{value, Asks, AllAsk, regs_after, words_after, straight_regs, straight_words}
+use Rattle.rv32_steps.specs.Laws.{StraightCodeRuns}
+use Rattle.rv32_steps.proofs.Moves.{stays, goes, one}
+use Rattle.rv32_steps.proofs.Words.{words_length, are_set}
+use Rattle.rv32_steps.proofs.Access.{lw_second, lw_third, sw_second, sw_third}
+
+-- the words of the heap are below the stack, and those of the stack are not
+in_heap : (c : Stretch) (b : Bases) (w : Words) (a : ℕ) → LaidOut c b w → IsSlot b.heap w.heap a → nat_lt a b.stack ≡ true
+in_heap c b w a ok is =
+    let low = ok.heap_below in
+    let place = is.0 in
+    let lt = is.1 in
+    let below : a < b.stack = omega arith in
+    grind (arith, nat_tests)
+
+in_stack : (b : Bases) (w : Words) (a : ℕ) → IsSlot b.stack w.stack a → nat_lt a b.stack ≡ false
+in_stack b w a is = let place = is.0 in let high : b.stack ≤ a = omega arith in grind (arith, nat_tests)
+
+-- a store keeps the segments apart
+heap_set : (c : Stretch) (b : Bases) (w : Words) (k v : ℕ) → LaidOut c b w → v < 2 ^ 32 → LaidOut c b (record { heap = set w.heap k v; stack = w.stack })
+heap_set c b w k v ok lt = record {
+  fixed = ok.fixed;
+  code_below = ok.code_below;
+  heap_below = let low = ok.heap_below in omega (arith, length-set w.heap k v);
+  heap_four = ok.heap_four;
+  stack_four = ok.stack_four;
+  heap_words = are_set w.heap k v ok.heap_words lt;
+  stack_words = ok.stack_words;
+}
+
+stack_set : (c : Stretch) (b : Bases) (w : Words) (k v : ℕ) → LaidOut c b w → v < 2 ^ 32 → LaidOut c b (record { heap = w.heap; stack = set w.stack k v })
+stack_set c b w k v ok lt = record {
+  fixed = ok.fixed;
+  code_below = ok.code_below;
+  heap_below = ok.heap_below;
+  heap_four = ok.heap_four;
+  stack_four = ok.stack_four;
+  heap_words = ok.heap_words;
+  stack_words = are_set w.stack k v ok.stack_words lt;
+}
+
+-- the end of the heap's segment
+heap_end : (c : Stretch) (b : Bases) (w : Words) → LaidOut c b w → b.heap + length (words_bytes w.heap) ≤ b.stack
+heap_end c b w ok = let low = ok.heap_below in omega (arith, words_length w.heap)
+
+code_end : (c : Stretch) (b : Bases) (w : Words) → LaidOut c b w → end_of c ≤ b.stack
+code_end c b w ok = let low = ok.code_below in let high = ok.heap_below in omega arith
+
+module _ (c : Stretch) (b : Bases) (rest : List Stretch) where
+  loads : (regs : ℕ → ℕ) (pc : ℕ) (w : Words) (rd rs1 : ℕ) (imm : ℤ) → LaidOut c b w → IsWord b w (plus (value regs rs1) (pattern imm)) → let s : State = at regs pc (memory_of c b w rest) in act s (Load Lw rd rs1 imm) ≡ put s rd (word_at b w (plus (value regs rs1) (pattern imm)))
+  loads regs pc w rd rs1 imm ok is =
+      let a = plus (value regs rs1) (pattern imm) in
+      let s : State = at regs pc (memory_of c b w rest) in
+      let choice = λ (t : Bool). put s rd (if t then get_or w.heap (slot b.heap a) 0 else get_or w.stack (slot b.stack a) 0) in
+      elim is [
+        | inl h ↦ lw_second c pc regs b.heap w.heap (word_segment b.stack w.stack ∷ rest) rd rs1 (slot b.heap a) imm ok.code_below ok.heap_four ok.heap_words h.1 h.0 ∙ ap choice (sym (in_heap c b w a ok h))
+        | inr h ↦ lw_third c (word_segment b.heap w.heap) pc regs b.stack w.stack rest rd rs1 (slot b.stack a) imm (code_end c b w ok) (heap_end c b w ok) ok.stack_four ok.stack_words h.1 h.0 ∙ ap choice (sym (in_stack b w a h))
+      ]
+
+  stores : (regs : ℕ → ℕ) (pc : ℕ) (w : Words) (rs2 rs1 : ℕ) (imm : ℤ) → LaidOut c b w → IsWord b w (plus (value regs rs1) (pattern imm)) → act (at regs pc (memory_of c b w rest)) (Store Sw rs2 rs1 imm) ≡ Next (at regs (plus pc 4) (memory_of c b (with_word b w (plus (value regs rs1) (pattern imm)) (value regs rs2)) rest))
+  stores regs pc w rs2 rs1 imm ok is =
+      let a = plus (value regs rs1) (pattern imm) in
+      let v = value regs rs2 in
+      let in_the_heap : Words = record { heap = set w.heap (slot b.heap a) v; stack = w.stack } in
+      let in_the_stack : Words = record { heap = w.heap; stack = set w.stack (slot b.stack a) v } in
+      let choice = λ (t : Bool). Next (at regs (plus pc 4) (memory_of c b (if t then in_the_heap else in_the_stack) rest)) in
+      elim is [
+        | inl h ↦ sw_second c pc regs b.heap w.heap (word_segment b.stack w.stack ∷ rest) rs2 rs1 (slot b.heap a) imm ok.fixed ok.heap_four h.1 h.0 ∙ ap choice (sym (in_heap c b w a ok h))
+        | inr h ↦ sw_third c (word_segment b.heap w.heap) pc regs b.stack w.stack rest rs2 rs1 (slot b.stack a) imm ok.fixed (heap_end c b w ok) ok.stack_four h.1 h.0 ∙ ap choice (sym (in_stack b w a h))
+      ]
+
+  still_apart : (w : Words) (a v : ℕ) → LaidOut c b w → v < 2 ^ 32 → LaidOut c b (with_word b w a v)
+  still_apart w a v ok lt = by_place (nat_lt a b.stack)
+    where
+      by_place : (t : Bool) → LaidOut c b (if t then (record { heap = set w.heap (slot b.heap a) v; stack = w.stack }) else (record { heap = w.heap; stack = set w.stack (slot b.stack a) v }))
+      by_place true = heap_set c b w (slot b.heap a) v ok lt
+      by_place false = stack_set c b w (slot b.stack a) v ok lt
+
+  -- an instruction that goes on
+  goes_on : (pc : ℕ) (regs regs' : ℕ → ℕ) (w w' : Words) (i : Instr) → Holds c pc i → act (at regs pc (memory_of c b w rest)) i ≡ Next (at regs' (plus pc 4) (memory_of c b w' rest)) → Leads 1 (at regs pc (memory_of c b w rest)) [] (at regs' (pc + 4) (memory_of c b w' rest))
+  goes_on pc regs regs' w w' i h e =
+      one _ _ (h.steps regs (word_segment b.heap w.heap ∷ word_segment b.stack w.stack ∷ rest) ∙ e ∙ ap (λ q. Next (at regs' q (memory_of c b w' rest))) h.next)
+
+  each : (pc : ℕ) (regs : ℕ → ℕ) (w : Words) (i : Instr) → Holds c pc i → LaidOut c b w → Asks b i regs w → Leads 1 (at regs pc (memory_of c b w rest)) [] (at (regs_after b i regs w) (pc + 4) (memory_of c b (words_after b i regs w) rest)) × LaidOut c b (words_after b i regs w)
+  each pc regs w (Lui rd imm) h ok asks = (goes_on pc regs _ w w _ h refl, ok)
+  each pc regs w (OpImm kind rd rs1 imm) h ok asks = (goes_on pc regs _ w w _ h refl, ok)
+  each pc regs w (Shift kind rd rs1 amount) h ok asks = (goes_on pc regs _ w w _ h refl, ok)
+  each pc regs w (Op kind rd rs1 rs2) h ok asks = (goes_on pc regs _ w w _ h refl, ok)
+  each pc regs w (Load Lw rd rs1 imm) h ok asks = (goes_on pc regs _ w w _ h (loads regs pc w rd rs1 imm ok asks), ok)
+  each pc regs w (Store Sw rs2 rs1 imm) h ok asks = (goes_on pc regs _ w _ _ h (stores regs pc w rs2 rs1 imm ok asks.0), still_apart w _ _ ok asks.1)
+  each pc regs w (Load Lb rd rs1 imm) h ok asks = absurd asks
+  each pc regs w (Load Lh rd rs1 imm) h ok asks = absurd asks
+  each pc regs w (Load Lbu rd rs1 imm) h ok asks = absurd asks
+  each pc regs w (Load Lhu rd rs1 imm) h ok asks = absurd asks
+  each pc regs w (Store Sb rs2 rs1 imm) h ok asks = absurd asks
+  each pc regs w (Store Sh rs2 rs1 imm) h ok asks = absurd asks
+  each pc regs w (Auipc rd imm) h ok asks = absurd asks
+  each pc regs w (Jal rd off) h ok asks = absurd asks
+  each pc regs w (Jalr rd rs1 imm) h ok asks = absurd asks
+  each pc regs w (Branch kind rs1 rs2 off) h ok asks = absurd asks
+  each pc regs w (Fence top rs1 rd) h ok asks = absurd asks
+  each pc regs w Ecall h ok asks = absurd asks
+  each pc regs w Ebreak h ok asks = absurd asks
+
+  -- to a place behind the code that is known by an equation
+  pub straight : (is : List Instr) (pc to : ℕ) (regs : ℕ → ℕ) (w : Words) → to ≡ pc + 4 * length is → LaidOut c b w → AllAsk b is regs w → Stand c pc is → Leads (length is) (at regs pc (memory_of c b w rest)) [] (at (straight_regs b is regs w) to (memory_of c b (straight_words b is regs w) rest)) × LaidOut c b (straight_words b is regs w)
+  straight [] pc to regs w e ok asks stand =
+      let same : pc ≡ to = omega arith in
+      (subst (λ q. Leads 0 (at regs pc (memory_of c b w rest)) [] (at regs q (memory_of c b w rest))) same (stays (at regs pc (memory_of c b w rest))), ok)
+  straight (i ∷ is) pc to regs w e ok asks stand =
+      let first = each pc regs w i stand.0 ok asks.0 in
+      let more = straight is (pc + 4) to (regs_after b i regs w) (words_after b i regs w) (omega arith) first.1 asks.1 stand.1 in
+      let count : 1 + length is ≡ length (i ∷ is) = omega arith in
+      let end = at (straight_regs b (i ∷ is) regs w) to (memory_of c b (straight_words b (i ∷ is) regs w) rest) in
+      (subst (λ k. Leads k (at regs pc (memory_of c b w rest)) [] end) count (goes first.0 more.0), more.1)
+
+pub straight_code_runs : StraightCodeRuns
+straight_code_runs c b rest is pc regs w ok stand asks = (straight c b rest is pc (pc + 4 * length is) regs w refl ok asks stand).0

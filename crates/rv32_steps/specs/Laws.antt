@@ -1,0 +1,97 @@
+-- What the machine does with the code of a compiler.
+use Rattle.std.specs.Prelude.{◌≡◌, ℕ, ℤ, pos, ◌+◌, ◌*◌, ◌%◌, ◌^◌, ◌<◌, List, [], ◌∷◌, ◌++◌, length, true, false}
+use Rattle.rv32_isa.specs.declared.instr.Instr.{Instr}
+use Rattle.rv32_isa.specs.declared.instr.Instr.TheVariants.{Jal, Jalr, Branch, Ecall}
+use Rattle.rv32_isa.specs.declared.instr.BranchKind.{BranchKind}
+use Rattle.rv32_machine.specs.declared.memory.Right.TheVariants.{Read, Write}
+use Rattle.rv32_machine.specs.declared.memory.Access.TheVariants.{At}
+use Rattle.rv32_machine.specs.Memory.{Stretch, end_of, access, bytes_at, bytes_of, stored_at}
+use Rattle.rv32_machine.specs.Arithmetic.{plus, pattern, is_taken}
+use Rattle.rv32_machine.specs.Steps.{State, set_reg}
+use Rattle.rv32_steps.specs.Leads.{at, Leads, LeadsOn, ExitsOn}
+use Rattle.rv32_steps.specs.Code.{code_bytes, AllInRange, Holds, Stand}
+use Rattle.rv32_steps.specs.Data.{Bases, Words, memory_of, LaidOut}
+use Rattle.rv32_steps.specs.Straight.{value, AllAsk, straight_regs, straight_words}
+
+-- stretches of a run join
+abbrev pub StretchesJoin : Type 0
+StretchesJoin =
+    (j k : ℕ) (input middle left : List ℕ) (s t u : State) (v w : List ℕ)
+    → LeadsOn j input s v middle t → LeadsOn k middle t w left u → LeadsOn (j + k) input s (v ++ w) left u
+
+-- what reads no byte is a stretch on every input
+abbrev pub StretchesKeepTheInput : Type 0
+StretchesKeepTheInput = (k : ℕ) (input : List ℕ) (s t : State) (v : List ℕ) → Leads k s v t → LeadsOn k input s v input t
+
+-- a segment of the words of instructions has these instructions, one each four bytes
+abbrev pub CodeStands : Type 0
+CodeStands =
+    (c : Stretch) (is : List Instr)
+    → c.exec ≡ true → c.bytes ≡ code_bytes is → c.first % 4 ≡ 0 → end_of c < 2 ^ 32 → AllInRange is
+    → Stand c c.first is
+
+-- straight-line code is done to its end, one step each instruction
+abbrev pub StraightCodeRuns : Type 0
+StraightCodeRuns =
+    (c : Stretch) (b : Bases) (rest : List Stretch) (is : List Instr) (pc : ℕ) (regs : ℕ → ℕ) (w : Words)
+    → LaidOut c b w → Stand c pc is → AllAsk b is regs w
+    → Leads (length is) (at regs pc (memory_of c b w rest)) [] (at (straight_regs b is regs w) (pc + 4 * length is) (memory_of c b (straight_words b is regs w) rest))
+
+-- jumps, and branches by their test, go where their offset says
+abbrev pub JumpsGo : Type 0
+JumpsGo =
+    (c : Stretch) (pc : ℕ) (regs : ℕ → ℕ) (rest : List Stretch) (rd : ℕ) (off : ℤ) (to : ℕ)
+    → Holds c pc (Jal rd off) → plus pc (pattern off) ≡ to → to % 4 ≡ 0
+    → Leads 1 (at regs pc (c ∷ rest)) [] (at (set_reg regs rd (pc + 4)) to (c ∷ rest))
+
+abbrev pub ReturnsGoBack : Type 0
+ReturnsGoBack =
+    (c : Stretch) (pc : ℕ) (regs : ℕ → ℕ) (rest : List Stretch) (rd rs1 to : ℕ)
+    → Holds c pc (Jalr rd rs1 (pos 0)) → value regs rs1 ≡ to → to % 4 ≡ 0 → to < 2 ^ 32
+    → Leads 1 (at regs pc (c ∷ rest)) [] (at (set_reg regs rd (pc + 4)) to (c ∷ rest))
+
+abbrev pub BranchesGo : Type 0
+BranchesGo =
+    (c : Stretch) (pc : ℕ) (regs : ℕ → ℕ) (rest : List Stretch) (kind : BranchKind) (rs1 rs2 : ℕ) (off : ℤ) (to : ℕ)
+    → Holds c pc (Branch kind rs1 rs2 off) → is_taken kind (value regs rs1) (value regs rs2) ≡ true → plus pc (pattern off) ≡ to → to % 4 ≡ 0
+    → Leads 1 (at regs pc (c ∷ rest)) [] (at regs to (c ∷ rest))
+
+abbrev pub BranchesStay : Type 0
+BranchesStay =
+    (c : Stretch) (pc : ℕ) (regs : ℕ → ℕ) (rest : List Stretch) (kind : BranchKind) (rs1 rs2 : ℕ) (off : ℤ)
+    → Holds c pc (Branch kind rs1 rs2 off) → is_taken kind (value regs rs1) (value regs rs2) ≡ false
+    → Leads 1 (at regs pc (c ∷ rest)) [] (at regs (pc + 4) (c ∷ rest))
+
+-- the file, the address and the length of a call, behind its number
+pub record Called (number file address len : ℕ) (regs : ℕ → ℕ) : Type 0 where
+  pub number_is : regs 17 ≡ number
+  pub file_is : regs 10 ≡ file
+  pub address_is : regs 11 ≡ address
+  pub len_is : regs 12 ≡ len
+
+-- a write call writes the bytes at its range
+abbrev pub WriteCallsWrite : Type 0
+WriteCallsWrite =
+    (c : Stretch) (pc : ℕ) (regs : ℕ → ℕ) (rest : List Stretch) (a len segment offset : ℕ) (input : List ℕ)
+    → Holds c pc Ecall → Called 64 1 a len regs → 0 < len → access Read (c ∷ rest) a len ≡ At segment offset
+    → LeadsOn 1 input (at regs pc (c ∷ rest)) (bytes_at (c ∷ rest) segment offset len) input (at (set_reg regs 10 len) (pc + 4) (c ∷ rest))
+
+-- a read call of one byte takes it, and tells the input's end
+abbrev pub ReadCallsTake : Type 0
+ReadCallsTake =
+    (c : Stretch) (pc : ℕ) (regs : ℕ → ℕ) (rest : List Stretch) (a segment offset byte : ℕ) (input : List ℕ)
+    → Holds c pc Ecall → Called 63 0 a 1 regs → access Write (c ∷ rest) a 1 ≡ At segment offset
+    → LeadsOn 1 (byte ∷ input) (at regs pc (c ∷ rest)) [] input (at (set_reg regs 10 1) (pc + 4) (stored_at (c ∷ rest) segment offset (bytes_of 1 byte)))
+
+abbrev pub ReadCallsEnd : Type 0
+ReadCallsEnd =
+    (c : Stretch) (pc : ℕ) (regs : ℕ → ℕ) (rest : List Stretch) (a segment offset : ℕ)
+    → Holds c pc Ecall → Called 63 0 a 1 regs → access Write (c ∷ rest) a 1 ≡ At segment offset
+    → LeadsOn 1 [] (at regs pc (c ∷ rest)) [] [] (at (set_reg regs 10 0) (pc + 4) (c ∷ rest))
+
+-- an exit call ends the run
+abbrev pub ExitCallsEnd : Type 0
+ExitCallsEnd =
+    (c : Stretch) (pc : ℕ) (regs : ℕ → ℕ) (rest : List Stretch) (input : List ℕ)
+    → Holds c pc Ecall → regs 17 ≡ 93
+    → ExitsOn 1 input (at regs pc (c ∷ rest)) [] input (regs 10) (at regs pc (c ∷ rest))

@@ -1,0 +1,5 @@
+pub mod Leads
+pub mod Code
+pub mod Data
+pub mod Straight
+pub mod Laws

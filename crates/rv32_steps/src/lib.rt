@@ -1,0 +1,37 @@
+//! How the machine runs the code of a compiler: code that stands in memory is done, stretches of a run join, and
+//! straight-line code, jumps, branches and calls do what they say. All of it is laws, for the proofs of code generators.
+#![tactic(auto)]
+
+ghost use Rattle.rv32_steps.specs.Laws.{StretchesJoin, StretchesKeepTheInput, CodeStands, StraightCodeRuns, JumpsGo, ReturnsGoBack, BranchesGo, BranchesStay, WriteCallsWrite, ReadCallsTake, ReadCallsEnd, ExitCallsEnd};
+
+/// Stretches of a run join, and what reads no byte is one on every input.
+pub fn stretches_join()
+    ensures join { StretchesJoin }
+    ensures input { StretchesKeepTheInput }
+{}
+
+/// In a segment of the words of instructions these instructions stand, one each four bytes: a step does each.
+pub fn code_stands()
+    ensures { CodeStands }
+{}
+
+/// Straight-line code over registers, heap and stack is done to its end, one step each instruction.
+pub fn straight_code_runs()
+    ensures { StraightCodeRuns }
+{}
+
+/// Jumps, returns, and branches by their test, go where they say.
+pub fn jumps_go()
+    ensures jumps { JumpsGo }
+    ensures returns_back { ReturnsGoBack }
+    ensures taken { BranchesGo }
+    ensures not_taken { BranchesStay }
+{}
+
+/// Write calls write, read calls take a byte or tell the input's end, and exit calls end the run.
+pub fn calls_are_made()
+    ensures writes { WriteCallsWrite }
+    ensures reads { ReadCallsTake }
+    ensures reads_end { ReadCallsEnd }
+    ensures exits { ExitCallsEnd }
+{}
