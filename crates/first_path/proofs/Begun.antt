@@ -1,15 +1,12 @@
 -- The start-up stores the values of a plain program and comes to the printing loop.
-use Rattle.std.proofs.Common.{◌≡◌, ℕ, zero, suc, ◌+◌, ◌-◌, ◌*◌, ◌^◌, ◌<◌, ◌≤◌, List, [], ◌∷◌, ◌++◌, length, refl, sym, ap, ◌∙◌, subst, arith, length-append}
+use Rattle.std.proofs.Common.{◌≡◌, ℕ, zero, suc, ◌+◌, ◌*◌, ◌^◌, ◌<◌, ◌≤◌, List, [], ◌∷◌, ◌++◌, length, refl, sym, ap, ◌∙◌, subst, arith}
 use Rattle.std.proofs.lemmas.Grind.{common_steps}
 use Rattle.std.proofs.Math.ListN.{length-set}
-use Rattle.core_meaning.specs.Heap.{Value}
 use Rattle.arity_check.specs.Program.{Term}
 use Rattle.rv32_machine.specs.Memory.{Stretch}
-use Rattle.rv32_machine.specs.Arithmetic.{plus}
-use Rattle.rv32_isa.specs.declared.instr.Instr.{Instr}
-use Rattle.rv32_steps.proofs.Moves.{at, Leads, goes, stays}
+use Rattle.rv32_steps.proofs.Moves.{Leads, goes}
 use Rattle.rv32_steps.proofs.Fetch.{Stand, front, back}
-use Rattle.rv32_steps.proofs.Words.{word_segment, AreWords}
+use Rattle.rv32_steps.proofs.Words.{AreWords}
 use Rattle.rv32_steps.proofs.Blocks.{block, block_regs, Apart}
 use Rattle.first_path.specs.Values.{bound_values, result_of, heap_of}
 use Rattle.first_path.specs.Image.{heap_start, address, zeros, node_words, heap_words, load_word, store_words, loop_head, print_loop, code_of}

@@ -1,24 +1,24 @@
 -- What is known of a program that is built.
-use Rattle.std.proofs.Common.{◌≡◌, ℕ, zero, suc, ◌+◌, ◌*◌, ◌<◌, ◌≤◌, Bool, true, false, nat_lt, List, [], ◌∷◌, length, sum_by, Option, Some, None, slice_get, refl, sym, ap, ◌∙◌, subst, arith}
+use Rattle.std.proofs.Common.{◌≡◌, ℕ, zero, suc, ◌+◌, ◌*◌, ◌<◌, ◌≤◌, Bool, true, false, nat_lt, List, [], ◌∷◌, length, sum_by, Some, slice_get, refl, sym, ap, ◌∙◌, arith}
 use Rattle.std.proofs.lemmas.Bool.Decides.{nat_tests}
-use Rattle.std.proofs.lemmas.Option.{same_Some, none-some, slice_get_within}
+use Rattle.std.proofs.lemmas.Option.{same_Some, slice_get_within}
 use Rattle.std.proofs.lemmas.List.Sums.{sum_by-cons}
 use Rattle.core_reader.specs.Tree as tree
-use Rattle.core_reader.specs.Size.{program_size, function_size, expr_size}
+use Rattle.core_reader.specs.Size.{program_size, function_size}
 use Rattle.arity_check.specs.declared.normal.Con as arity
 use Rattle.arity_check.specs.declared.normal.Bound.{Bound}
 use Rattle.arity_check.specs.declared.normal.Var.{Var}
 use Rattle.arity_check.specs.declared.normal.Var.TheVariants as var
 use Rattle.arity_check.specs.declared.normal.Flat.{Flat}
 use Rattle.arity_check.specs.declared.normal.Flat.TheVariants as flat
-use Rattle.arity_check.specs.Broken.{Broken, TooManyConstructors, CoreTooLarge}
+use Rattle.arity_check.specs.Broken.{TooManyConstructors, CoreTooLarge}
 use Rattle.arity_check.specs.Normal.{IsConstructor}
 use Rattle.arity_check.specs.Program.{Program, Function, Term, App, Let, Case}
 use Rattle.core_meaning.specs.Evaluation.{nil, cons}
 use Rattle.core_meaning.proofs.Valid.{valid_is_well_formed, different_places}
-use Rattle.first_path.specs.Plain.{AllOf, IsVar, HasFields, IsValueForm, IsGroup, IsPlainTerm, IsPlain, bindings}
+use Rattle.first_path.specs.Plain.{AllOf, IsVar, IsValueForm, IsGroup, IsPlainTerm, IsPlain, bindings}
 use Rattle.first_path.specs.Values.{heap_of}
-use Rattle.first_path.specs.Carried.{HasNumber, end_of, told, seen, image_of, IsSmall}
+use Rattle.first_path.specs.Carried.{HasNumber, end_of, image_of, IsSmall}
 use Rattle.first_path.specs.Stored.{HasAddress, IsStored, IsStoredTerm}
 use Rattle.first_path.specs.Built.{IsBuiltFrom, IsCarriedBy}
 use Rattle.first_path.proofs.Few.{term_few}

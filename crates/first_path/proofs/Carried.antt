@@ -1,5 +1,5 @@
 -- The image of a plain program carries it.
-use Rattle.std.proofs.Common.{◌≡◌, ℕ, zero, suc, ◌+◌, ◌-◌, ◌*◌, ◌%◌, ◌^◌, ◌<◌, ◌≤◌, Bool, true, false, nat_lt, List, [], ◌∷◌, ◌++◌, length, replicate, refl, sym, ap, ◌∙◌, subst, arith, length-append}
+use Rattle.std.proofs.Common.{◌≡◌, ℕ, zero, suc, ◌+◌, ◌-◌, ◌*◌, ◌<◌, ◌≤◌, Bool, true, false, nat_lt, List, [], ◌∷◌, ◌++◌, length, replicate, refl, sym, ap, ◌∙◌, subst, arith}
 use Rattle.std.proofs.lemmas.Grind.{common_steps}
 use Rattle.std.proofs.lemmas.Bool.Decides.{nat_tests}
 use Rattle.std.proofs.lemmas.Option.{slice_get_within}
@@ -7,28 +7,26 @@ use Rattle.arity_check.specs.Program.{Program, Term}
 use Rattle.core_meaning.specs.Evaluation.{nil, cons}
 use Rattle.core_meaning.specs.Printing as core
 use Rattle.core_meaning.specs.Printing.{Done, Unaccepted, printed}
-use Rattle.elf32.specs.Image.{Image}
-use Rattle.headline.specs.Carries.{End, going, done, no_alternative, exits, Told, Seen, Begins, Matches, Reaches, Finishes, Comes, Carries, KeepsPace}
+use Rattle.headline.specs.Carries.{exits, Told, Seen, Matches, Reaches, Finishes, Comes, Carries, KeepsPace}
 use Rattle.rv32_machine.specs.Memory.{Stretch, stretch_of}
 use Rattle.rv32_machine.specs.Steps.{State, start_of}
 use Rattle.rv32_machine.specs.Runs as machine
 use Rattle.rv32_machine.specs.Runs.{Going, Exited, Stopped, Run, after, run, used}
 use Rattle.rv32_machine.proofs.Composed.{run_none}
 use Rattle.rv32_steps.specs.Code.{code_bytes, Stand}
-use Rattle.rv32_steps.proofs.Moves.{at, Leads}
+use Rattle.rv32_steps.proofs.Moves.{at}
 use Rattle.rv32_steps.proofs.Fetch.{all_stand, image_length}
-use Rattle.rv32_steps.proofs.Words.{word_segment, words_bytes, words_length, AreWords}
+use Rattle.rv32_steps.proofs.Words.{words_bytes}
 use Rattle.rv32_steps.proofs.Blocks.{Apart}
 use Rattle.first_path.specs.Plain.{AllOf, IsPlain, bindings}
 use Rattle.first_path.specs.Values.{Walked, walk, bound_values, result_of, heap_of}
-use Rattle.first_path.specs.Shown.{ShowsAs}
-use Rattle.first_path.specs.Image.{heap_start, zeros, node_words, heap_words, code_of, print_loop}
+use Rattle.first_path.specs.Image.{heap_start, zeros, heap_words, code_of}
 use Rattle.first_path.specs.Carried.{end_of, told, finish_of, seen, image_of, IsSmall}
 use Rattle.first_path.proofs.Meaning.{plain_program_shows}
 use Rattle.first_path.proofs.Stores.{standing}
-use Rattle.first_path.proofs.Turns.{IsHeapValue, Ready, Loop, looping, node_length, heap_length}
+use Rattle.first_path.proofs.Turns.{IsHeapValue, Loop, looping, heap_length}
 use Rattle.first_path.proofs.Walks.{Reached, ExitsWith, FinishIs, Came, reaches, comes, early}
-use Rattle.first_path.proofs.Begun.{zeros_length, start_length, Begun, begun, loop_stands}
+use Rattle.first_path.proofs.Begun.{start_length, Begun, begun, loop_stands}
 use Rattle.first_path.proofs.Sound.{heap_sound, all_words, first_words, bound_length}
 use Rattle.first_path.proofs.Ranges.{code_in, code_length}
 

@@ -1,9 +1,9 @@
 -- An image that is laid out can be loaded, and how large the parts of a program's image are.
-use Rattle.std.proofs.Common.{Result, Ok, Err, IfOk, map, get_or, slice_get, ◌≡◌, ℕ, zero, suc, ◌+◌, ◌*◌, ◌<◌, ◌≤◌, List, [], ◌∷◌, ◌++◌, length, true, false, refl, sym, ap, ◌∙◌, arith}
+use Rattle.std.proofs.Common.{Result, Ok, Err, IfOk, map, get_or, slice_get, ◌≡◌, ℕ, zero, suc, ◌+◌, ◌*◌, ◌<◌, ◌≤◌, List, [], ◌∷◌, ◌++◌, length, true, false, refl, ap, ◌∙◌, arith}
 use Rattle.std.specs.Prelude.{slice_index_or}
 use Rattle.std.proofs.lemmas.Option.{none-some, same_Some}
 use Rattle.arity_check.specs.Program.{Term}
-use Rattle.elf32.specs.Image.{Part, Apart, HasAddress, IsLoadable}
+use Rattle.elf32.specs.Image.{Part, Apart, IsLoadable}
 use Rattle.rv32_steps.specs.Code.{code_bytes}
 use Rattle.rv32_steps.proofs.Fetch.{image_length}
 use Rattle.first_path.specs.Plain.{bindings}
@@ -12,7 +12,6 @@ use Rattle.rv32_isa.specs.declared.instr.Instr.{Instr}
 use Rattle.first_path.specs.Image.{heap_start, address, heap_words, node_words, load_word, store_words, loop_head, print_loop, code_of}
 use Rattle.first_path.specs.Carried.{laid_out}
 use Rattle.first_path.proofs.Turns.{heap_length}
-use Rattle.first_path.proofs.Begun.{start_length}
 use Rattle.first_path.proofs.Sound.{bound_length}
 use Rattle.first_path.proofs.Ranges.{code_length}
 

@@ -1,5 +1,5 @@
 -- A plain program is evaluated to its values, and printing goes over them.
-use Rattle.std.proofs.Common.{◌≡◌, ℕ, zero, suc, ◌+◌, ◌-◌, ◌<◌, ◌≤◌, max, Bool, true, false, nat_eq, List, [], ◌∷◌, ◌++◌, map, length, take, Option, Some, None, slice_get, count_by, refl, sym, ap, ◌∙◌, subst, arith, append_assoc, length-append}
+use Rattle.std.proofs.Common.{◌≡◌, ℕ, zero, suc, ◌+◌, ◌-◌, ◌<◌, ◌≤◌, max, Bool, true, false, nat_eq, List, [], ◌∷◌, ◌++◌, map, length, Option, Some, None, slice_get, refl, sym, ◌∙◌, subst, arith}
 use Rattle.std.specs.Prelude.{◌==◌, if◌then◌else◌}
 use Rattle.std.proofs.lemmas.Grind.{common_steps}
 use Rattle.std.proofs.lemmas.Bool.Decides.{nat_tests}
@@ -10,11 +10,11 @@ use Rattle.arity_check.specs.declared.normal.Bound.{Bound}
 use Rattle.arity_check.specs.declared.normal.Flat.{Flat}
 use Rattle.arity_check.specs.declared.normal.Flat.TheVariants as flat
 use Rattle.arity_check.specs.Program.{Program, Function, Term, App, Let, Case}
-use Rattle.core_meaning.specs.Heap.{Value, Int, Con, Part, Delayed, Call, Apply, Prim, Global, Input, Binding, Known, Waiting, Heap, Env, with_local, with_locals}
-use Rattle.core_meaning.specs.Evaluation.{State, Answer, Gives, NoAlternative, OutOfBound, and_then, append, update, parameters, Onward, nil, cons, global, name, names, binding, with_group, force, force_binding, form, eval, proceed, within, start}
-use Rattle.core_meaning.specs.Printing.{Printed, End, Done, Unaccepted, Going, stops, on_value, on_list, on_byte, print, printed}
-use Rattle.first_path.specs.Plain.{AllOf, IsVar, HasFields, IsValueForm, IsGroup, IsPlainTerm, IsPlain}
-use Rattle.first_path.specs.Values.{name_of, value_of, bound_values, result_of, heap_of, Turn, ends, fails, puts, byte_turn, list_turn, Walked, turn, after_turn, walk}
+use Rattle.core_meaning.specs.Heap.{Value, Int, Con, Part, Prim, Global, Binding, Known, Waiting, Heap, Env, with_local}
+use Rattle.core_meaning.specs.Evaluation.{State, Answer, Gives, and_then, append, update, parameters, Onward, nil, cons, name, names, binding, with_group, force, force_binding, form, eval, within}
+use Rattle.core_meaning.specs.Printing.{Printed, Done, Unaccepted, stops, on_value, on_list, on_byte, print, printed}
+use Rattle.first_path.specs.Plain.{AllOf, IsVar, IsValueForm, IsGroup, IsPlainTerm, IsPlain}
+use Rattle.first_path.specs.Values.{name_of, value_of, bound_values, result_of, heap_of, ends, fails, byte_turn, list_turn, Walked, after_turn, walk}
 use Rattle.first_path.specs.Shown.{ShowsAs}
 
 -- the locals below n are named in order, behind the function

@@ -1,5 +1,5 @@
 -- A valid program whose text is simple is plain.
-use Rattle.std.proofs.Common.{◌≡◌, ℕ, zero, suc, ◌+◌, ◌*◌, ◌≤◌, ◌<◌, Bool, true, false, nat_eq, nat_lt, List, [], ◌∷◌, ◌++◌, map, length, Option, Some, None, slice_get, codes, refl, sym, ap, ◌∙◌, subst, arith, length-append, bytes_eq}
+use Rattle.std.proofs.Common.{◌≡◌, ℕ, zero, suc, ◌+◌, ◌≤◌, ◌<◌, Bool, true, false, nat_eq, nat_lt, List, [], ◌∷◌, length, Option, Some, None, slice_get, codes, refl, sym, ap, ◌∙◌, subst, arith, bytes_eq}
 use Rattle.std.specs.Prelude.{◌&&◌, if◌then◌else◌}
 use Rattle.std.specs.List.{position}
 use Rattle.std.proofs.lemmas.Bool.Decides.{nat_tests}
@@ -8,7 +8,6 @@ use Rattle.std.proofs.lemmas.Slice.Eq.{bytes_eq-Decides}
 use mathlib.Core.Logic.{◌⊎◌, inl, inr}
 use Rattle.core_reader.specs.Tree as tree
 use Rattle.core_reader.specs.declared.syntax.Binder.{Binder}
-use Rattle.arity_check.specs.declared.normal.Con as arity
 use Rattle.arity_check.specs.declared.normal.Bound.{Bound}
 use Rattle.arity_check.specs.declared.normal.Var.{Var}
 use Rattle.arity_check.specs.declared.normal.Var.TheVariants as var
@@ -19,10 +18,9 @@ use Rattle.arity_check.specs.Scope.{Scope, means, unless_primitive, found_in, fu
 use Rattle.arity_check.specs.declared.meaning.Meaning.{Meaning}
 use Rattle.arity_check.specs.declared.meaning.Meaning.TheVariants.{Local, Function, Primitive, Unbound}
 use Rattle.arity_check.specs.Broken.{Broken, DuplicateFunction, TooManyFields}
-use Rattle.arity_check.specs.Normal.{Pairwise, IsNormal, IsFunction, IsConstructor, IsNormalForm}
+use Rattle.arity_check.specs.Normal.{Pairwise, IsFunction, IsConstructor, IsNormalForm}
 use Rattle.arity_check.specs.Program as normal
 use Rattle.arity_check.specs.Program.{Program, App, Let, Case}
-use Rattle.core_meaning.specs.Evaluation.{nil, cons}
 use Rattle.core_meaning.specs.WellFormed.{WellFormed, InGroup, HasParams, VarOk, FormOk, TermOk, FunOk}
 use Rattle.core_meaning.specs.WellFormed as formed
 use Rattle.first_path.specs.Plain.{AllOf, IsVar, HasFields, IsValueForm, IsGroup, IsPlainTerm, IsPlain}

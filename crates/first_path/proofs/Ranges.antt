@@ -1,5 +1,5 @@
 -- The instructions of a plain program's image are in range, and how many there are.
-use Rattle.std.proofs.Common.{◌≡◌, ℕ, zero, suc, ◌+◌, ◌-◌, ◌*◌, ◌/◌, ◌%◌, ◌^◌, ◌<◌, ◌≤◌, Bool, true, false, nat_lt, List, [], ◌∷◌, ◌++◌, length, refl, ap, ◌∙◌, arith, length-append}
+use Rattle.std.proofs.Common.{◌≡◌, ℕ, suc, ◌+◌, ◌-◌, ◌%◌, ◌<◌, ◌≤◌, Bool, true, false, nat_lt, List, [], ◌∷◌, ◌++◌, length, refl, arith, length-append}
 use Rattle.std.specs.Prelude.{pos, negsuc, if◌then◌else◌}
 use Rattle.std.proofs.lemmas.Bool.Decides.{nat_tests}
 use Rattle.std.proofs.lemmas.Int.{ints}
@@ -8,7 +8,7 @@ use Rattle.rv32_isa.specs.Bits.{IsImm12}
 use Rattle.rv32_steps.specs.Code.{AllInRange}
 use Rattle.arity_check.specs.Program.{Term}
 use Rattle.first_path.specs.Values.{bound_values, result_of}
-use Rattle.first_path.specs.Image.{address, heap_words, node_words, upper_part, lower_part, load_word, store_word, store_words, loop_head, print_loop, code_of}
+use Rattle.first_path.specs.Image.{address, heap_words, node_words, lower_part, load_word, store_words, loop_head, print_loop, code_of}
 use Rattle.first_path.proofs.Turns.{node_length}
 use Rattle.first_path.proofs.Begun.{store_length, start_length}
 

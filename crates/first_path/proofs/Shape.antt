@@ -1,5 +1,5 @@
 -- The normal form of a simple expression is numbers and constructors in groups, whose locals are numbered in order.
-use Rattle.std.proofs.Common.{◌≡◌, ℕ, zero, suc, ◌+◌, ◌*◌, ◌≤◌, ◌<◌, Bool, true, false, List, [], ◌∷◌, ◌++◌, length, Option, Some, None, refl, sym, ap, ◌∙◌, subst, arith, length-append}
+use Rattle.std.proofs.Common.{◌≡◌, ℕ, suc, ◌+◌, Bool, true, false, List, [], ◌∷◌, ◌++◌, length, None, refl, sym, ap, subst, arith}
 use Rattle.std.specs.Prelude.{◌&&◌}
 use Rattle.std.proofs.lemmas.Option.{none-some}
 use Rattle.core_reader.specs.Tree as tree
@@ -10,10 +10,10 @@ use Rattle.arity_check.specs.declared.normal.Flat.{Flat}
 use Rattle.arity_check.specs.declared.normal.Flat.TheVariants as flat
 use Rattle.arity_check.specs.Scope.{Scope, means}
 use Rattle.arity_check.specs.declared.meaning.Meaning.{Meaning}
-use Rattle.arity_check.specs.declared.meaning.Meaning.TheVariants.{Local, Function, Primitive, Unbound}
-use Rattle.arity_check.specs.Normal.{append, bound, itself, itself_as, HasTerm, IsFlat, Number, Constructor, Named, NumberApplied, BracketApplied, LoneHead, LoneBracket, IsNamed, OfPrimitive, OfLocal, OfGlobal, Called, Partial, Exceeded, IsApplied, Applied, AreArgs, NoArgs, AndArg, IsArg, Itself, New, IsGroup, NoMembers, AndMember, IsNormal, PlainApp, BoundApp, Group, Choice}
+use Rattle.arity_check.specs.declared.meaning.Meaning.TheVariants.{Function}
+use Rattle.arity_check.specs.Normal.{bound, itself, itself_as, IsFlat, Number, Constructor, Named, NumberApplied, BracketApplied, LoneHead, LoneBracket, IsNamed, OfPrimitive, OfLocal, OfGlobal, Called, Partial, Exceeded, AreArgs, NoArgs, AndArg, IsArg, Itself, New, IsGroup, NoMembers, AndMember, IsNormal, PlainApp, BoundApp, Group, Choice}
 use Rattle.arity_check.specs.Program as normal
-use Rattle.first_path.specs.Simple.{simple_head, simple_term, simple_terms, simple_application, simple_group, simple}
+use Rattle.first_path.specs.Simple.{simple_term, simple_terms, simple_application, simple_group, simple}
 
 abbrev pub IsNumberOrCon : Flat → Type 0
 IsNumberOrCon (flat.Int k) = Unit {0}

@@ -1,7 +1,6 @@
 -- The values of a plain program are those that the code finds in the heap, and their words have 32 bits.
-use Rattle.std.proofs.Common.{◌≡◌, ℕ, zero, suc, ◌+◌, ◌-◌, ◌*◌, ◌^◌, ◌<◌, ◌≤◌, List, [], ◌∷◌, ◌++◌, map, length, refl, sym, ap, ◌∙◌, subst, arith, length-append}
+use Rattle.std.proofs.Common.{◌≡◌, ℕ, zero, suc, ◌+◌, ◌^◌, ◌<◌, ◌≤◌, List, [], ◌∷◌, ◌++◌, map, length, refl, sym, ap, ◌∙◌, subst, arith, length-append}
 use Rattle.std.specs.Prelude.{ℤ, pos, negsuc}
-use Rattle.std.proofs.lemmas.Grind.{common_steps}
 use Rattle.std.proofs.lemmas.Option.{slice_get_within}
 use Rattle.arity_check.specs.declared.normal.Con as arity
 use Rattle.arity_check.specs.declared.normal.Bound.{Bound}
@@ -9,7 +8,7 @@ use Rattle.arity_check.specs.declared.normal.Var.{Var}
 use Rattle.arity_check.specs.declared.normal.Var.TheVariants as var
 use Rattle.arity_check.specs.declared.normal.Flat.{Flat}
 use Rattle.arity_check.specs.declared.normal.Flat.TheVariants as flat
-use Rattle.arity_check.specs.Program.{Program, Term, App, Let, Case}
+use Rattle.arity_check.specs.Program.{Term, App, Let, Case}
 use Rattle.core_meaning.specs.Heap.{Value, Int, Con, Part}
 use Rattle.rv32_machine.specs.Arithmetic.{pattern}
 use Rattle.rv32_steps.proofs.Words.{AreWords}

@@ -1,5 +1,5 @@
 -- What the tests on the code's trees say of their trees in the definitions.
-use Rattle.std.proofs.Common.{◌≡◌, ℕ, ℤ, Bool, true, false, List, [], ◌∷◌, map, length, arith, Option, Some, None, slice_get, bytes_eq, codes, sym, ap, subst, ◌∙◌, refl, IsTrue}
+use Rattle.std.proofs.Common.{◌≡◌, ℕ, ℤ, Bool, true, false, List, [], ◌∷◌, map, length, arith, Some, None, slice_get, bytes_eq, codes, sym, ap, subst, ◌∙◌, refl, IsTrue}
 use Rattle.std.specs.Prelude.{◌↔◌, ◌&&◌, ◌==◌}
 use Rattle.std.proofs.lemmas.Bool.Decides.{nat_tests}
 use Rattle.core_reader.specs.declared.syntax.Atom.{Atom}

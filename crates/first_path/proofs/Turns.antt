@@ -1,21 +1,20 @@
 -- One turn of the printing loop, by what the walk over the values meets.
-use Rattle.std.proofs.Common.{◌≡◌, ℕ, zero, suc, ◌+◌, ◌-◌, ◌*◌, ◌/◌, ◌%◌, ◌^◌, ◌<◌, ◌≤◌, Bool, true, false, not, nat_eq, List, [], ◌∷◌, ◌++◌, map, length, take, drop, get_or, Option, Some, None, slice_get, refl, sym, ap, ◌∙◌, subst, arith, length-append}
-use Rattle.std.specs.Prelude.{ℤ, pos, negsuc, ◌≢◌, ◌==◌, if◌then◌else◌}
+use Rattle.std.proofs.Common.{◌≡◌, ℕ, zero, suc, ◌+◌, ◌-◌, ◌*◌, ◌%◌, ◌^◌, ◌<◌, ◌≤◌, Bool, true, false, not, nat_eq, List, [], ◌∷◌, ◌++◌, map, length, take, drop, get_or, Some, slice_get, refl, sym, ap, ◌∙◌, subst, arith, length-append}
+use Rattle.std.specs.Prelude.{ℤ, pos, negsuc, if◌then◌else◌}
 use Rattle.std.proofs.lemmas.Bool.Decides.{nat_tests}
 use Rattle.std.proofs.lemmas.Option.{same_Some, none-some, slice_get-get_or}
 use Rattle.std.proofs.lemmas.List.{get_or_append_left, get_or-append-add}
 use Rattle.arity_check.specs.declared.normal.Con as arity
 use Rattle.core_meaning.specs.Heap.{Value, Int, Con, Part}
 use Rattle.numbers.specs.Numbers.{low_byte}
-use Rattle.rv32_isa.specs.declared.instr.Instr.{Instr}
 use Rattle.rv32_isa.specs.declared.instr.Instr.TheVariants.{Load}
 use Rattle.rv32_isa.specs.declared.instr.LoadKind.TheVariants.{Lw}
 use Rattle.rv32_isa.specs.declared.instr.BranchKind.TheVariants.{Beq, Bne}
-use Rattle.rv32_machine.specs.Memory.{Stretch, bytes_of, end_of}
+use Rattle.rv32_machine.specs.Memory.{Stretch}
 use Rattle.rv32_machine.specs.Arithmetic.{plus, pattern}
 use Rattle.rv32_machine.specs.Steps.{State, set_reg}
 use Rattle.rv32_machine.specs.Runs.{Exited, stands, after, run}
-use Rattle.rv32_steps.proofs.Moves.{at, Leads, goes, stays, ends as stops_at}
+use Rattle.rv32_steps.proofs.Moves.{Leads, goes, ends as stops_at}
 use Rattle.rv32_steps.proofs.Fetch.{Holds, Stand, front, back}
 use Rattle.rv32_steps.proofs.Words.{word_segment, AreWords, lw, words_bytes, words_length}
 use Rattle.rv32_steps.proofs.Blocks.{Apart}

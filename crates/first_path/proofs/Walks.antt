@@ -8,7 +8,7 @@ use Rattle.core_meaning.specs.Printing.{Done, Unaccepted, Going as Unfinished}
 use Rattle.core_meaning.specs.Printing as core
 use Rattle.rv32_machine.specs.Memory.{Stretch}
 use Rattle.rv32_machine.specs.Steps.{State}
-use Rattle.rv32_machine.specs.Runs.{End, Going, Exited, Stopped, Run, stands, after, run, used, has_ended}
+use Rattle.rv32_machine.specs.Runs.{End, Going, Exited, Stopped, Run, after, run, has_ended}
 use Rattle.rv32_machine.proofs.Composed.{run_none, end_stays, output_grows, input_is_used_in_order}
 use Rattle.first_path.specs.Values.{Turn, ends, fails, puts, Walked, turn, after_turn, walk}
 use Rattle.first_path.proofs.Turns.{Ready, Loop, looping, TurnIs, turn_is}

@@ -1,11 +1,10 @@
 -- What a program tells and what is seen of an image, and the image of a plain program.
-use Rattle.std.specs.Prelude.{◌≡◌, ℕ, ◌+◌, ◌*◌, ◌^◌, ◌<◌, ◌≤◌, ℤ, pos, negsuc, true, false, List, [], ◌∷◌, length}
+use Rattle.std.specs.Prelude.{ℕ, ◌+◌, ◌*◌, ◌^◌, ◌<◌, ◌≤◌, ℤ, pos, negsuc, true, false, List, [], ◌∷◌, length}
 use Rattle.arity_check.specs.Program.{Program, Term}
 use Rattle.core_meaning.specs.Heap.{Value, Int, Con, Part}
 use Rattle.core_meaning.specs.Evaluation.{nil, cons}
 use Rattle.core_meaning.specs.Printing as core
 use Rattle.core_meaning.specs.Printing.{Done, Unaccepted, printed}
-use Rattle.elf32.specs.Image as elf
 use Rattle.elf32.specs.Image.{Image}
 use Rattle.headline.specs.Carries.{End, going, done, no_alternative, Meaning, Finish, runs, exits, traps, Machine, Carries, KeepsPace}
 use Rattle.rv32_machine.specs.Steps.{start_of}
@@ -13,7 +12,7 @@ use Rattle.rv32_machine.specs.Runs as machine
 use Rattle.rv32_machine.specs.Runs.{Going, Exited, Stopped, run, used}
 use Rattle.rv32_steps.specs.Code.{code_bytes}
 use Rattle.first_path.specs.Plain.{AllOf, IsPlain, bindings}
-use Rattle.first_path.specs.Values.{bound_values, heap_of}
+use Rattle.first_path.specs.Values.{heap_of}
 use Rattle.first_path.specs.Image.{heap_start, heap_words, code_of}
 
 abbrev pub end_of : core.End → End
@@ -39,10 +38,10 @@ abbrev pub laid_out : List ℕ → ℕ → Image
 laid_out code words = record {
   entry = 65536;
   segments =
-    record { addr = 65536; size = length code; bytes = code; write = false; exec = true }
-    ∷ record { addr = heap_start; size = 4 * words; bytes = []; write = true; exec = false }
-    ∷ record { addr = 2012217344; size = 1048576; bytes = []; write = true; exec = false }
-    ∷ [];
+      record { addr = 65536; size = length code; bytes = code; write = false; exec = true }
+      ∷ record { addr = heap_start; size = 4 * words; bytes = []; write = true; exec = false }
+      ∷ record { addr = 2012217344; size = 1048576; bytes = []; write = true; exec = false }
+      ∷ [];
 }
 
 -- the code of a plain program, and a heap with room for its values

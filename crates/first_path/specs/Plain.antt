@@ -1,5 +1,5 @@
 -- Plain programs: one function without parameters, whose expression is let groups of numbers and constructors around one of them.
-use Rattle.std.specs.Prelude.{◌≡◌, ℕ, zero, suc, ◌+◌, ◌<◌, ◌≤◌, List, [], ◌∷◌, map, length, Some, slice_get}
+use Rattle.std.specs.Prelude.{◌≡◌, ℕ, suc, ◌+◌, ◌<◌, ◌≤◌, List, [], ◌∷◌, length, Some, slice_get}
 use Rattle.arity_check.specs.declared.normal.Con as arity
 use Rattle.arity_check.specs.declared.normal.Var.{Var}
 use Rattle.arity_check.specs.declared.normal.Var.TheVariants as var

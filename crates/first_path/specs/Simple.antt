@@ -1,6 +1,6 @@
 -- Programs of constructors, numbers and let groups, as they stand in a text.
-use Rattle.std.specs.Prelude.{ℕ, Bool, true, false, ◌&&◌, ◌||◌, not, List, [], ◌∷◌, Option, Some, None, codes, if◌then◌else◌}
-use Rattle.core_reader.specs.Tree.{Term, Terms, Name, Con, Int, Bracket, NoTerms, AndTerm, Application, Expr, App, Let, Case, Bind, Function, Program}
+use Rattle.std.specs.Prelude.{ℕ, Bool, true, false, ◌&&◌, List, [], ◌∷◌, Option, Some, None, codes, if◌then◌else◌}
+use Rattle.core_reader.specs.Tree.{Term, Terms, Name, Con, Int, Bracket, NoTerms, AndTerm, Expr, App, Let, Case, Bind, Function, Program}
 use Rattle.core_reader.specs.declared.syntax.Binder.{Binder}
 use Rattle.arity_check.specs.Scope.{is_named}
 

@@ -1,11 +1,10 @@
 -- The values of a plain program: the heap once its function is evaluated.
-use Rattle.std.specs.Prelude.{ℕ, zero, suc, ◌+◌, ◌==◌, pos, Bool, true, false, List, [], ◌∷◌, ◌++◌, map, length, Option, Some, None, slice_get, if◌then◌else◌}
+use Rattle.std.specs.Prelude.{ℕ, zero, suc, ◌==◌, pos, true, false, List, [], ◌∷◌, ◌++◌, map, Option, Some, None, slice_get}
 use Rattle.arity_check.specs.declared.normal.Var.{Var}
 use Rattle.arity_check.specs.declared.normal.Var.TheVariants as var
-use Rattle.arity_check.specs.declared.normal.Bound.{Bound}
 use Rattle.arity_check.specs.declared.normal.Flat.{Flat}
 use Rattle.arity_check.specs.declared.normal.Flat.TheVariants as flat
-use Rattle.arity_check.specs.Program.{Program, Function, Term, App, Let, Case}
+use Rattle.arity_check.specs.Program.{Term, App, Let, Case}
 use Rattle.core_meaning.specs.Heap.{Value, Int, Con, Part}
 use Rattle.core_meaning.specs.Printing.{End, Done, Unaccepted, Going}
 use Rattle.numbers.specs.Numbers.{low_byte}

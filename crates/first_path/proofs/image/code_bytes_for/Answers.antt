@@ -1,4 +1,4 @@
-use Rattle.std.proofs.Common.{◌≡◌, ◌++◌, ap, ◌∙◌, rules}
+use Rattle.std.proofs.Common.{◌≡◌, ◌++◌, ap, ◌∙◌}
 use Rattle.arity_check.specs.Program.{term}
 use Rattle.rv32_steps.specs.Code.{code_bytes}
 use Rattle.first_path.specs.Values.{bound_values, result_of}

@@ -1,4 +1,4 @@
-use Rattle.std.proofs.Common.{◌≡◌, ◌+◌, ◌<◌, ◌≤◌, length, get_or, ap, sym, subst, ◌∙◌, rules, arith}
+use Rattle.std.proofs.Common.{◌≡◌, ◌<◌, ◌≤◌, length, get_or, ap, sym, subst, ◌∙◌}
 use Rattle.arity_check.specs.Program.{function, term, program}
 use Rattle.core_meaning.specs.Evaluation.{con_named, nil, cons}
 use Rattle.first_path.specs.Plain.{AllOf, bindings}

@@ -1,6 +1,5 @@
-use Rattle.std.proofs.Common.{◌≡◌, rules, true, false, codes, sym, ◌∙◌}
+use Rattle.std.proofs.Common.{◌≡◌, rules, true, false, sym, ◌∙◌}
 use Rattle.core_reader.specs.Tree.{function as function_of, program}
-use Rattle.arity_check.specs.Scope.{is_named}
 use Rattle.first_path.proofs.Tests.{not_main, not_alone, alone}
 use Rattle.first_path.proofs.simple.is_built_function.Goals as goal
 

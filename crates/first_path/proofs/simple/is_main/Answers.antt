@@ -1,4 +1,4 @@
-use Rattle.std.proofs.Common.{◌≡◌, slice_get, Some, None, rules, bytes_eq, ap, sym, ◌∙◌}
+use Rattle.std.proofs.Common.{◌≡◌, slice_get, Some, None, rules, bytes_eq, ◌∙◌}
 use Rattle.core_reader.specs.Tree.{program}
 use Rattle.first_path.proofs.Tests.{main_by_text, main_unnamed}
 use Rattle.first_path.proofs.simple.is_main.Goals as goal

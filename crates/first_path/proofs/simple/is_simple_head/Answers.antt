@@ -1,6 +1,6 @@
 use Rattle.first_path.proofs.Tests.{lone_number}
 use Rattle.core_reader.proofs.TreeOf.{term_of-Int}
-use Rattle.std.proofs.Common.{◌≡◌, ap, ◌∙◌}
+use Rattle.std.proofs.Common.{ap, ◌∙◌}
 use Rattle.core_reader.specs.Tree.{term}
 use Rattle.first_path.proofs.simple.is_simple_head.Goals as goal
 

@@ -1,5 +1,5 @@
 use Rattle.std.proofs.Common.{◌≡◌, ◌++◌, map, ap, sym, subst, ◌∙◌}
-use Rattle.arity_check.specs.Program.{Term, Let, term}
+use Rattle.arity_check.specs.Program.{Let, term}
 use Rattle.first_path.proofs.TermOf.{term_of-Let}
 use Rattle.first_path.specs.Plain.{AllOf}
 use Rattle.first_path.specs.Values.{value_of, bound_values}
