@@ -1,9 +1,6 @@
 -- What an inclusion asks for, as a list, is what it demands.
-use Rattle.std.proofs.Common.{◌≡◌, ◌+◌, ℕ, zero, suc, List, [], ◌∷◌, ◌++◌, Option, Some, None, slice_get, refl, sym, ap, ◌∙◌, subst, ⊎_elim, arith}
-use Rattle.std.specs.List.{flat_map}
+use Rattle.std.proofs.Common.{◌≡◌, ◌+◌, ℕ, zero, suc, List, [], ◌∷◌, Option, Some, None, slice_get, refl, sym, ap, ◌∙◌, subst, ⊎_elim, arith}
 use Rattle.grin_syntax.specs.declared.program.VarId.{VarId}
-use Rattle.grin_syntax.specs.declared.program.Word.{Word}
-use Rattle.grin_syntax.specs.declared.program.Val.{Val}
 use Rattle.grin_syntax.specs.declared.program.Target.{Target}
 use Rattle.grin_syntax.specs.declared.program.Target.TheVariants.{Nothing, Node as NodeTarget, One as OneTarget, Vector as VectorTarget}
 use Rattle.flow_system.specs.declared.fact.Element.{Element as AbstractWord}
@@ -14,11 +11,11 @@ use Rattle.flow_system.specs.declared.fact.Part.{Part}
 use Rattle.flow_system.specs.declared.fact.Part.TheVariants.{Tags as tags, Word as word}
 use Rattle.flow_system.specs.Inclusions.{Source, value, held, evaluated, arguments, Sink, to, into, cells_at, Inclusion, flows, forces, applies}
 use Rattle.flow_system.specs.Tables.{Tables, params_of}
-use Rattle.flow_system.specs.Solution.{Solution, Sets, At, AsNodes, StandsFor, ValueGives, width, Gives, Waits, Delays}
+use Rattle.flow_system.specs.Solution.{Solution, Sets, At, AsNodes, StandsFor, ValueGives, width, Gives}
 use Rattle.flow_system.specs.Demands.{Asks, of_node_variable, of_variable, of_vector, of_site, of_place, of_result, of_cells, AsksFlow, Demands, by_flow, by_delayed, by_evaluated, by_argument, by_applied}
 use Rattle.points_to.specs.declared.facts.Item.{Item}
 use Rattle.points_to.specs.declared.facts.Fact.{Fact}
-use Rattle.points_to.specs.Held.{In, here, item, in_part, picked, elements, value_items, as_word, as_nodes, items, delayed, called}
+use Rattle.points_to.specs.Held.{In, item, in_part, picked, elements, value_items, as_word, as_nodes, items, delayed, called}
 use Rattle.points_to.specs.Asked.{fact, facts_at, vector_facts, target_facts, cell_facts, asked, flow_facts, delayed_facts, forced, called_facts, applied, demands}
 use Rattle.points_to.proofs.Member.{none_in, in_left, in_right, in_split, in_flat, flat_in, in_map, map_in}
 use Rattle.points_to.proofs.Given.{picked_in, in_picked, Only, All, as_word_means, in_as_word, nodes_mean, in_nodes, elements_mean, in_elements, value_means, in_value, items_mean, in_items, delayed_is, is_delayed, called_is, is_called}

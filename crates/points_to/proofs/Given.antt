@@ -1,9 +1,8 @@
 -- What the lists of items hold is what sources give.
-use Rattle.std.proofs.Common.{◌≡◌, ◌+◌, ◌<◌, ◌≤◌, ℕ, zero, suc, Bool, true, false, cond, not, ◌&&◌, nat_eq, nat_lt, List, [], ◌∷◌, ◌++◌, map, Option, Some, None, slice_get, refl, sym, ap, ◌∙◌, subst, ⊎_elim, arith}
+use Rattle.std.proofs.Common.{◌≡◌, ◌+◌, ◌<◌, ◌≤◌, ℕ, zero, suc, Bool, true, false, cond, not, ◌&&◌, nat_eq, nat_lt, List, [], ◌∷◌, ◌++◌, Option, Some, None, slice_get, refl, sym, ap, ◌∙◌, subst, ⊎_elim, arith}
 use Rattle.std.specs.List.{flat_map}
 use Rattle.std.proofs.lemmas.Bool.Decides.{nat_tests}
 use Rattle.grin_syntax.specs.declared.program.ProcId.{ProcId}
-use Rattle.grin_syntax.specs.declared.program.TagId.{TagId}
 use Rattle.grin_syntax.specs.declared.program.Tag.{Tag}
 use Rattle.grin_syntax.specs.declared.program.GlobalCell.{GlobalCell}
 use Rattle.grin_syntax.specs.declared.program.Word as W
@@ -14,14 +13,14 @@ use Rattle.grin_meaning.specs.Run.{is_part_kind, is_fun_kind, is_some_and, part_
 use Rattle.flow_system.specs.declared.fact.Element.{Element as AbstractWord}
 use Rattle.flow_system.specs.declared.fact.Element.TheVariants.{Cell as cell_of, Tag as tag, Number as num}
 use Rattle.flow_system.specs.declared.fact.Place.{Place}
-use Rattle.flow_system.specs.declared.fact.Place.TheVariants.{Site as site, Var as var, Result as result}
+use Rattle.flow_system.specs.declared.fact.Place.TheVariants.{Site as site, Var as var}
 use Rattle.flow_system.specs.declared.fact.Part.{Part}
 use Rattle.flow_system.specs.declared.fact.Part.TheVariants.{Tags as tags, Field as field, Word as word}
 use Rattle.flow_system.specs.Inclusions.{Source, value, a_cell, a_number, held, nodes_at, word_at, evaluated, extended, arguments}
 use Rattle.flow_system.specs.Tables.{Tables, fields_of}
 use Rattle.flow_system.specs.Solution.{Solution, Sets, At, OneWord, one_word, Enough, AsNodes, node_tag, node_field, words_tag, words_field, AsWords, word_word, tag_word, field_word, zero_word, IsEvaluated, Evaluated, evaluated_tag, evaluated_field, Delays, Waits, StandsFor, literal, variable, global, tag_itself, WordAmong, first, later, ValueGives, of_variable, of_node, of_field, of_words, of_word, FetchGives, its_tag, its_field, its_zero, ExtendGives, extended_tag, extended_field, extended_last, ArgumentsGive, field_argument, word_argument, width, Gives}
 use Rattle.points_to.specs.declared.facts.Item.{Item}
-use Rattle.points_to.specs.Held.{In, here, there, item, same_part, picked_one, picked, in_part, cell_at, enough, node_part, field_part, moved_part, argument_part, is_done, if_tag, if_procedure, delayed, when_one, when_more, called, longer, field_or_zero, field_of_tag, fetched, as_word, node_of_words, node_of_word, as_nodes, done_tag, done_part, done_items, elements, numbered, value_items, cell_items, fetched_at, last_field, longer_node, longer_tag, after_fields, arguments_of, items}
+use Rattle.points_to.specs.Held.{In, here, there, item, same_part, picked_one, picked, in_part, cell_at, enough, node_part, field_part, moved_part, argument_part, is_done, if_tag, if_procedure, delayed, when_one, when_more, called, longer, field_or_zero, field_of_tag, fetched, as_word, node_of_words, node_of_word, as_nodes, done_part, done_items, elements, numbered, value_items, cell_items, fetched_at, last_field, longer_node, longer_tag, after_fields, arguments_of, items}
 use Rattle.points_to.proofs.Member.{none_in, cons_in, one_in, in_left, in_right, in_split, when_in, in_when, in_flat, flat_in, in_map, map_in}
 
 pub lt_from : (m n : ℕ) → nat_lt m n ≡ true → m < n

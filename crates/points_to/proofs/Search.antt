@@ -1,5 +1,5 @@
 -- The search for the tag of a function.
-use Rattle.std.proofs.Common.{◌≡◌, ◌+◌, ◌<◌, ◌≤◌, ℕ, zero, suc, Bool, true, false, cond, List, [], ◌∷◌, length, get_or, drop, Option, Some, None, refl, sym, ap, ◌∙◌, arith}
+use Rattle.std.proofs.Common.{◌≡◌, ◌+◌, ◌<◌, ◌≤◌, ℕ, suc, true, false, cond, List, length, get_or, drop, Option, Some, None, sym, ap, ◌∙◌, arith}
 use Rattle.grin_syntax.specs.declared.program.Tag.{Tag}
 use Rattle.grin_meaning.specs.Run.{is_part, part_from}
 use Rattle.points_to.proofs.Loops.{front, empty}

@@ -1,6 +1,6 @@
 -- Rounds until nothing is added give the least solution.
-use Rattle.std.proofs.Common.{◌≡◌, ◌+◌, ◌-◌, ◌^◌, ◌<◌, ◌≤◌, ℕ, zero, suc, Bool, true, false, cond, ◌||◌, List, [], ◌∷◌, ◌++◌, map, take, length, get_or, Option, Some, None, slice_get, refl, sym, ap, ◌∙◌, subst, inl, inr, ⊎_elim, arith}
-use Rattle.std.specs.Prelude.{◌⊎◌, IsTrue, nat_eq}
+use Rattle.std.proofs.Common.{◌≡◌, ◌+◌, ◌-◌, ◌^◌, ◌<◌, ◌≤◌, ℕ, zero, suc, Bool, true, false, cond, ◌||◌, List, [], ◌∷◌, ◌++◌, take, length, get_or, Some, slice_get, refl, sym, ap, ◌∙◌, subst, inl, inr, ⊎_elim, arith}
+use Rattle.std.specs.Prelude.{◌⊎◌, IsTrue}
 use Rattle.std.proofs.lemmas.List.{take_all, take_more}
 use Rattle.flow_system.specs.declared.fact.Element.{Element}
 use Rattle.flow_system.specs.declared.fact.Element.TheVariants.{Cell, Tag, Number}
@@ -9,8 +9,7 @@ use Rattle.flow_system.specs.declared.fact.Part.{Part}
 use Rattle.flow_system.specs.declared.inclusion.Inclusion as code
 use Rattle.flow_system.specs.Inclusions.{Inclusion}
 use Rattle.flow_system.specs.Tables.{Tables}
-use Rattle.flow_system.specs.Solution.{Solution, At, same_word, among, Solves, IsLeast}
-use Rattle.flow_system.specs.Demands.{Demands, Content}
+use Rattle.flow_system.specs.Solution.{At, same_word, among, IsLeast}
 use Rattle.flow_system.specs.Shown.{inclusion_of, shown}
 use Rattle.flow_system.proofs.Least.{least_by_rounds, in_every}
 use Rattle.points_to.specs.declared.facts.Item.{Item}
@@ -18,9 +17,9 @@ use Rattle.points_to.specs.declared.facts.Fact.{Fact}
 use Rattle.points_to.specs.declared.facts.Facts.{Facts}
 use Rattle.points_to.specs.Held.{In, here, there, item, picked}
 use Rattle.points_to.specs.Asked.{fact, demands}
-use Rattle.points_to.specs.Known.{held, Grows, solution_of, Within}
+use Rattle.points_to.specs.Known.{held, Grows, solution_of}
 use Rattle.points_to.specs.Rounds.{InEvery, Satisfied, AllSatisfied, Counted}
-use Rattle.points_to.proofs.Member.{none_in, cons_in, one_in, in_left, in_right, in_split}
+use Rattle.points_to.proofs.Member.{none_in, cons_in, in_left, in_right, in_split}
 use Rattle.points_to.proofs.Given.{eq_from, eq_self, picked_in, in_picked}
 use Rattle.points_to.proofs.Exact.{demands_mean, in_demands}
 

@@ -1,5 +1,5 @@
 -- Items, each turned into others.
-use Rattle.std.specs.Prelude.{ℕ, List}
+use Rattle.std.specs.Prelude.{List}
 use Rattle.flow_system.specs.Tables.{Tables}
 use Rattle.points_to.specs.declared.facts.Item.{Item}
 use Rattle.points_to.specs.declared.give.Shift.{Shift}

@@ -1,6 +1,6 @@
 use Rattle.std.proofs.Common.{rules, ◌≤◌, ◌++◌, length, take, subst, ap, ◌∙◌}
-use Rattle.grin_syntax.specs.Tree.{act_of, program_of}
-use Rattle.flow_system.specs.System.{act_flows, cells_flow}
+use Rattle.grin_syntax.specs.Tree.{program_of}
+use Rattle.flow_system.specs.System.{cells_flow}
 use Rattle.flow_system.specs.Shown.{shown, sink_of}
 use Rattle.flow_system.proofs.SoFar.{FlowsSoFar, flows_next, flows_done, arms_flow_next, arms_flow_done, store_flows, bind_flows}
 use Rattle.flow_system.proofs.system.+flows.Goals as goal

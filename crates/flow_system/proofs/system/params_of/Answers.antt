@@ -1,4 +1,4 @@
-use Rattle.std.proofs.Common.{rules, ◌≡◌, refl, ap, sym, ◌∙◌, slice_get, Some, None}
+use Rattle.std.proofs.Common.{rules, ◌≡◌, ap, sym, ◌∙◌}
 use Rattle.std.specs.Option.{option_map}
 use Rattle.grin_syntax.specs.declared.program.Target.TheVariants.{Vector}
 use Rattle.flow_system.specs.Tables.{target_of}

@@ -1,4 +1,4 @@
-use Rattle.std.proofs.Common.{rules, ◌≡◌, ◌+◌, refl}
+use Rattle.std.proofs.Common.{rules, refl}
 use Rattle.flow_system.specs.declared.fact.Place.TheVariants.{Var}
 use Rattle.flow_system.specs.declared.fact.Part.TheVariants.{Word}
 use Rattle.flow_system.specs.Shown.{tables_of}

@@ -1,6 +1,5 @@
-use Rattle.std.proofs.Common.{rules, ◌≡◌, [], ◌++◌, sym, ap, ◌∙◌}
-use Rattle.std.proofs.lemmas.Grind.{common_steps}
-use Rattle.points_to.proofs.Sets.{at_none, at_some}
+use Rattle.std.proofs.Common.{rules}
+use Rattle.points_to.proofs.Sets.{at_none}
 use Rattle.points_to.proofs.facts.append_items.Goals as goal
 
 pub returns-in-None : goal.returns-in-None

@@ -1,4 +1,4 @@
-use Rattle.std.proofs.Common.{rules, ◌≡◌, ◌+◌, refl}
+use Rattle.std.proofs.Common.{rules, refl}
 use Rattle.flow_system.specs.Shown.{tables_of}
 use Rattle.points_to.specs.Held.{numbered, in_part, elements}
 use Rattle.points_to.specs.Known.{held}

@@ -1,4 +1,4 @@
-use Rattle.std.proofs.Common.{◌≡◌, ◌+◌, ◌-◌, ◌^◌, ◌<◌, cond, sym, subst, arith}
+use Rattle.std.proofs.Common.{◌+◌, ◌-◌, ◌^◌, ◌<◌, cond, sym, subst, arith}
 use Rattle.flow_system.specs.Shown.{tables_of, inclusions_of}
 use Rattle.points_to.specs.Known.{held}
 use Rattle.points_to.proofs.Solved.{nothing_in_every, least_at_end, count_rises}

@@ -1,4 +1,4 @@
-use Rattle.std.proofs.Common.{◌≡◌, ◌-◌, ◌+◌, ◌^◌, false, Bool, cond}
+use Rattle.std.proofs.Common.{◌≡◌, ◌-◌, ◌+◌, ◌^◌, false, cond}
 use Rattle.flow_system.specs.Shown.{tables_of, inclusions_of}
 use Rattle.points_to.specs.Known.{held}
 use Rattle.points_to.specs.Rounds.{InEvery, AllSatisfied}

@@ -1,4 +1,4 @@
-use Rattle.std.proofs.Common.{◌≡◌, ◌+◌, map, sym, subst, arith}
+use Rattle.std.proofs.Common.{◌+◌, map, sym, subst, arith}
 use Rattle.points_to.specs.Known.{held}
 use Rattle.points_to.specs.Wanted.{Lists}
 use Rattle.points_to.proofs.Read.{TableSoFar, no_table, table_more, table_done}

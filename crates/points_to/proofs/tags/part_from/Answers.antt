@@ -1,4 +1,4 @@
-use Rattle.std.proofs.Common.{rules, ◌≡◌, ◌+◌, sym, ◌∙◌}
+use Rattle.std.proofs.Common.{rules, sym, ◌∙◌}
 use Rattle.points_to.proofs.Search.{part_next, part_found, part_none}
 use Rattle.points_to.proofs.tags.part_from.Goals as goal
 

@@ -1,5 +1,4 @@
 use Rattle.std.proofs.Common.{refl, ap, sym, subst, [], ◌∷◌}
-use Rattle.flow_system.specs.declared.fact.Place.TheVariants.{Site, Var, Result}
 use Rattle.points_to.specs.Asked.{fact}
 use Rattle.points_to.specs.Known.{items_at, held, Puts, Grows}
 use Rattle.points_to.proofs.Sets.{on_ok, site_put, var_put, result_put}
