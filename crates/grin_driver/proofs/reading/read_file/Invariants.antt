@@ -1,0 +1,12 @@
+use Rattle.std.proofs.Common.{◌≡◌, ◌≤◌, true, length}
+use Rattle.grin_driver.specs.Reading.{Reading}
+use Rattle.grin_driver.proofs.reading.read_file.Given as goal
+
+abbrev pub invariant-loop-step : goal.invariant-loop-step
+invariant-loop-step g l = record {
+  opened : g.F.Shelf.is_open l.shelf ≡ true;
+  short : length l.text.items ≤ 1048577;
+  counted : l._step ≤ length l.text.items;
+  later : g.F.Shelf.faults l.fn.shelf ≤ g.F.Shelf.faults l.shelf;
+  reading : Reading (g.F.Shelf.content l.fn.shelf) (g.F.Shelf.content l.shelf) l.name l.text.items;
+}
