@@ -2,24 +2,26 @@
 #![tactic(auto)]
 
 ghost use Rattle.std.specs.Prelude.{◌≡◌, ◌≤◌, ◌*◌, IfOk, MatchOption, length, List, false};
-ghost use Rattle.parallel_move.specs.Moves.{same, is_source, DistinctTargets, NoScratch, DoesAtOnce, ends, IsTaken, Closes};
+ghost use Rattle.parallel_move.specs.Moves.{same, is_source, DistinctTargets, NoScratch, DoesAtOnce, ends, IsReordered, IsTaken, Closes};
 
 use std::alloc::{AllocError, Global};
+use std::collections::BTreeSet;
 
 /// Where a word stands: in a register by its number, in a slot of the frame by its number, or in the scratch spot, which holds
 /// nothing of its own.
-#[derive(Clone, Copy, Debug, PartialEq, Eq)]
+#[derive(Clone, Copy, Debug, PartialEq, Eq, PartialOrd, Ord)]
 pub enum Spot {
     Reg(u8),
     Slot(u32),
     Scratch,
 }
 
-/// A word goes from one spot to another, and stays where it came from.
-#[derive(Clone, Copy, Debug, PartialEq, Eq)]
+/// A word goes from one spot to another, and stays where it came from. The order of moves is by where they come from, so that
+/// the moves from one spot stand together.
+#[derive(Clone, Copy, Debug, PartialEq, Eq, PartialOrd, Ord)]
 pub struct Move {
-    pub to: Spot,
     pub from: Spot,
+    pub to: Spot,
 }
 
 fn is_same(a: Spot, b: Spot) -> bool
@@ -33,18 +35,38 @@ fn is_same(a: Spot, b: Spot) -> bool
     }
 }
 
-/// Takes out a move from the spot, if there is one.
-#[tactic(auto, using(crate::proofs::Origins::source_at, crate::proofs::Paths::taken_at))]
-fn take_from(moves: &mut Vec<Move>, spot: Spot) -> Option<Move>
-    ensures { MatchOption result ((is_source spot moves.old.items ≡ false) × (moves.new.items ≡ moves.old.items)) (λ m. IsTaken spot m moves.old.items moves.new.items) }
+/// The moves in their order, as the set of those still to be done. `AllocError` where memory is wanting.
+#[tactic(auto, using(crate::proofs::Ordered::none_yet, crate::proofs::Ordered::all_there))]
+fn in_order(alloc: Global, moves: &[Move]) -> Result<BTreeSet<Move>, AllocError>
+    requires distinct { DistinctTargets moves.now }
+    requires no_scratch { NoScratch moves.now }
+    ensures { IfOk result (λ pending. IsReordered moves.now pending.keys) }
 {
+    let mut pending: BTreeSet<Move> = BTreeSet::new(alloc);
     for i in 0..moves.len() {
-        let from = moves[i].from;
-        if is_same(spot, from) {
-            return Some(moves.remove(i));
-        }
+        pending.insert(moves[i])?;
     }
-    None
+    Ok(pending)
+}
+
+/// Takes out a move from the spot, if there is one.
+#[tactic(auto, using(crate::proofs::Ordered::none_found))]
+fn take_from(pending: &mut BTreeSet<Move>, spot: Spot) -> Option<Move>
+    ensures { MatchOption result ((is_source spot pending.old.keys ≡ false) × (pending.new.keys ≡ pending.old.keys)) (λ m. IsTaken spot m pending.old.keys pending.new.keys) }
+{
+    let first = Move {
+        from: spot,
+        to: Spot::Reg(0),
+    };
+    let last = Move {
+        from: spot,
+        to: Spot::Scratch,
+    };
+    let Some(found) = pending.range(first..=last).next().copied() else {
+        return None;
+    };
+    pending.remove(&found);
+    Some(found)
 }
 
 /// Lets the first move of the path come from the scratch spot, where it comes from this one.
@@ -71,7 +93,7 @@ fn close(path: &mut Vec<Move>, spot: Spot) -> bool
 ///
 /// Before a move is done, the moves that read its target are: they wait on one path, of which each move reads the target of
 /// the one below. Where the lowest reads the target of the uppermost, the path is a cycle, and that word waits in the
-/// scratch spot.
+/// scratch spot. The readers of a spot are found in an ordered set, so the time is near-linear in the moves.
 #[tactic(auto, using(crate::proofs::Paths::begins, crate::proofs::Paths::done))]
 pub fn order(alloc: Global, moves: &[Move]) -> Result<Vec<Move>, AllocError>
     requires distinct { DistinctTargets moves.now }
@@ -79,7 +101,7 @@ pub fn order(alloc: Global, moves: &[Move]) -> Result<Vec<Move>, AllocError>
     ensures same { IfOk result (λ steps. DoesAtOnce steps.items moves.now) }
     ensures few { IfOk result (λ steps. ends steps.items ≤ 2 * length moves.now) }
 {
-    let mut pending: Vec<Move> = Vec::from_slice(alloc, moves)?;
+    let mut pending = in_order(alloc, moves)?;
     let mut path: Vec<Move> = Vec::new(alloc);
     let mut steps: Vec<Move> = Vec::new(alloc);
     loop {
@@ -96,7 +118,7 @@ pub fn order(alloc: Global, moves: &[Move]) -> Result<Vec<Move>, AllocError>
                 }
                 steps.push(top)?;
             }
-        } else if let Some(m) = pending.pop() {
+        } else if let Some(m) = pending.pop_last() {
             if !is_same(m.to, m.from) {
                 path.push(m)?;
             }
