@@ -1,0 +1,9 @@
+pub mod Member
+pub mod Given
+pub mod Exact
+pub mod Order
+pub mod Sets
+pub mod Loops
+pub mod Search
+pub mod Solved
+pub mod Read

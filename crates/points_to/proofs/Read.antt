@@ -1,0 +1,202 @@
+-- What tables of wanted numbers say of the facts.
+use Rattle.std.proofs.Common.{◌≡◌, ◌+◌, ◌<◌, ◌≤◌, ℕ, zero, suc, Bool, true, false, ◌||◌, nat_eq, List, [], ◌∷◌, ◌++◌, map, take, length, get_or, slice_get, refl, sym, ap, ◌∙◌, subst, inl, inr, ⊎_elim, arith}
+use Rattle.std.specs.Prelude.{◌⊎◌}
+use Rattle.std.specs.List.{flat_map}
+use Rattle.std.specs.List.Sorted.{IsStrictlySortedBy}
+use Rattle.std.specs.Ordering.{nat_cmp, match_ordering}
+use Rattle.std.specs.declared.cmp.Ordering.{Ordering}
+use Rattle.std.specs.declared.cmp.Ordering.TheVariants.{Less, Equal, Greater}
+use Rattle.std.specs.BTreeSet.{insert_key}
+use Rattle.std.proofs.lemmas.Map.Keys.{IsStrictlyIncreasing-from_sorted}
+use Rattle.std.proofs.lemmas.Option.{slice_get_past}
+use Rattle.std.proofs.lemmas.List.{take_all, take_more}
+use Rattle.std.proofs.lemmas.List.Concat.{flat_map-append}
+use Rattle.flow_system.specs.declared.fact.Element.{Element}
+use Rattle.flow_system.specs.declared.fact.Element.TheVariants.{Cell, Tag, Number}
+use Rattle.flow_system.specs.declared.fact.Part.{Part}
+use Rattle.flow_system.specs.declared.fact.Part.TheVariants.{Tags as tags, Field as field, Word as word}
+use Rattle.points_to.specs.declared.facts.Item.{Item}
+use Rattle.points_to.specs.declared.facts.Facts.{Facts}
+use Rattle.points_to.specs.declared.wanted.Kind.{Kind}
+use Rattle.points_to.specs.declared.wanted.Wanted.{Wanted}
+use Rattle.points_to.specs.declared.wanted.Wanted.TheVariants.{NodeTags, Tags as all_tags, Sites as cell_sites}
+use Rattle.points_to.specs.Held.{In, here, there, item}
+use Rattle.points_to.specs.Known.{held}
+use Rattle.points_to.specs.Wanted.{tag_in, site_in, wanted_of, wanted, place_of, SameSet, is_in, Lists, numbers_by, IsTable}
+use Rattle.points_to.specs.Joined.{Joined}
+use Rattle.points_to.proofs.Member.{none_in, cons_in, one_in, in_left, in_right, in_split, when_in, in_flat, flat_in}
+use Rattle.points_to.proofs.Given.{eq_from, eq_self}
+use Rattle.points_to.proofs.Order.{nat_equal}
+
+-- a number is put into an ordered list
+number_kept : (ks : List ℕ) (k j : ℕ) → In j ks → In j (insert_key nat_cmp ks k)
+number_kept [] k j h = none_in h
+number_kept (x ∷ ks) k j h = go (number_kept ks k j) (nat_cmp k x) h
+  where
+    go : (In j ks → In j (insert_key nat_cmp ks k)) → (o : Ordering) → In j (x ∷ ks) → In j (match_ordering o (k ∷ x ∷ ks) (x ∷ ks) (x ∷ insert_key nat_cmp ks k))
+    go again Less h = there h
+    go again Equal h = h
+    go again Greater h = ⊎_elim (λ e. subst (λ y. In j (y ∷ insert_key nat_cmp ks k)) e here) (λ t. there (again t)) (cons_in x ks h)
+
+number_put : (ks : List ℕ) (k : ℕ) → In k (insert_key nat_cmp ks k)
+number_put [] k = here
+number_put (x ∷ ks) k = go (number_put ks k) (nat_cmp k x) refl
+  where
+    go : In k (insert_key nat_cmp ks k) → (o : Ordering) → nat_cmp k x ≡ o → In k (match_ordering o (k ∷ x ∷ ks) (x ∷ ks) (x ∷ insert_key nat_cmp ks k))
+    go again Less q = here
+    go again Equal q = subst (λ y. In k (y ∷ ks)) (nat_equal k x q) here
+    go again Greater q = there again
+
+number_only : (ks : List ℕ) (k j : ℕ) → In j (insert_key nat_cmp ks k) → In j ks ⊎ In j (k ∷ [])
+number_only [] k j h = inr h
+number_only (x ∷ ks) k j h = go (number_only ks k j) (nat_cmp k x) h
+  where
+    go : (In j (insert_key nat_cmp ks k) → In j ks ⊎ In j (k ∷ [])) → (o : Ordering) → In j (match_ordering o (k ∷ x ∷ ks) (x ∷ ks) (x ∷ insert_key nat_cmp ks k)) → In j (x ∷ ks) ⊎ In j (k ∷ [])
+    go again Less h = ⊎_elim (λ e. inr (subst (λ y. In j (y ∷ [])) e here)) (λ t. inl t) (cons_in k (x ∷ ks) h)
+    go again Equal h = inl h
+    go again Greater h = ⊎_elim (λ e. inl (subst (λ y. In j (y ∷ ks)) e here)) (λ t. ⊎_elim (λ a. inl (there a)) (λ b. inr b) (again t)) (cons_in x (insert_key nat_cmp ks k) h)
+
+pub put_joins : (old new : List ℕ) (n : ℕ) → new ≡ insert_key nat_cmp old n → Joined old (n ∷ []) new
+put_joins old new n e = subst (Joined old (n ∷ [])) (sym e) (record {
+  kept = number_kept old n;
+  put = λ m h. subst (λ k. In k (insert_key nat_cmp old n)) (sym (one_in n h)) (number_put old n);
+  only = number_only old n;
+})
+
+pub nothing_joins : (old : List ℕ) → Joined old [] old
+nothing_joins old = record { kept = λ n h. h; put = λ n h. none_in h; only = λ n h. inl h }
+
+-- a loop over items
+pub none_wanted : (w : Wanted) (ns : List ℕ) → ns ≡ [] → SameSet ns []
+none_wanted w ns e = record { to = λ n h. subst (In n) e h; from = λ n h. none_in h }
+
+pub wanted_more : (w : Wanted) (X : List Item) (i : ℕ) (d : Item) (old new : List ℕ) → i < length X → SameSet old (wanted w (take i X)) → Joined old (wanted_of w (get_or X i d).part (get_or X i d).word) new → SameSet new (wanted w (take (i + 1) X))
+wanted_more w X i d old new lt s j =
+    let f : Item → List ℕ = λ x. wanted_of w x.part x.word in
+    let e : wanted w (take (i + 1) X) ≡ wanted w (take i X) ++ wanted w (get_or X i d ∷ []) = ap (flat_map f) (take_more X i d lt) ∙ flat_map-append f (take i X) (get_or X i d ∷ []) in
+    subst (SameSet new) (sym e) (record {
+      to = λ n h. ⊎_elim (λ a. in_left (wanted w (take i X)) (wanted w (get_or X i d ∷ [])) (s.to n a)) (λ b. in_right (wanted w (take i X)) (wanted w (get_or X i d ∷ [])) (in_left (f (get_or X i d)) [] b)) (j.only n h);
+      from = λ n h. ⊎_elim (λ a. j.kept n (s.from n a)) (λ b. ⊎_elim (λ x. j.put n x) (λ y. none_in y) (in_split (f (get_or X i d)) [] b)) (in_split (wanted w (take i X)) (wanted w (get_or X i d ∷ [])) h);
+    })
+
+pub wanted_done : (w : Wanted) (X : List Item) (i : ℕ) (ns : List ℕ) → length X ≤ i → SameSet ns (wanted w (take i X)) → SameSet ns (wanted w X)
+wanted_done w X i ns le s = subst (λ l. SameSet ns (wanted w l)) (take_all i X le) s
+
+-- membership as a test
+or_cases : (a b : Bool) → (a || b) ≡ true → (a ≡ true) ⊎ (b ≡ true)
+or_cases true b e = inl refl
+or_cases false b e = inr e
+
+or_true : (a : Bool) → (a || true) ≡ true
+or_true true = refl
+or_true false = refl
+
+is_in-in : (n : ℕ) (ns : List ℕ) → is_in n ns ≡ true → In n ns
+is_in-in n [] e = cc
+is_in-in n (m ∷ ns) e = ⊎_elim (λ a. subst (λ k. In n (k ∷ ns)) (eq_from n m a) here) (λ b. there (is_in-in n ns b)) (or_cases (nat_eq n m) (is_in n ns) e)
+
+in-is_in : (n : ℕ) (ns : List ℕ) → In n ns → is_in n ns ≡ true
+in-is_in n [] h = none_in h
+in-is_in n (m ∷ ns) h = ⊎_elim
+    (λ e. subst (λ k. (nat_eq n k || is_in n ns) ≡ true) e (ap (λ b. b || is_in n ns) (eq_self n)))
+    (λ t. ap (λ b. nat_eq n m || b) (in-is_in n ns t) ∙ or_true (nat_eq n m))
+    (cons_in m ns h)
+
+both_ways : (a b : Bool) → (a ≡ true → b ≡ true) → (b ≡ true → a ≡ true) → a ≡ b
+both_ways true b f g = sym (f refl)
+both_ways false true f g = g refl
+both_ways false false f g = refl
+
+members : (w : Wanted) (X : List Item) (ns : List ℕ) → Lists w X ns → SameSet ns (wanted w X)
+members w X ns l = record {
+  to = λ n h. is_in-in n (wanted w X) (sym (l.same n) ∙ in-is_in n ns h);
+  from = λ n h. is_in-in n ns (l.same n ∙ in-is_in n (wanted w X) h);
+}
+
+pub lists_of : (w : Wanted) (X : List Item) (ns : List ℕ) → SameSet ns (wanted w X) → IsStrictlySortedBy nat_cmp ns → Lists w X ns
+lists_of w X ns s o = record {
+  ascending = IsStrictlyIncreasing-from_sorted ns o;
+  same = λ n. both_ways (is_in n ns) (is_in n (wanted w X)) (λ e. in-is_in n (wanted w X) (s.to n (is_in-in n ns e))) (λ e. in-is_in n ns (s.from n (is_in-in n (wanted w X) e)));
+}
+
+-- numbers under a newtype
+pub unwrapped : {X : Type 0} (number : X → ℕ) (wrap : ℕ → X) → ((n : ℕ) → number (wrap n) ≡ n) → (ns : List ℕ) → map number (map wrap ns) ≡ ns
+unwrapped number wrap e [] = refl
+unwrapped number wrap e (n ∷ ns) = ap (λ k. k ∷ map number (map wrap ns)) (e n) ∙ ap (λ l. n ∷ l) (unwrapped number wrap e ns)
+
+-- tables
+no_numbers : (w : Wanted) → Lists w [] []
+no_numbers w = record { ascending = λ k lt. absurd (omega (arith, lt)); same = λ n. refl }
+
+module _ {X : Type 0} (number : X → ℕ) (f : Facts) (k : Kind) (w : Wanted) where
+  pub record TableSoFar (table : List (List X)) (n : ℕ) : Type 0 where
+    pub many : length table ≡ n
+    pub lists : (m : ℕ) → m < n → Lists w (held f (place_of k m)) (numbers_by number (slice_get table m))
+
+  pub no_table : TableSoFar [] 0
+  no_table = record { many = refl; lists = λ m lt. absurd (omega (arith, lt)) }
+
+  pub table_more : (table : List (List X)) (n : ℕ) (xs : List X) → TableSoFar table n → Lists w (held f (place_of k n)) (map number xs) → TableSoFar (table ++ xs ∷ []) (n + 1)
+  table_more table n xs t l = record {
+    many = longer table ∙ ap (λ m. m + 1) t.many;
+    lists = λ m lt. entry table m xs (λ m. Lists w (held f (place_of k m))) (λ m lt. t.lists m (omega (arith, t.many))) (subst (λ n. Lists w (held f (place_of k n)) (map number xs)) (sym t.many) l) (omega (arith, t.many, lt));
+  }
+    where
+      longer : (table : List (List X)) → length (table ++ xs ∷ []) ≡ length table + 1
+      longer [] = refl
+      longer (y ∷ table) = let e : length (table ++ xs ∷ []) ≡ length table + 1 = longer table in omega (arith, e)
+
+      entry : (table : List (List X)) (m : ℕ) (xs : List X) (P : ℕ → List ℕ → Type 0) → ((m : ℕ) → m < length table → P m (numbers_by number (slice_get table m))) → P (length table) (map number xs) → m < length table + 1 → P m (numbers_by number (slice_get (table ++ xs ∷ []) m))
+      entry [] zero xs P all last lt = last
+      entry [] (suc m) xs P all last lt = absurd (omega (arith, lt))
+      entry (y ∷ table) zero xs P all last lt = all 0 (omega arith)
+      entry (y ∷ table) (suc m) xs P all last lt = entry table m xs (λ m. P (suc m)) (λ m lt. all (suc m) (omega (arith, lt))) last (omega (arith, lt))
+
+  pub table_done : (table : List (List X)) (n : ℕ) → TableSoFar table n → ((m : ℕ) → n ≤ m → held f (place_of k m) ≡ []) → IsTable number f k w table
+  table_done table n t past m = ⊎_elim
+      (λ lt. t.lists m lt)
+      (λ le. subst (λ X. Lists w X (numbers_by number (slice_get table m))) (sym (past m le)) (subst (λ o. Lists w [] (numbers_by number o)) (sym (slice_get_past table m (omega (arith, t.many, le)))) (no_numbers w)))
+      (below_or_not m n)
+    where
+      below_or_not : (j i : ℕ) → (j < i) ⊎ (i ≤ j)
+      below_or_not j zero = inr (omega arith)
+      below_or_not zero (suc i) = inl (omega arith)
+      below_or_not (suc j) (suc i) = ⊎_elim (λ a. inl (omega (arith, a))) (λ b. inr (omega (arith, b))) (below_or_not j i)
+
+-- what readers say
+tag_is : (u : Element) (t : ℕ) → In t (tag_in u) → u ≡ Tag t
+tag_is (Cell s) t h = none_in h
+tag_is (Tag v) t h = ap Tag (sym (one_in v h))
+tag_is Number t h = none_in h
+
+site_is : (u : Element) (s : ℕ) → In s (site_in u) → u ≡ Cell s
+site_is (Cell v) s h = ap Cell (sym (one_in v h))
+site_is (Tag t) s h = none_in h
+site_is Number s h = none_in h
+
+pub node_tags : (X : List Item) (ns : List ℕ) → Lists NodeTags X ns → (t : ℕ) → (In t ns → In (item tags (Tag t)) X) × (In (item tags (Tag t)) X → In t ns)
+node_tags X ns l t = (λ h. let r = flat_in (λ i. wanted_of NodeTags i.part i.word) X ((members NodeTags X ns l).to t h) in by r.0.part r.0.word r.1 r.2, λ h. (members NodeTags X ns l).from t (in_flat (λ i. wanted_of NodeTags i.part i.word) X h here))
+  where
+    by : (q : Part) (u : Element) → In (item q u) X → In t (wanted_of NodeTags q u) → In (item tags (Tag t)) X
+    by tags u x y = subst (λ v. In (item tags v) X) (tag_is u t y) x
+    by (field c i) u x y = none_in y
+    by (word j) u x y = none_in y
+
+pub tags_and_words : (X : List Item) (ns : List ℕ) → Lists all_tags X ns → (t : ℕ) → (In t ns → In (item tags (Tag t)) X ⊎ In (item (word 0) (Tag t)) X) × (In (item tags (Tag t)) X ⊎ In (item (word 0) (Tag t)) X → In t ns)
+tags_and_words X ns l t = (
+  λ h. let r = flat_in (λ i. wanted_of all_tags i.part i.word) X ((members all_tags X ns l).to t h) in by r.0.part r.0.word r.1 r.2,
+  λ o. (members all_tags X ns l).from t (⊎_elim (λ h. in_flat (λ i. wanted_of all_tags i.part i.word) X h here) (λ h. in_flat (λ i. wanted_of all_tags i.part i.word) X h here) o),
+)
+  where
+    by : (q : Part) (u : Element) → In (item q u) X → In t (wanted_of all_tags q u) → In (item tags (Tag t)) X ⊎ In (item (word 0) (Tag t)) X
+    by tags u x y = inl (subst (λ v. In (item tags v) X) (tag_is u t y) x)
+    by (field c i) u x y = none_in y
+    by (word j) u x y = let w = when_in (nat_eq j 0) (tag_in u) y in inr (subst (λ v. In (item (word 0) v) X) (tag_is u t w.1) (subst (λ j. In (item (word j) u) X) (eq_from j 0 w.0) x))
+
+pub cells : (X : List Item) (ns : List ℕ) → Lists cell_sites X ns → (s : ℕ) → (In s ns → In (item (word 0) (Cell s)) X) × (In (item (word 0) (Cell s)) X → In s ns)
+cells X ns l s = (λ h. let r = flat_in (λ i. wanted_of cell_sites i.part i.word) X ((members cell_sites X ns l).to s h) in by r.0.part r.0.word r.1 r.2, λ h. (members cell_sites X ns l).from s (in_flat (λ i. wanted_of cell_sites i.part i.word) X h here))
+  where
+    by : (q : Part) (u : Element) → In (item q u) X → In s (wanted_of cell_sites q u) → In (item (word 0) (Cell s)) X
+    by tags u x y = none_in y
+    by (field c i) u x y = none_in y
+    by (word j) u x y = let w = when_in (nat_eq j 0) (site_in u) y in subst (λ v. In (item (word 0) v) X) (site_is u s w.1) (subst (λ j. In (item (word j) u) X) (eq_from j 0 w.0) x)

@@ -1,0 +1,189 @@
+-- Rounds until nothing is added give the least solution.
+use Rattle.std.proofs.Common.{◌≡◌, ◌+◌, ◌-◌, ◌^◌, ◌<◌, ◌≤◌, ℕ, zero, suc, Bool, true, false, cond, ◌||◌, List, [], ◌∷◌, ◌++◌, take, length, get_or, Some, slice_get, refl, sym, ap, ◌∙◌, subst, inl, inr, ⊎_elim, arith}
+use Rattle.std.specs.Prelude.{◌⊎◌, IsTrue}
+use Rattle.std.proofs.lemmas.List.{take_all, take_more}
+use Rattle.flow_system.specs.declared.fact.Element.{Element}
+use Rattle.flow_system.specs.declared.fact.Element.TheVariants.{Cell, Tag, Number}
+use Rattle.flow_system.specs.declared.fact.Place.{Place}
+use Rattle.flow_system.specs.declared.fact.Part.{Part}
+use Rattle.flow_system.specs.declared.inclusion.Inclusion as code
+use Rattle.flow_system.specs.Inclusions.{Inclusion}
+use Rattle.flow_system.specs.Tables.{Tables}
+use Rattle.flow_system.specs.Solution.{At, same_word, among, IsLeast}
+use Rattle.flow_system.specs.Shown.{inclusion_of, shown}
+use Rattle.flow_system.proofs.Least.{least_by_rounds, in_every}
+use Rattle.points_to.specs.declared.facts.Item.{Item}
+use Rattle.points_to.specs.declared.facts.Fact.{Fact}
+use Rattle.points_to.specs.declared.facts.Facts.{Facts}
+use Rattle.points_to.specs.Held.{In, here, there, item, picked}
+use Rattle.points_to.specs.Asked.{fact, demands}
+use Rattle.points_to.specs.Known.{held, Grows, solution_of}
+use Rattle.points_to.specs.Rounds.{InEvery, Satisfied, AllSatisfied, Counted}
+use Rattle.points_to.proofs.Member.{none_in, cons_in, in_left, in_right, in_split}
+use Rattle.points_to.proofs.Given.{eq_from, eq_self, picked_in, in_picked}
+use Rattle.points_to.proofs.Exact.{demands_mean, in_demands}
+
+-- the solution that has what is known
+same_word-true : (u v : Element) → IsTrue (same_word u v) → u ≡ v
+same_word-true (Cell s) (Cell t) e = ap Cell (eq_from s t e)
+same_word-true (Cell s) (Tag t) e = cc
+same_word-true (Cell s) Number e = cc
+same_word-true (Tag s) (Cell t) e = cc
+same_word-true (Tag s) (Tag t) e = ap Tag (eq_from s t e)
+same_word-true (Tag s) Number e = cc
+same_word-true Number (Cell t) e = cc
+same_word-true Number (Tag t) e = cc
+same_word-true Number Number e = refl
+
+same_word-self : (u : Element) → IsTrue (same_word u u)
+same_word-self (Cell s) = eq_self s
+same_word-self (Tag t) = eq_self t
+same_word-self Number = refl
+
+or_cases : (a b : Bool) → IsTrue (a || b) → IsTrue a ⊎ IsTrue b
+or_cases true b e = inl refl
+or_cases false b e = inr e
+
+or_left : (a b : Bool) → IsTrue a → IsTrue (a || b)
+or_left true b e = refl
+or_left false b e = cc
+
+or_right : (a b : Bool) → IsTrue b → IsTrue (a || b)
+or_right true b e = refl
+or_right false b e = e
+
+pub among_in : (u : Element) (us : List Element) → IsTrue (among u us) → In u us
+among_in u [] e = cc
+among_in u (v ∷ us) e = ⊎_elim (λ a. subst (λ w. In u (w ∷ us)) (same_word-true u v a) here) (λ b. there (among_in u us b)) (or_cases (same_word u v) (among u us) e)
+
+pub in_among : (u : Element) (us : List Element) → In u us → IsTrue (among u us)
+in_among u [] h = none_in h
+in_among u (v ∷ us) h = ⊎_elim (λ e. or_left (same_word u v) (among u us) (subst (λ w. IsTrue (same_word u w)) e (same_word-self u))) (λ t. or_right (same_word u v) (among u us) (in_among u us t)) (cons_in v us h)
+
+pub known_at : (H : Place → List Item) (q : Place) (part : Part) (u : Element) → In (item part u) (H q) → At (solution_of H) q part u
+known_at H q part u h = record { there = in_among u (picked part (H q)) (in_picked part (H q) h) }
+
+pub at_known : (H : Place → List Item) (q : Place) (part : Part) (u : Element) → At (solution_of H) q part u → In (item part u) (H q)
+at_known H q part u a = picked_in part (H q) (among_in u (picked part (H q)) a.there)
+
+module _ (p : Tables) (cs : List Inclusion) where
+  pub nothing_in_every : (H : Place → List Item) → ((q : Place) → H q ≡ []) → InEvery p cs H
+  nothing_in_every H e = record { by = λ B m q part u h. none_in (subst (In (item part u)) (e q) h) }
+
+  -- what an inclusion asks for is in every solution, once all that is known is
+  pub grown_in_every : (H H' : Place → List Item) (i : ℕ) (c : Inclusion) → slice_get cs i ≡ Some c → Grows H H' (demands p H c) → InEvery p cs H → InEvery p cs H'
+  grown_in_every H H' i c e g every = record {
+    by = λ B m q part u h. ⊎_elim
+        (λ a. every.by B m q part u a)
+        (λ b. in_every p cs (solution_of H) B m (λ q part u a. every.by B m q part u (at_known H q part u a)) i c e q part u (demands_mean p H (solution_of H) (known_at H) c (fact q (item part u)) b))
+        (g.only q (item part u) h);
+  }
+
+  pub least_at_end : (H : Place → List Item) → InEvery p cs H → AllSatisfied p cs H → IsLeast p cs (solution_of H)
+  least_at_end H every all = least_by_rounds p cs (solution_of H)
+      (λ i c e q part u d. known_at H q part u (all.by i c e (fact q (item part u)) (in_demands p H (solution_of H) (at_known H) c q part u d)))
+      (λ B m q part u a. every.by B m q part u (at_known H q part u a))
+
+-- several facts
+grows_none : (H : Place → List Item) → Grows H H []
+grows_none H = record { kept = λ q j h. h; put = λ f h. none_in h; only = λ q j h. inl h }
+
+grows_more : (H H' H'' : Place → List Item) (fs : List Fact) (f : Fact) → Grows H H' fs → Grows H' H'' (f ∷ []) → Grows H H'' (fs ++ f ∷ [])
+grows_more H H' H'' fs f g k = record {
+  kept = λ q j h. k.kept q j (g.kept q j h);
+  put = λ e h. ⊎_elim (λ a. k.kept e.place e.item (g.put e a)) (λ b. k.put e b) (in_split fs (f ∷ []) h);
+  only = λ q j h. ⊎_elim (λ a. ⊎_elim (λ x. inl x) (λ y. inr (in_left fs (f ∷ []) y)) (g.only q j a)) (λ b. inr (in_right fs (f ∷ []) b)) (k.only q j h);
+}
+
+or_false-left : (a b : Bool) → (a || b) ≡ false → a ≡ false
+or_false-left true b e = cc
+or_false-left false b e = refl
+
+or_false-right : (a b : Bool) → (a || b) ≡ false → b ≡ false
+or_false-right true b e = cc
+or_false-right false b e = e
+
+counted_on : (f f' f'' : Facts) (a b : Bool) → Counted f f' a → Counted f' f'' b → Counted f f'' (a || b)
+counted_on f f' f'' a b x y = record {
+  no_less = omega (arith, x.no_less, y.no_less);
+  more = λ e. ⊎_elim (λ l. let n : f.count < f'.count = x.more l in omega (arith, y.no_less)) (λ r. let n : f'.count < f''.count = y.more r in omega (arith, x.no_less)) (or_cases a b e);
+}
+
+pub record Added (old new : Facts) (added : Bool) (fs : List Fact) : Type 0 where
+  pub grown : Grows (held old) (held new) fs
+  pub still : added ≡ false → new ≡ old
+  pub counted : Counted old new added
+
+pub none_added : (f : Facts) → Added f f false []
+none_added f = record { grown = grows_none (held f); still = λ e. refl; counted = record { no_less = omega arith; more = λ e. cc } }
+
+pub added_more : (old now new : Facts) (a b both : Bool) (fs : List Fact) (i : ℕ) (d : Fact) → i < length fs → both ≡ (a || b) → Added old now a (take i fs)
+    → Grows (held now) (held new) (get_or fs i d ∷ []) → (b ≡ false → new ≡ now) → Counted now new b → Added old new both (take (i + 1) fs)
+added_more old now new a b both fs i d lt e x g s c = subst (λ l. Added old new both l) (sym (take_more fs i d lt)) (subst (λ t. Added old new t (take i fs ++ get_or fs i d ∷ [])) (sym e) (record {
+  grown = grows_more (held old) (held now) (held new) (take i fs) (get_or fs i d) x.grown g;
+  still = λ q. s (or_false-right a b q) ∙ x.still (or_false-left a b q);
+  counted = counted_on old now new a b x.counted c;
+}))
+
+pub added_all : (old new : Facts) (a : Bool) (fs : List Fact) (i : ℕ) → length fs ≤ i → Added old new a (take i fs) → Added old new a fs
+added_all old new a fs i le x = subst (Added old new a) (take_all i fs le) x
+
+-- a fact's count
+pub counted_one : (f f' : Facts) (b : Bool) → (b ≡ false → f' ≡ f) → (b ≡ true → f.count < f'.count) → Counted f f' b
+counted_one f f' true s c = let n : f.count < f'.count = c refl in record { no_less = omega arith; more = λ e. n }
+counted_one f f' false s c = let n : f'.count ≡ f.count = ap (λ g. g.count) (s refl) in record { no_less = omega arith; more = λ e. cc }
+
+below_or_not : (j i : ℕ) → (j < i) ⊎ (i ≤ j)
+below_or_not j zero = inr (omega arith)
+below_or_not zero (suc i) = inl (omega arith)
+below_or_not (suc j) (suc i) = ⊎_elim (λ a. inl (omega (arith, a))) (λ b. inr (omega (arith, b))) (below_or_not j i)
+
+-- each round but the last raises the count
+pub count_rises : (f f' : Facts) (more : Bool) → f.count < 2 ^ 64 → Counted f f' more → (2 ^ 64 - f'.count) + cond more 1 0 < (2 ^ 64 - f.count) + 1
+count_rises f f' true lt k = let n : f.count < f'.count = k.more refl in omega arith
+count_rises f f' false lt k = let n : f.count ≤ f'.count = k.no_less in omega arith
+
+-- a round, so far
+module _ (p : Tables) (all : List code.Inclusion) where
+  pub record RoundSoFar (old now : Facts) (added : Bool) (n : ℕ) : Type 0 where
+    pub sound : InEvery p (shown all) (held old) → InEvery p (shown all) (held now)
+    pub satisfied : added ≡ false → (i : ℕ) (c : Inclusion) → i < n → slice_get (shown all) i ≡ Some c → Satisfied p (shown all) (held now) c
+    pub counted : Counted old now added
+
+  pub round_begins : (f : Facts) → RoundSoFar f f false 0
+  round_begins f = record { sound = λ e. e; satisfied = λ e i c lt q. absurd (omega arith); counted = record { no_less = omega arith; more = λ e. cc } }
+
+  shown_at : (xs : List code.Inclusion) (i : ℕ) (c : code.Inclusion) → i < length xs → c ≡ get_or xs i c → slice_get (shown xs) i ≡ Some (inclusion_of c)
+  shown_at [] i c lt e = absurd (omega arith)
+  shown_at (x ∷ xs) zero c lt e = ap (λ y. Some (inclusion_of y)) (sym e)
+  shown_at (x ∷ xs) (suc i) c lt e = shown_at xs i c (omega arith) e
+
+  some_same : (c d : Inclusion) → Some c ≡ Some d → c ≡ d
+  some_same c d e = cc
+
+  pub round_on : (old now new : Facts) (a b both : Bool) (i : ℕ) (c : code.Inclusion) → i < length all → c ≡ get_or all i c → both ≡ (a || b) → RoundSoFar old now a i
+      → Grows (held now) (held new) (demands p (held now) (inclusion_of c)) → (b ≡ false → new ≡ now) → Counted now new b → RoundSoFar old new both (i + 1)
+  round_on old now new a b both i c lt is e x g s k = subst (λ t. RoundSoFar old new t (i + 1)) (sym e) (record {
+    sound = λ every. grown_in_every p (shown all) (held now) (held new) i (inclusion_of c) (shown_at all i c lt is) g (x.sound every);
+    satisfied = λ q j d l r. next q j d l r (below_or_not j i);
+    counted = counted_on old now new a b x.counted k;
+  })
+    where
+      next : (a || b) ≡ false → (j : ℕ) (d : Inclusion) → j < i + 1 → slice_get (shown all) j ≡ Some d → (j < i) ⊎ (i ≤ j) → Satisfied p (shown all) (held new) d
+      next q j d l r o = subst (λ f. Satisfied p (shown all) (held f) d) (sym (s (or_false-right a b q))) (⊎_elim
+          (λ lt'. x.satisfied (or_false-left a b q) j d lt' r)
+          (λ le. λ f h.
+          let same : j ≡ i = omega arith in
+          let same' : d ≡ inclusion_of c = some_same d (inclusion_of c) (sym r ∙ ap (slice_get (shown all)) same ∙ shown_at all i c lt is) in
+          let put = g.put f (subst (λ d. In f (demands p (held now) d)) same' h) in
+          subst (λ k. In f.item (held k f.place)) (s (or_false-right a b q)) put)
+          o)
+
+  pub round_done : (old new : Facts) (added : Bool) (n : ℕ) → length all ≤ n → RoundSoFar old new added n → added ≡ false → AllSatisfied p (shown all) (held new)
+  round_done old new added n le x e = record { by = λ i c q. x.satisfied e i c (within all i c n le q) q }
+    where
+      within : (xs : List code.Inclusion) (i : ℕ) (c : Inclusion) (n : ℕ) → length xs ≤ n → slice_get (shown xs) i ≡ Some c → i < n
+      within [] i c n le q = cc
+      within (x ∷ xs) zero c n le q = omega arith
+      within (x ∷ xs) (suc i) c zero le q = absurd (omega arith)
+      within (x ∷ xs) (suc i) c (suc n) le q = let h : i < n = within xs i c n (omega arith) q in omega arith

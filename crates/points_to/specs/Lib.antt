@@ -1,0 +1,9 @@
+pub mod Held
+pub mod Asked
+pub mod Known
+pub mod Rounds
+pub mod Row
+pub mod Shift
+pub mod Wanted
+pub mod Joined
+pub mod Found

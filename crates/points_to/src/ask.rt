@@ -1,0 +1,481 @@
+// What inclusions ask for, by what is known so far.
+
+ghost use Rattle.std.specs.Prelude.{◌≡◌, [], ◌∷◌, ◌++◌, Some, OnOk};
+ghost use Rattle.std.specs.List.{flat_map};
+ghost use Rattle.flow_system.specs.Inclusions.{held as held', value, evaluated, arguments, to, into, forces, applies};
+ghost use Rattle.flow_system.specs.Solution.{width};
+ghost use Rattle.flow_system.specs.Shown.{tables_of, source_of, sink_of, inclusion_of};
+ghost use Rattle.flow_system.specs.Tables.{params_of};
+ghost use Rattle.points_to.specs.Held.{in_part, as_word, as_nodes, elements, items};
+ghost use Rattle.points_to.specs.Asked.{facts_at, vector_facts, target_facts, cell_facts, asked, flow_facts, delayed_facts, forced, called_facts, applied, demands};
+ghost use Rattle.points_to.specs.Known.{held};
+
+use crate::facts::{Fact, Facts, Item};
+use crate::give::{arguments, elements, items, value_nodes, width};
+use crate::nodes::{as_nodes, as_word, evaluated, in_part, picked};
+use crate::tags::{called, delayed};
+use flow_system::fact::{Element, Part, Place};
+use flow_system::inclusion::{FlowSystem, Inclusion, Sink, Source};
+use grin_syntax::program::{ProcId, Target, Val, VarId, Word};
+use seq::Seq;
+use std::alloc::{AllocError, Global};
+
+// Items, at a place.
+fn facts_at(place: Place, items: &[Item], out: &mut Seq<Fact>) -> Result<(), AllocError>
+    ensures { OnOk result (out.new ≡ out.old ++ facts_at place items.now) }
+{
+    for item in items {
+        out.push(Fact { place, item: *item })?;
+    }
+    Ok(())
+}
+
+// Some items as nodes, at a place.
+fn nodes_at_place(
+    alloc: Global,
+    system: &FlowSystem,
+    k: Option<usize>,
+    items: &[Item],
+    place: Place,
+    out: &mut Seq<Fact>,
+) -> Result<(), AllocError>
+    ensures { OnOk result (out.new ≡ out.old ++ facts_at place (as_nodes (tables_of system.now) k items.now)) }
+{
+    let mut nodes = Seq::new(alloc);
+    as_nodes(alloc, system, k, items, &mut nodes)?;
+    facts_at(place, nodes.as_slice(), out)
+}
+
+// Words, at a variable of one word.
+fn words_at_variable(
+    alloc: Global,
+    x: VarId,
+    words: &[Element],
+    out: &mut Seq<Fact>,
+) -> Result<(), AllocError>
+    ensures { OnOk result (out.new ≡ out.old ++ facts_at (Place.Var x.0) (in_part (Part.Word 0) words.now)) }
+{
+    let mut found = Seq::new(alloc);
+    in_part(Part::Word(0), words, &mut found)?;
+    facts_at(Place::Var(x.0), found.as_slice(), out)
+}
+
+// Word j of some items, at a variable.
+fn word_facts(
+    alloc: Global,
+    system: &FlowSystem,
+    j: u32,
+    items: &[Item],
+    x: VarId,
+    out: &mut Seq<Fact>,
+) -> Result<(), AllocError>
+    ensures { OnOk result (out.new ≡ out.old ++ facts_at (Place.Var x.0) (in_part (Part.Word 0) (as_word (tables_of system.now) j items.now))) }
+{
+    let mut words = Seq::new(alloc);
+    as_word(alloc, system, j, items, &mut words)?;
+    words_at_variable(alloc, x, words.as_slice(), out)
+}
+
+// The words of some items, at the variables of a vector. More than can be numbered are want of memory.
+fn vector_facts(
+    alloc: Global,
+    system: &FlowSystem,
+    items: &[Item],
+    xs: &[VarId],
+    out: &mut Seq<Fact>,
+) -> Result<(), AllocError>
+    ensures { OnOk result (out.new ≡ out.old ++ vector_facts (tables_of system.now) items.now 0 xs.now) }
+{
+    let mut j: u32 = 0;
+    for x in xs {
+        word_facts(alloc, system, j, items, *x, out)?;
+        j = j.checked_add(1).ok_or(AllocError)?;
+    }
+    Ok(())
+}
+
+fn target_facts(
+    alloc: Global,
+    system: &FlowSystem,
+    k: Option<usize>,
+    items: &[Item],
+    target: &Target,
+    out: &mut Seq<Fact>,
+) -> Result<(), AllocError>
+    ensures { OnOk result (out.new ≡ out.old ++ target_facts (tables_of system.now) k items.now target.now) }
+{
+    match target {
+        Target::Nothing => Ok(()),
+        Target::Node(x) => nodes_at_place(alloc, system, k, items, Place::Var(x.0), out),
+        Target::One(x) => {
+            let mut words = Seq::new(alloc);
+            picked(Part::Word(0), items, &mut words)?;
+            words_at_variable(alloc, *x, words.as_slice(), out)
+        }
+        Target::Vector(xs) => vector_facts(alloc, system, items, xs.as_slice(), out),
+    }
+}
+
+fn cell_facts(nodes: &[Item], word: Element, out: &mut Seq<Fact>) -> Result<(), AllocError>
+    ensures { OnOk result (out.new ≡ out.old ++ cell_facts nodes.now word) }
+{
+    match word {
+        Element::Cell(s) => facts_at(Place::Site(s), nodes, out),
+        Element::Tag(_) => Ok(()),
+        Element::Number => Ok(()),
+    }
+}
+
+fn cells_facts(nodes: &[Item], words: &[Element], out: &mut Seq<Fact>) -> Result<(), AllocError>
+    ensures { OnOk result (out.new ≡ out.old ++ flat_map (cell_facts nodes.now) words.now) }
+{
+    for word in words {
+        cell_facts(nodes, *word, out)?;
+    }
+    Ok(())
+}
+
+// So that items, of so many words at most, reach a sink.
+fn asked(
+    alloc: Global,
+    system: &FlowSystem,
+    facts: &Facts,
+    k: Option<usize>,
+    items: &[Item],
+    sink: &Sink,
+    out: &mut Seq<Fact>,
+) -> Result<(), AllocError>
+    ensures { OnOk result (out.new ≡ out.old ++ asked (tables_of system.now) (held facts.now) k items.now (sink_of sink.now)) }
+{
+    match sink {
+        Sink::To(target) => target_facts(alloc, system, k, items, target, out),
+        Sink::Result(f) => facts_at(Place::Result(f.0), items, out),
+        Sink::Site(s) => nodes_at_place(alloc, system, k, items, Place::Site(s.0), out),
+        Sink::CellsAt(w) => cells_asked(alloc, system, facts, k, items, *w, out),
+    }
+}
+
+fn cells_asked(
+    alloc: Global,
+    system: &FlowSystem,
+    facts: &Facts,
+    k: Option<usize>,
+    items: &[Item],
+    w: Word,
+    out: &mut Seq<Fact>,
+) -> Result<(), AllocError>
+    ensures { OnOk result (out.new ≡ out.old ++ flat_map (cell_facts (as_nodes (tables_of system.now) k items.now)) (elements (tables_of system.now) (held facts.now) w)) }
+{
+    let mut nodes = Seq::new(alloc);
+    as_nodes(alloc, system, k, items, &mut nodes)?;
+    let mut cells = Seq::new(alloc);
+    elements(alloc, system, facts, w, &mut cells)?;
+    cells_facts(nodes.as_slice(), cells.as_slice(), out)
+}
+
+fn flow_facts(
+    alloc: Global,
+    system: &FlowSystem,
+    facts: &Facts,
+    source: &Source,
+    sink: &Sink,
+    out: &mut Seq<Fact>,
+) -> Result<(), AllocError>
+    ensures { OnOk result (out.new ≡ out.old ++ flow_facts (tables_of system.now) (held facts.now) (source_of source.now) (sink_of sink.now)) }
+{
+    let mut given = Seq::new(alloc);
+    items(alloc, system, facts, source, &mut given)?;
+    asked(
+        alloc,
+        system,
+        facts,
+        width(source),
+        given.as_slice(),
+        sink,
+        out,
+    )
+}
+
+// Arguments, at the parameters of a procedure.
+fn params_facts(
+    alloc: Global,
+    system: &FlowSystem,
+    f: u32,
+    items: &[Item],
+    out: &mut Seq<Fact>,
+) -> Result<(), AllocError>
+    ensures { OnOk result (out.new ≡ out.old ++ target_facts (tables_of system.now) (Some 1) items.now (params_of (tables_of system.now) f)) }
+{
+    match system.params.get(f as usize) {
+        Some(xs) => vector_facts(alloc, system, items, xs.as_slice(), out),
+        None => Ok(()),
+    }
+}
+
+// The fields of a tag at a site, as arguments.
+fn delayed_arguments(
+    alloc: Global,
+    system: &FlowSystem,
+    facts: &Facts,
+    s: u32,
+    t: u32,
+    out: &mut Seq<Item>,
+) -> Result<(), AllocError>
+    ensures { OnOk result (out.new ≡ out.old ++ items (tables_of system.now) (held facts.now) (arguments (held' (Place.Site s)) t [])) }
+{
+    let mut there = Seq::new(alloc);
+    facts.append(Place::Site(s), &mut there)?;
+    let mut nodes = Seq::new(alloc);
+    as_nodes(alloc, system, None, there.as_slice(), &mut nodes)?;
+    arguments(alloc, system, facts, t, &[], nodes.as_slice(), out)
+}
+
+fn delayed_calls(
+    alloc: Global,
+    system: &FlowSystem,
+    facts: &Facts,
+    s: u32,
+    t: u32,
+    f: u32,
+    out: &mut Seq<Fact>,
+) -> Result<(), AllocError>
+    ensures { OnOk result (out.new ≡ out.old ++ flow_facts (tables_of system.now) (held facts.now) (arguments (held' (Place.Site s)) t []) (to (params_of (tables_of system.now) f))) }
+{
+    let mut given = Seq::new(alloc);
+    delayed_arguments(alloc, system, facts, s, t, &mut given)?;
+    params_facts(alloc, system, f, given.as_slice(), out)
+}
+
+// The evaluated results of a procedure.
+fn evaluated_result(
+    alloc: Global,
+    system: &FlowSystem,
+    facts: &Facts,
+    f: u32,
+    out: &mut Seq<Item>,
+) -> Result<(), AllocError>
+    ensures { OnOk result (out.new ≡ out.old ++ items (tables_of system.now) (held facts.now) (evaluated (held' (Place.Result f)))) }
+{
+    let mut results = Seq::new(alloc);
+    facts.append(Place::Result(f), &mut results)?;
+    evaluated(alloc, system, None, results.as_slice(), out)
+}
+
+fn evaluated_results(
+    alloc: Global,
+    system: &FlowSystem,
+    facts: &Facts,
+    s: u32,
+    f: u32,
+    out: &mut Seq<Fact>,
+) -> Result<(), AllocError>
+    ensures { OnOk result (out.new ≡ out.old ++ flow_facts (tables_of system.now) (held facts.now) (evaluated (held' (Place.Result f))) (into (Place.Site s))) }
+{
+    let mut given = Seq::new(alloc);
+    evaluated_result(alloc, system, facts, f, &mut given)?;
+    nodes_at_place(
+        alloc,
+        system,
+        Some(1),
+        given.as_slice(),
+        Place::Site(s),
+        out,
+    )
+}
+
+// The delayed calls of f in the cells of a site: their fields are its arguments, and its evaluated results are there.
+fn delayed_facts(
+    alloc: Global,
+    system: &FlowSystem,
+    facts: &Facts,
+    s: u32,
+    t: u32,
+    f: u32,
+    out: &mut Seq<Fact>,
+) -> Result<(), AllocError>
+    ensures { OnOk result (out.new ≡ out.old ++ delayed_facts (tables_of system.now) (held facts.now) s t (Some f)) }
+{
+    delayed_calls(alloc, system, facts, s, t, f, out)?;
+    evaluated_results(alloc, system, facts, s, f, out)?;
+    Ok(())
+}
+
+fn forced(
+    alloc: Global,
+    system: &FlowSystem,
+    facts: &Facts,
+    s: u32,
+    word: Element,
+    out: &mut Seq<Fact>,
+) -> Result<(), AllocError>
+    ensures { OnOk result (out.new ≡ out.old ++ forced (tables_of system.now) (held facts.now) s word) }
+{
+    match word {
+        Element::Cell(_) => Ok(()),
+        Element::Tag(t) => match delayed(system, t) {
+            Some(f) => delayed_facts(alloc, system, facts, s, t, f, out),
+            None => Ok(()),
+        },
+        Element::Number => Ok(()),
+    }
+}
+
+fn forced_all(
+    alloc: Global,
+    system: &FlowSystem,
+    facts: &Facts,
+    s: u32,
+    words: &[Element],
+    out: &mut Seq<Fact>,
+) -> Result<(), AllocError>
+    ensures { OnOk result (out.new ≡ out.old ++ flat_map (forced (tables_of system.now) (held facts.now) s) words.now) }
+{
+    for word in words {
+        forced(alloc, system, facts, s, *word, out)?;
+    }
+    Ok(())
+}
+
+fn forces_facts(
+    alloc: Global,
+    system: &FlowSystem,
+    facts: &Facts,
+    s: u32,
+    out: &mut Seq<Fact>,
+) -> Result<(), AllocError>
+    ensures { OnOk result (out.new ≡ out.old ++ demands (tables_of system.now) (held facts.now) (forces s)) }
+{
+    let mut there = Seq::new(alloc);
+    facts.append(Place::Site(s), &mut there)?;
+    let mut found = Seq::new(alloc);
+    picked(Part::Tags, there.as_slice(), &mut found)?;
+    forced_all(alloc, system, facts, s, found.as_slice(), out)
+}
+
+// The fields of a tag among the nodes that a value may be, and one argument more.
+fn called_arguments(
+    alloc: Global,
+    system: &FlowSystem,
+    facts: &Facts,
+    v: &Val,
+    a: Word,
+    t: u32,
+    out: &mut Seq<Item>,
+) -> Result<(), AllocError>
+    ensures { OnOk result (out.new ≡ out.old ++ items (tables_of system.now) (held facts.now) (arguments (value v.now) t (a ∷ []))) }
+{
+    let mut nodes = Seq::new(alloc);
+    value_nodes(alloc, system, facts, v, &mut nodes)?;
+    arguments(alloc, system, facts, t, &[a], nodes.as_slice(), out)
+}
+
+fn called_params(
+    alloc: Global,
+    system: &FlowSystem,
+    facts: &Facts,
+    v: &Val,
+    a: Word,
+    t: u32,
+    f: u32,
+    out: &mut Seq<Fact>,
+) -> Result<(), AllocError>
+    ensures { OnOk result (out.new ≡ out.old ++ flow_facts (tables_of system.now) (held facts.now) (arguments (value v.now) t (a ∷ [])) (to (params_of (tables_of system.now) f))) }
+{
+    let mut given = Seq::new(alloc);
+    called_arguments(alloc, system, facts, v, a, t, &mut given)?;
+    params_facts(alloc, system, f, given.as_slice(), out)
+}
+
+// The calls of f with one argument more: their results are at the sink.
+fn called_facts(
+    alloc: Global,
+    system: &FlowSystem,
+    facts: &Facts,
+    v: &Val,
+    a: Word,
+    sink: &Sink,
+    t: u32,
+    f: u32,
+    out: &mut Seq<Fact>,
+) -> Result<(), AllocError>
+    ensures { OnOk result (out.new ≡ out.old ++ called_facts (tables_of system.now) (held facts.now) v.now a (sink_of sink.now) t (Some f)) }
+{
+    called_params(alloc, system, facts, v, a, t, f, out)?;
+    flow_facts(alloc, system, facts, &Source::Result(ProcId(f)), sink, out)?;
+    Ok(())
+}
+
+fn applied(
+    alloc: Global,
+    system: &FlowSystem,
+    facts: &Facts,
+    v: &Val,
+    a: Word,
+    sink: &Sink,
+    word: Element,
+    out: &mut Seq<Fact>,
+) -> Result<(), AllocError>
+    ensures { OnOk result (out.new ≡ out.old ++ applied (tables_of system.now) (held facts.now) v.now a (sink_of sink.now) word) }
+{
+    match word {
+        Element::Cell(_) => Ok(()),
+        Element::Tag(t) => match called(system, t) {
+            Some(f) => called_facts(alloc, system, facts, v, a, sink, t, f, out),
+            None => Ok(()),
+        },
+        Element::Number => Ok(()),
+    }
+}
+
+fn applied_all(
+    alloc: Global,
+    system: &FlowSystem,
+    facts: &Facts,
+    v: &Val,
+    a: Word,
+    sink: &Sink,
+    words: &[Element],
+    out: &mut Seq<Fact>,
+) -> Result<(), AllocError>
+    ensures { OnOk result (out.new ≡ out.old ++ flat_map (applied (tables_of system.now) (held facts.now) v.now a (sink_of sink.now)) words.now) }
+{
+    for word in words {
+        applied(alloc, system, facts, v, a, sink, *word, out)?;
+    }
+    Ok(())
+}
+
+fn applies_facts(
+    alloc: Global,
+    system: &FlowSystem,
+    facts: &Facts,
+    v: &Val,
+    a: Word,
+    sink: &Sink,
+    out: &mut Seq<Fact>,
+) -> Result<(), AllocError>
+    ensures { OnOk result (out.new ≡ out.old ++ demands (tables_of system.now) (held facts.now) (applies v.now a (sink_of sink.now))) }
+{
+    let mut nodes = Seq::new(alloc);
+    value_nodes(alloc, system, facts, v, &mut nodes)?;
+    let mut found = Seq::new(alloc);
+    picked(Part::Tags, nodes.as_slice(), &mut found)?;
+    applied_all(alloc, system, facts, v, a, sink, found.as_slice(), out)
+}
+
+/// All that an inclusion asks for.
+pub fn demands(
+    alloc: Global,
+    system: &FlowSystem,
+    facts: &Facts,
+    inclusion: &Inclusion,
+    out: &mut Seq<Fact>,
+) -> Result<(), AllocError>
+    ensures { OnOk result (out.new ≡ out.old ++ demands (tables_of system.now) (held facts.now) (inclusion_of inclusion.now)) }
+{
+    match inclusion {
+        Inclusion::Flows(source, sink) => flow_facts(alloc, system, facts, source, sink, out),
+        Inclusion::Forces(s) => forces_facts(alloc, system, facts, s.0, out),
+        Inclusion::Applies(v, a, sink) => applies_facts(alloc, system, facts, v, *a, sink, out),
+    }
+}

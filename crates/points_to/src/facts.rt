@@ -1,0 +1,171 @@
+// What is known of a program: for each place, which words stand in which of its parts.
+
+ghost use Rattle.std.specs.Prelude.{◌≡◌, ℕ, ◌<◌, ◌≤◌, ◌+◌, [], ◌∷◌, ◌++◌, length, IsTrue, ◌↔◌, OnOk, IfOk, true, false};
+ghost use Rattle.flow_system.specs.declared.fact.Place.{Place as Place'};
+ghost use Rattle.points_to.specs.Held.{In};
+ghost use Rattle.points_to.specs.Known.{items_at, held, Puts, Grows};
+ghost use Rattle.points_to.specs.Wanted.{place_of};
+
+use crate::wanted::Kind;
+use flow_system::fact::{Element, Part, Place};
+use seq::Seq;
+use std::alloc::{AllocError, Global};
+use std::collections::BTreeSet;
+
+/// A word in a part of a place.
+#[derive(Clone, Copy, Debug, PartialEq, Eq, PartialOrd, Ord)]
+pub struct Item {
+    pub part: Part,
+    pub word: Element,
+}
+
+/// That a word stands in a part of a place.
+#[derive(Clone, Copy, Debug, PartialEq, Eq, PartialOrd, Ord)]
+pub struct Fact {
+    pub place: Place,
+    pub item: Item,
+}
+
+/// The facts that are known: for each kind of place a set of items by the place's number, and how many facts were added.
+#[derive(Drop)]
+pub struct Facts {
+    sites: Vec<BTreeSet<Item>>,
+    vars: Vec<BTreeSet<Item>>,
+    results: Vec<BTreeSet<Item>>,
+    count: u64,
+}
+
+impl Facts {
+    /// No facts.
+    pub fn new(alloc: Global) -> Facts
+        ensures { (q : Place') → held result q ≡ [] }
+    {
+        Facts {
+            sites: Vec::new(alloc),
+            vars: Vec::new(alloc),
+            results: Vec::new(alloc),
+            count: 0,
+        }
+    }
+
+    /// How many facts were added.
+    pub fn count(&self) -> u64
+        ensures { result ≡ self.now.count }
+    {
+        self.count
+    }
+
+    /// A number past those of all places of a kind where something is known. Where there is none, that is want of memory.
+    pub fn places(&self, kind: Kind) -> Result<u32, AllocError>
+        ensures { IfOk result (λ n. (m : ℕ) → n ≤ m → held self.now (place_of kind m) ≡ []) }
+    {
+        match kind {
+            Kind::Sites => count_of(self.sites.as_slice()),
+            Kind::Vars => count_of(self.vars.as_slice()),
+            Kind::Results => count_of(self.results.as_slice()),
+        }
+    }
+
+    /// Puts the items at a place at the end of a list.
+    pub fn append(&self, place: Place, out: &mut Seq<Item>) -> Result<(), AllocError>
+        ensures { OnOk result (out.new ≡ out.old ++ held self.now place) }
+    {
+        match place {
+            Place::Site(n) => append_items(self.sites.as_slice(), n, out),
+            Place::Var(n) => append_items(self.vars.as_slice(), n, out),
+            Place::Result(n) => append_items(self.results.as_slice(), n, out),
+        }
+    }
+
+    /// Adds a fact, and says whether it is new. A fact that is known changes nothing. More facts than can be counted are want of memory.
+    pub fn add(&mut self, alloc: Global, fact: Fact) -> Result<bool, AllocError>
+        ensures grown { OnOk result (Grows (held self.old) (held self.new) (fact ∷ [])) }
+        ensures still { IfOk result (λ added. added ≡ false → self.new ≡ self.old) }
+        ensures counted { IfOk result (λ added. added ≡ true → self.old.count < self.new.count) }
+    {
+        if self.has(fact) {
+            return Ok(false);
+        }
+        self.put(alloc, fact)?;
+        self.count = self.count.checked_add(1).ok_or(AllocError)?;
+        Ok(true)
+    }
+
+    fn put(&mut self, alloc: Global, fact: Fact) -> Result<(), AllocError>
+        ensures grown { OnOk result (Grows (held self.old) (held self.new) (fact ∷ [])) }
+        ensures same_count { OnOk result (self.new.count ≡ self.old.count) }
+    {
+        match fact.place {
+            Place::Site(n) => put_item(alloc, &mut self.sites, n, fact.item),
+            Place::Var(n) => put_item(alloc, &mut self.vars, n, fact.item),
+            Place::Result(n) => put_item(alloc, &mut self.results, n, fact.item),
+        }
+    }
+
+    /// Whether a fact is known.
+    pub fn has(&self, fact: Fact) -> bool
+        ensures { IsTrue result ↔ In fact.item (held self.now fact.place) }
+    {
+        match fact.place {
+            Place::Site(n) => has_item(self.sites.as_slice(), n, fact.item),
+            Place::Var(n) => has_item(self.vars.as_slice(), n, fact.item),
+            Place::Result(n) => has_item(self.results.as_slice(), n, fact.item),
+        }
+    }
+}
+
+fn append_items(sets: &[BTreeSet<Item>], n: u32, out: &mut Seq<Item>) -> Result<(), AllocError>
+    ensures { OnOk result (out.new ≡ out.old ++ items_at sets.now n) }
+{
+    match sets.get(n as usize) {
+        None => Ok(()),
+        Some(set) => {
+            for item in set {
+                out.push(*item)?;
+            }
+            Ok(())
+        }
+    }
+}
+
+fn has_item(sets: &[BTreeSet<Item>], n: u32, item: Item) -> bool
+    ensures { IsTrue result ↔ In item (items_at sets.now n) }
+{
+    match sets.get(n as usize) {
+        Some(set) => set.contains(&item),
+        None => false,
+    }
+}
+
+fn count_of(sets: &[BTreeSet<Item>]) -> Result<u32, AllocError>
+    ensures { IfOk result (λ n. (m : ℕ) → n ≤ m → items_at sets.now m ≡ []) }
+{
+    if sets.len() > u32::MAX as usize {
+        return Err(AllocError);
+    }
+    Ok(sets.len() as u32)
+}
+
+// Makes empty sets up to the one with this number.
+fn grow(alloc: Global, sets: &mut Vec<BTreeSet<Item>>, n: u32) -> Result<(), AllocError>
+    ensures there { OnOk result (n < length sets.new.items) }
+    ensures same { OnOk result (items_at sets.new.items ≡ items_at sets.old.items) }
+{
+    'growing: while sets.len() <= n as usize {
+        sets.push(BTreeSet::new(alloc))?;
+    }
+    Ok(())
+}
+
+fn put_item(
+    alloc: Global,
+    sets: &mut Vec<BTreeSet<Item>>,
+    n: u32,
+    item: Item,
+) -> Result<(), AllocError>
+    ensures { OnOk result (Puts (items_at sets.old.items) (items_at sets.new.items) n item) }
+{
+    grow(alloc, sets, n)?;
+    sets[n as usize].insert(item)?;
+    Ok(())
+}

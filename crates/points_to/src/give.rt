@@ -1,0 +1,517 @@
+// What sources give, by what is known so far.
+
+ghost use Rattle.std.specs.Prelude.{◌≡◌, [], ◌∷◌, ◌++◌, Some, OnOk};
+ghost use Rattle.std.specs.List.{flat_map};
+ghost use Rattle.flow_system.specs.Inclusions.{value, evaluated, nodes_at, extended, arguments};
+ghost use Rattle.flow_system.specs.Solution.{width};
+ghost use Rattle.flow_system.specs.Shown.{tables_of, source_of};
+ghost use Rattle.flow_system.specs.declared.fact.Part.TheVariants.{Tags as tags'};
+ghost use Rattle.points_to.specs.Held.{picked, in_part, as_nodes, item, elements, numbered, value_items, cell_items, fetched_at, last_field, longer_node, longer_tag, after_fields, arguments_of, items};
+ghost use Rattle.points_to.specs.Known.{held};
+ghost use Rattle.points_to.specs.Row.{row_part};
+
+use crate::facts::{Facts, Item};
+use crate::nodes::{Shift, as_nodes, evaluated, fetched, in_part, picked, shift_all};
+use crate::tags::{fields_of, longer};
+use flow_system::fact::{Element, Part, Place};
+use flow_system::inclusion::{FlowSystem, Source};
+use grin_syntax::program::{Val, Word};
+use seq::Seq;
+use std::alloc::{AllocError, Global};
+
+/// Parts that are numbered: the words of a vector, or the fields of a tag.
+#[derive(Clone, Copy, Debug, PartialEq, Eq)]
+pub enum Row {
+    Words,
+    Fields(u32),
+}
+
+/// What a word stands for.
+pub fn elements(
+    alloc: Global,
+    system: &FlowSystem,
+    facts: &Facts,
+    w: Word,
+    out: &mut Seq<Element>,
+) -> Result<(), AllocError>
+    ensures { OnOk result (out.new ≡ out.old ++ elements (tables_of system.now) (held facts.now) w) }
+{
+    match w {
+        Word::Lit(_) => out.push(Element::Number),
+        Word::Var(x) => {
+            let mut items = Seq::new(alloc);
+            facts.append(Place::Var(x.0), &mut items)?;
+            picked(Part::Word(0), items.as_slice(), out)
+        }
+        Word::Global(i) => match system.globals.get(i as usize) {
+            Some(global) => out.push(Element::Cell(global.site.0)),
+            None => Ok(()),
+        },
+        Word::TagWord(t) => out.push(Element::Tag(t.0)),
+    }
+}
+
+// What a word stands for, as items of a part.
+fn elements_in(
+    alloc: Global,
+    system: &FlowSystem,
+    facts: &Facts,
+    part: Part,
+    w: Word,
+    out: &mut Seq<Item>,
+) -> Result<(), AllocError>
+    ensures { OnOk result (out.new ≡ out.old ++ in_part part (elements (tables_of system.now) (held facts.now) w)) }
+{
+    let mut words = Seq::new(alloc);
+    elements(alloc, system, facts, w, &mut words)?;
+    in_part(part, words.as_slice(), out)
+}
+
+fn part_at(row: Row, j: u32) -> Part
+    ensures { result ≡ row_part row j }
+{
+    match row {
+        Row::Words => Part::Word(j),
+        Row::Fields(t) => Part::Field(t, j),
+    }
+}
+
+// What a word stands for, at a number of a row.
+fn elements_at(
+    alloc: Global,
+    system: &FlowSystem,
+    facts: &Facts,
+    row: Row,
+    j: u32,
+    w: Word,
+    out: &mut Seq<Item>,
+) -> Result<(), AllocError>
+    ensures { OnOk result (out.new ≡ out.old ++ in_part (row_part row j) (elements (tables_of system.now) (held facts.now) w)) }
+{
+    elements_in(alloc, system, facts, part_at(row, j), w, out)
+}
+
+/// What words stand for, numbered from `first` on. More than can be numbered are want of memory.
+pub fn numbered(
+    alloc: Global,
+    system: &FlowSystem,
+    facts: &Facts,
+    row: Row,
+    first: u32,
+    words: &[Word],
+    out: &mut Seq<Item>,
+) -> Result<(), AllocError>
+    ensures { OnOk result (out.new ≡ out.old ++ numbered (tables_of system.now) (held facts.now) (row_part row) first words.now) }
+{
+    let mut j = first;
+    for word in words {
+        elements_at(alloc, system, facts, row, j, *word, out)?;
+        j = j.checked_add(1).ok_or(AllocError)?;
+    }
+    Ok(())
+}
+
+/// What a value gives.
+pub fn value_items(
+    alloc: Global,
+    system: &FlowSystem,
+    facts: &Facts,
+    v: &Val,
+    out: &mut Seq<Item>,
+) -> Result<(), AllocError>
+    ensures { OnOk result (out.new ≡ out.old ++ value_items (tables_of system.now) (held facts.now) v.now) }
+{
+    match v {
+        Val::NodeVar(x) => facts.append(Place::Var(x.0), out),
+        Val::Node(t, words) => {
+            let part = Part::Tags;
+            let word = Element::Tag(t.0);
+            out.push(Item { part, word })?;
+            numbered(
+                alloc,
+                system,
+                facts,
+                Row::Fields(t.0),
+                0,
+                words.as_slice(),
+                out,
+            )?;
+            Ok(())
+        }
+        Val::Vector(words) => numbered(alloc, system, facts, Row::Words, 0, words.as_slice(), out),
+        Val::One(w) => elements_in(alloc, system, facts, Part::Word(0), *w, out),
+    }
+}
+
+fn cell_items(facts: &Facts, word: Element, out: &mut Seq<Item>) -> Result<(), AllocError>
+    ensures { OnOk result (out.new ≡ out.old ++ cell_items (held facts.now) word) }
+{
+    match word {
+        Element::Cell(s) => facts.append(Place::Site(s), out),
+        Element::Tag(_) => Ok(()),
+        Element::Number => Ok(()),
+    }
+}
+
+fn cells_items(facts: &Facts, words: &[Element], out: &mut Seq<Item>) -> Result<(), AllocError>
+    ensures { OnOk result (out.new ≡ out.old ++ flat_map (cell_items (held facts.now)) words.now) }
+{
+    for word in words {
+        cell_items(facts, *word, out)?;
+    }
+    Ok(())
+}
+
+// What is at the cells of a word.
+fn items_at_cells(
+    alloc: Global,
+    system: &FlowSystem,
+    facts: &Facts,
+    w: Word,
+    out: &mut Seq<Item>,
+) -> Result<(), AllocError>
+    ensures { OnOk result (out.new ≡ out.old ++ flat_map (cell_items (held facts.now)) (elements (tables_of system.now) (held facts.now) w)) }
+{
+    let mut cells = Seq::new(alloc);
+    elements(alloc, system, facts, w, &mut cells)?;
+    cells_items(facts, cells.as_slice(), out)
+}
+
+fn fetched_at(
+    alloc: Global,
+    system: &FlowSystem,
+    facts: &Facts,
+    i: u32,
+    word: Element,
+    out: &mut Seq<Element>,
+) -> Result<(), AllocError>
+    ensures { OnOk result (out.new ≡ out.old ++ fetched_at (tables_of system.now) (held facts.now) i word) }
+{
+    match word {
+        Element::Cell(s) => {
+            let mut items = Seq::new(alloc);
+            facts.append(Place::Site(s), &mut items)?;
+            fetched(alloc, system, i, items.as_slice(), out)
+        }
+        Element::Tag(_) => Ok(()),
+        Element::Number => Ok(()),
+    }
+}
+
+fn fetched_at_all(
+    alloc: Global,
+    system: &FlowSystem,
+    facts: &Facts,
+    i: u32,
+    words: &[Element],
+    out: &mut Seq<Element>,
+) -> Result<(), AllocError>
+    ensures { OnOk result (out.new ≡ out.old ++ flat_map (fetched_at (tables_of system.now) (held facts.now) i) words.now) }
+{
+    for word in words {
+        fetched_at(alloc, system, facts, i, *word, out)?;
+    }
+    Ok(())
+}
+
+// Word i of the cells of a word.
+fn word_at(
+    alloc: Global,
+    system: &FlowSystem,
+    facts: &Facts,
+    w: Word,
+    i: u32,
+    out: &mut Seq<Item>,
+) -> Result<(), AllocError>
+    ensures { OnOk result (out.new ≡ out.old ++ in_part (Part.Word 0) (flat_map (fetched_at (tables_of system.now) (held facts.now) i) (elements (tables_of system.now) (held facts.now) w))) }
+{
+    let mut cells = Seq::new(alloc);
+    elements(alloc, system, facts, w, &mut cells)?;
+    let mut words = Seq::new(alloc);
+    fetched_at_all(alloc, system, facts, i, cells.as_slice(), &mut words)?;
+    in_part(Part::Word(0), words.as_slice(), out)
+}
+
+fn last_field(
+    alloc: Global,
+    system: &FlowSystem,
+    facts: &Facts,
+    a: Word,
+    longer: u32,
+    m: Option<u32>,
+    out: &mut Seq<Item>,
+) -> Result<(), AllocError>
+    ensures { OnOk result (out.new ≡ out.old ++ last_field (tables_of system.now) (held facts.now) a longer m) }
+{
+    match m {
+        Some(m) => elements_in(alloc, system, facts, Part::Field(longer, m), a, out),
+        None => Ok(()),
+    }
+}
+
+// The node of a longer tag: the fields of the tag t, and one argument more.
+fn longer_node(
+    alloc: Global,
+    system: &FlowSystem,
+    facts: &Facts,
+    a: Word,
+    items: &[Item],
+    t: u32,
+    longer: u32,
+    out: &mut Seq<Item>,
+) -> Result<(), AllocError>
+    ensures { OnOk result (out.new ≡ out.old ++ longer_node (tables_of system.now) (held facts.now) a items.now t (Some longer)) }
+{
+    let part = Part::Tags;
+    let word = Element::Tag(longer);
+    out.push(Item { part, word })?;
+    shift_all(system, Shift::Renamed(t, longer), items, out)?;
+    last_field(alloc, system, facts, a, longer, fields_of(system, t), out)?;
+    Ok(())
+}
+
+fn longer_tag(
+    alloc: Global,
+    system: &FlowSystem,
+    facts: &Facts,
+    a: Word,
+    items: &[Item],
+    word: Element,
+    out: &mut Seq<Item>,
+) -> Result<(), AllocError>
+    ensures { OnOk result (out.new ≡ out.old ++ longer_tag (tables_of system.now) (held facts.now) a items.now word) }
+{
+    match word {
+        Element::Cell(_) => Ok(()),
+        Element::Tag(t) => match longer(system, t)? {
+            Some(u) => longer_node(alloc, system, facts, a, items, t, u, out),
+            None => Ok(()),
+        },
+        Element::Number => Ok(()),
+    }
+}
+
+fn longer_tags(
+    alloc: Global,
+    system: &FlowSystem,
+    facts: &Facts,
+    a: Word,
+    items: &[Item],
+    words: &[Element],
+    out: &mut Seq<Item>,
+) -> Result<(), AllocError>
+    ensures { OnOk result (out.new ≡ out.old ++ flat_map (longer_tag (tables_of system.now) (held facts.now) a items.now) words.now) }
+{
+    for word in words {
+        longer_tag(alloc, system, facts, a, items, *word, out)?;
+    }
+    Ok(())
+}
+
+fn after_fields(
+    alloc: Global,
+    system: &FlowSystem,
+    facts: &Facts,
+    words: &[Word],
+    m: Option<u32>,
+    out: &mut Seq<Item>,
+) -> Result<(), AllocError>
+    ensures { OnOk result (out.new ≡ out.old ++ after_fields (tables_of system.now) (held facts.now) words.now m) }
+{
+    match m {
+        Some(m) => numbered(alloc, system, facts, Row::Words, m, words, out),
+        None => Ok(()),
+    }
+}
+
+fn arguments_of(
+    alloc: Global,
+    system: &FlowSystem,
+    facts: &Facts,
+    t: u32,
+    words: &[Word],
+    items: &[Item],
+    word: Element,
+    out: &mut Seq<Item>,
+) -> Result<(), AllocError>
+    ensures { OnOk result (out.new ≡ out.old ++ arguments_of (tables_of system.now) (held facts.now) t words.now items.now word) }
+{
+    match word {
+        Element::Cell(_) => Ok(()),
+        Element::Tag(u) => {
+            if u == t {
+                shift_all(system, Shift::Arguments(t), items, out)?;
+                after_fields(alloc, system, facts, words, fields_of(system, t), out)?;
+            }
+            Ok(())
+        }
+        Element::Number => Ok(()),
+    }
+}
+
+fn arguments_of_all(
+    alloc: Global,
+    system: &FlowSystem,
+    facts: &Facts,
+    t: u32,
+    words: &[Word],
+    items: &[Item],
+    found: &[Element],
+    out: &mut Seq<Item>,
+) -> Result<(), AllocError>
+    ensures { OnOk result (out.new ≡ out.old ++ flat_map (arguments_of (tables_of system.now) (held facts.now) t words.now items.now) found.now) }
+{
+    for word in found {
+        arguments_of(alloc, system, facts, t, words, items, *word, out)?;
+    }
+    Ok(())
+}
+
+/// The fields of the nodes of a tag, followed by words, as arguments.
+pub fn arguments(
+    alloc: Global,
+    system: &FlowSystem,
+    facts: &Facts,
+    t: u32,
+    words: &[Word],
+    nodes: &[Item],
+    out: &mut Seq<Item>,
+) -> Result<(), AllocError>
+    ensures { OnOk result (out.new ≡ out.old ++ flat_map (arguments_of (tables_of system.now) (held facts.now) t words.now nodes.now) (picked tags' nodes.now)) }
+{
+    let mut found = Seq::new(alloc);
+    picked(Part::Tags, nodes, &mut found)?;
+    arguments_of_all(alloc, system, facts, t, words, nodes, found.as_slice(), out)
+}
+
+/// The nodes that a value may be.
+pub fn value_nodes(
+    alloc: Global,
+    system: &FlowSystem,
+    facts: &Facts,
+    v: &Val,
+    out: &mut Seq<Item>,
+) -> Result<(), AllocError>
+    ensures { OnOk result (out.new ≡ out.old ++ as_nodes (tables_of system.now) (width (value v.now)) (value_items (tables_of system.now) (held facts.now) v.now)) }
+{
+    let mut items = Seq::new(alloc);
+    value_items(alloc, system, facts, v, &mut items)?;
+    as_nodes(alloc, system, width_of_value(v), items.as_slice(), out)
+}
+
+/// How many words a value has at most.
+pub fn width_of_value(v: &Val) -> Option<usize>
+    ensures { result ≡ width (value v.now) }
+{
+    match v {
+        Val::NodeVar(_) => None,
+        Val::Node(_, _) => Some(1),
+        Val::Vector(words) => Some(words.len()),
+        Val::One(_) => Some(1),
+    }
+}
+
+// Functions that a value may be, with one argument more.
+fn extended(
+    alloc: Global,
+    system: &FlowSystem,
+    facts: &Facts,
+    v: &Val,
+    a: Word,
+    out: &mut Seq<Item>,
+) -> Result<(), AllocError>
+    ensures { OnOk result (out.new ≡ out.old ++ items (tables_of system.now) (held facts.now) (extended v.now a)) }
+{
+    let mut nodes = Seq::new(alloc);
+    value_nodes(alloc, system, facts, v, &mut nodes)?;
+    let mut found = Seq::new(alloc);
+    picked(Part::Tags, nodes.as_slice(), &mut found)?;
+    longer_tags(
+        alloc,
+        system,
+        facts,
+        a,
+        nodes.as_slice(),
+        found.as_slice(),
+        out,
+    )
+}
+
+// The evaluated ones among the nodes at the cells of a word.
+fn evaluated_at(
+    alloc: Global,
+    system: &FlowSystem,
+    facts: &Facts,
+    w: Word,
+    out: &mut Seq<Item>,
+) -> Result<(), AllocError>
+    ensures { OnOk result (out.new ≡ out.old ++ items (tables_of system.now) (held facts.now) (evaluated (nodes_at w))) }
+{
+    let mut items = Seq::new(alloc);
+    items_at_cells(alloc, system, facts, w, &mut items)?;
+    evaluated(alloc, system, Some(1), items.as_slice(), out)
+}
+
+fn fields_of_value(
+    alloc: Global,
+    system: &FlowSystem,
+    facts: &Facts,
+    v: &Val,
+    t: u32,
+    out: &mut Seq<Item>,
+) -> Result<(), AllocError>
+    ensures { OnOk result (out.new ≡ out.old ++ items (tables_of system.now) (held facts.now) (arguments (value v.now) t [])) }
+{
+    let mut nodes = Seq::new(alloc);
+    value_nodes(alloc, system, facts, v, &mut nodes)?;
+    arguments(alloc, system, facts, t, &[], nodes.as_slice(), out)
+}
+
+/// What a source gives.
+pub fn items(
+    alloc: Global,
+    system: &FlowSystem,
+    facts: &Facts,
+    source: &Source,
+    out: &mut Seq<Item>,
+) -> Result<(), AllocError>
+    ensures { OnOk result (out.new ≡ out.old ++ items (tables_of system.now) (held facts.now) (source_of source.now)) }
+{
+    match source {
+        Source::Value(v) => value_items(alloc, system, facts, v, out),
+        Source::ACell(s) => one_word(Element::Cell(s.0), out),
+        Source::ANumber => one_word(Element::Number, out),
+        Source::Result(f) => facts.append(Place::Result(f.0), out),
+        Source::NodesAt(w) => items_at_cells(alloc, system, facts, *w, out),
+        Source::WordAt(w, i) => word_at(alloc, system, facts, *w, *i, out),
+        Source::EvaluatedAt(w) => evaluated_at(alloc, system, facts, *w, out),
+        Source::Extended(v, a) => extended(alloc, system, facts, v, *a, out),
+        Source::FieldsOf(v, t) => fields_of_value(alloc, system, facts, v, t.0, out),
+    }
+}
+
+// A single word.
+fn one_word(word: Element, out: &mut Seq<Item>) -> Result<(), AllocError>
+    ensures { OnOk result (out.new ≡ out.old ++ item (Part.Word 0) word ∷ []) }
+{
+    let part = Part::Word(0);
+    out.push(Item { part, word })?;
+    Ok(())
+}
+
+/// How many words a source has at most; of a variable or a result any number.
+pub fn width(source: &Source) -> Option<usize>
+    ensures { result ≡ width (source_of source.now) }
+{
+    match source {
+        Source::Value(v) => width_of_value(v),
+        Source::ACell(_) => Some(1),
+        Source::ANumber => Some(1),
+        Source::Result(_) => None,
+        Source::NodesAt(_) => Some(1),
+        Source::WordAt(_, _) => Some(1),
+        Source::EvaluatedAt(_) => Some(1),
+        Source::Extended(_, _) => Some(1),
+        Source::FieldsOf(_, _) => Some(1),
+    }
+}

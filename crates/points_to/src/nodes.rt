@@ -1,0 +1,366 @@
+// Items as nodes and as words.
+
+ghost use Rattle.std.specs.Prelude.{◌≡◌, [], ◌∷◌, ◌++◌, cond, OnOk};
+ghost use Rattle.std.specs.List.{flat_map};
+ghost use Rattle.flow_system.specs.Shown.{tables_of};
+ghost use Rattle.points_to.specs.Held.{same_part, picked_one, picked, in_part, field_of_tag, fetched, as_word, node_of_word, as_nodes, enough, shifted_word, field_or_zero_of, made_node, done_items};
+ghost use Rattle.points_to.specs.Shift.{shifted};
+
+use crate::facts::Item;
+use crate::tags::{fields_of, is_done};
+use flow_system::fact::{Element, Part};
+use flow_system::inclusion::FlowSystem;
+use seq::Seq;
+use std::alloc::{AllocError, Global};
+
+/// What becomes of an item: it stays where it is of a node; or where it is of an evaluated one; a word after the first becomes a field of a tag with so many fields;
+/// a field of one tag becomes that of another; a field of a tag becomes an argument. Every other item goes.
+#[derive(Clone, Copy, Debug, PartialEq, Eq)]
+pub enum Shift {
+    Nodes,
+    Evaluated,
+    Fields(u32, u32),
+    Renamed(u32, u32),
+    Arguments(u32),
+}
+
+fn same_part(a: Part, b: Part) -> bool
+    ensures { result ≡ same_part a b }
+{
+    match a {
+        Part::Tags => match b {
+            Part::Tags => true,
+            Part::Field(_, _) => false,
+            Part::Word(_) => false,
+        },
+        Part::Field(t, i) => match b {
+            Part::Tags => false,
+            Part::Field(u, j) => t == u && i == j,
+            Part::Word(_) => false,
+        },
+        Part::Word(i) => match b {
+            Part::Tags => false,
+            Part::Field(_, _) => false,
+            Part::Word(j) => i == j,
+        },
+    }
+}
+
+fn push_if(wanted: bool, item: Item, out: &mut Seq<Item>) -> Result<(), AllocError>
+    ensures { OnOk result (out.new ≡ out.old ++ cond wanted (item ∷ []) []) }
+{
+    if wanted {
+        out.push(item)?;
+    }
+    Ok(())
+}
+
+fn push_word_if(wanted: bool, word: Element, out: &mut Seq<Element>) -> Result<(), AllocError>
+    ensures { OnOk result (out.new ≡ out.old ++ cond wanted (word ∷ []) []) }
+{
+    if wanted {
+        out.push(word)?;
+    }
+    Ok(())
+}
+
+fn pick(part: Part, item: Item, out: &mut Seq<Element>) -> Result<(), AllocError>
+    ensures { OnOk result (out.new ≡ out.old ++ picked_one part item) }
+{
+    push_word_if(same_part(part, item.part), item.word, out)
+}
+
+/// The words in one part.
+pub fn picked(part: Part, items: &[Item], out: &mut Seq<Element>) -> Result<(), AllocError>
+    ensures { OnOk result (out.new ≡ out.old ++ picked part items.now) }
+{
+    for item in items {
+        pick(part, *item, out)?;
+    }
+    Ok(())
+}
+
+/// Words as items of a part.
+pub fn in_part(part: Part, words: &[Element], out: &mut Seq<Item>) -> Result<(), AllocError>
+    ensures { OnOk result (out.new ≡ out.old ++ in_part part words.now) }
+{
+    for word in words {
+        out.push(Item { part, word: *word })?;
+    }
+    Ok(())
+}
+
+// A word after the first one, as a field.
+fn field_of_word(
+    t: u32,
+    m: u32,
+    j: u32,
+    word: Element,
+    out: &mut Seq<Item>,
+) -> Result<(), AllocError>
+    ensures { OnOk result (out.new ≡ out.old ++ shifted_word t m j word) }
+{
+    if j == 0 {
+        return Ok(());
+    }
+    let part = Part::Field(t, j - 1);
+    push_if(j - 1 < m, Item { part, word }, out)
+}
+
+fn shift_done(system: &FlowSystem, item: Item, out: &mut Seq<Item>) -> Result<(), AllocError>
+    ensures { OnOk result (out.new ≡ out.old ++ shifted (tables_of system.now) Shift.Evaluated item) }
+{
+    match item.part {
+        Part::Tags => match item.word {
+            Element::Cell(_) => Ok(()),
+            Element::Tag(t) => push_if(is_done(system, t), item, out),
+            Element::Number => Ok(()),
+        },
+        Part::Field(t, _) => push_if(is_done(system, t), item, out),
+        Part::Word(_) => Ok(()),
+    }
+}
+
+fn shift_item(
+    system: &FlowSystem,
+    by: Shift,
+    item: Item,
+    out: &mut Seq<Item>,
+) -> Result<(), AllocError>
+    ensures { OnOk result (out.new ≡ out.old ++ shifted (tables_of system.now) by item) }
+{
+    let word = item.word;
+    match by {
+        Shift::Nodes => match item.part {
+            Part::Tags => push_if(true, item, out),
+            Part::Field(_, _) => push_if(true, item, out),
+            Part::Word(_) => Ok(()),
+        },
+        Shift::Evaluated => shift_done(system, item, out),
+        Shift::Fields(t, m) => match item.part {
+            Part::Tags => Ok(()),
+            Part::Field(_, _) => Ok(()),
+            Part::Word(j) => field_of_word(t, m, j, word, out),
+        },
+        Shift::Renamed(t, u) => match item.part {
+            Part::Tags => Ok(()),
+            Part::Field(v, j) => push_if(
+                v == t,
+                Item {
+                    part: Part::Field(u, j),
+                    word,
+                },
+                out,
+            ),
+            Part::Word(_) => Ok(()),
+        },
+        Shift::Arguments(t) => match item.part {
+            Part::Tags => Ok(()),
+            Part::Field(v, j) => push_if(
+                v == t,
+                Item {
+                    part: Part::Word(j),
+                    word,
+                },
+                out,
+            ),
+            Part::Word(_) => Ok(()),
+        },
+    }
+}
+
+/// What becomes of each item.
+pub fn shift_all(
+    system: &FlowSystem,
+    by: Shift,
+    items: &[Item],
+    out: &mut Seq<Item>,
+) -> Result<(), AllocError>
+    ensures { OnOk result (out.new ≡ out.old ++ flat_map (shifted (tables_of system.now) by) items.now) }
+{
+    for item in items {
+        shift_item(system, by, *item, out)?;
+    }
+    Ok(())
+}
+
+// A field of the nodes of a tag, or a number past its fields.
+fn field_of_tag(
+    system: &FlowSystem,
+    i: u32,
+    items: &[Item],
+    word: Element,
+    out: &mut Seq<Element>,
+) -> Result<(), AllocError>
+    ensures { OnOk result (out.new ≡ out.old ++ field_of_tag (tables_of system.now) i items.now word) }
+{
+    match word {
+        Element::Cell(_) => Ok(()),
+        Element::Tag(t) => match fields_of(system, t) {
+            None => Ok(()),
+            Some(m) => field_or_zero(i, t, m, items, out),
+        },
+        Element::Number => Ok(()),
+    }
+}
+
+fn field_or_zero(
+    i: u32,
+    t: u32,
+    m: u32,
+    items: &[Item],
+    out: &mut Seq<Element>,
+) -> Result<(), AllocError>
+    ensures { OnOk result (out.new ≡ out.old ++ field_or_zero_of i t items.now m) }
+{
+    if i < m {
+        return picked(Part::Field(t, i), items, out);
+    }
+    out.push(Element::Number)?;
+    Ok(())
+}
+
+fn fields_of_tags(
+    system: &FlowSystem,
+    i: u32,
+    items: &[Item],
+    words: &[Element],
+    out: &mut Seq<Element>,
+) -> Result<(), AllocError>
+    ensures { OnOk result (out.new ≡ out.old ++ flat_map (field_of_tag (tables_of system.now) i items.now) words.now) }
+{
+    for word in words {
+        field_of_tag(system, i, items, *word, out)?;
+    }
+    Ok(())
+}
+
+/// Word i of the nodes among some items: the tag, then the fields, then numbers.
+pub fn fetched(
+    alloc: Global,
+    system: &FlowSystem,
+    i: u32,
+    items: &[Item],
+    out: &mut Seq<Element>,
+) -> Result<(), AllocError>
+    ensures { OnOk result (out.new ≡ out.old ++ fetched (tables_of system.now) i items.now) }
+{
+    if i == 0 {
+        return picked(Part::Tags, items, out);
+    }
+    let mut found = Seq::new(alloc);
+    picked(Part::Tags, items, &mut found)?;
+    fields_of_tags(system, i - 1, items, found.as_slice(), out)
+}
+
+/// Word j of some items.
+pub fn as_word(
+    alloc: Global,
+    system: &FlowSystem,
+    j: u32,
+    items: &[Item],
+    out: &mut Seq<Element>,
+) -> Result<(), AllocError>
+    ensures { OnOk result (out.new ≡ out.old ++ as_word (tables_of system.now) j items.now) }
+{
+    picked(Part::Word(j), items, out)?;
+    fetched(alloc, system, j, items, out)?;
+    Ok(())
+}
+
+// Whether k words, or any number of them, are enough for a tag and m fields.
+fn enough(k: Option<usize>, m: u32) -> bool
+    ensures { result ≡ enough k m }
+{
+    match k {
+        None => true,
+        Some(k) => (m as usize) < k,
+    }
+}
+
+fn node_of_words(
+    system: &FlowSystem,
+    t: u32,
+    m: u32,
+    items: &[Item],
+    out: &mut Seq<Item>,
+) -> Result<(), AllocError>
+    ensures { OnOk result (out.new ≡ out.old ++ made_node (tables_of system.now) t m items.now) }
+{
+    let part = Part::Tags;
+    let word = Element::Tag(t);
+    out.push(Item { part, word })?;
+    shift_all(system, Shift::Fields(t, m), items, out)?;
+    Ok(())
+}
+
+fn node_of_word(
+    system: &FlowSystem,
+    k: Option<usize>,
+    items: &[Item],
+    word: Element,
+    out: &mut Seq<Item>,
+) -> Result<(), AllocError>
+    ensures { OnOk result (out.new ≡ out.old ++ node_of_word (tables_of system.now) k items.now word) }
+{
+    match word {
+        Element::Cell(_) => Ok(()),
+        Element::Tag(t) => match fields_of(system, t) {
+            None => Ok(()),
+            Some(m) => {
+                if enough(k, m) {
+                    node_of_words(system, t, m, items, out)?;
+                }
+                Ok(())
+            }
+        },
+        Element::Number => Ok(()),
+    }
+}
+
+fn nodes_of_words(
+    system: &FlowSystem,
+    k: Option<usize>,
+    items: &[Item],
+    words: &[Element],
+    out: &mut Seq<Item>,
+) -> Result<(), AllocError>
+    ensures { OnOk result (out.new ≡ out.old ++ flat_map (node_of_word (tables_of system.now) k items.now) words.now) }
+{
+    for word in words {
+        node_of_word(system, k, items, *word, out)?;
+    }
+    Ok(())
+}
+
+/// The items as nodes: those of nodes, and for each tag in the first set of so many words (or of any number) the node that they stand for.
+pub fn as_nodes(
+    alloc: Global,
+    system: &FlowSystem,
+    k: Option<usize>,
+    items: &[Item],
+    out: &mut Seq<Item>,
+) -> Result<(), AllocError>
+    ensures { OnOk result (out.new ≡ out.old ++ as_nodes (tables_of system.now) k items.now) }
+{
+    shift_all(system, Shift::Nodes, items, out)?;
+    let mut firsts = Seq::new(alloc);
+    picked(Part::Word(0), items, &mut firsts)?;
+    nodes_of_words(system, k, items, firsts.as_slice(), out)?;
+    Ok(())
+}
+
+/// The evaluated ones among items as nodes.
+pub fn evaluated(
+    alloc: Global,
+    system: &FlowSystem,
+    k: Option<usize>,
+    items: &[Item],
+    out: &mut Seq<Item>,
+) -> Result<(), AllocError>
+    ensures { OnOk result (out.new ≡ out.old ++ done_items (tables_of system.now) (as_nodes (tables_of system.now) k items.now)) }
+{
+    let mut nodes = Seq::new(alloc);
+    as_nodes(alloc, system, k, items, &mut nodes)?;
+    shift_all(system, Shift::Evaluated, nodes.as_slice(), out)
+}

@@ -1,0 +1,77 @@
+// The least solution, in rounds over all inclusions.
+
+ghost use Rattle.std.specs.Prelude.{◌≡◌, false, ◌||◌, OnOk, IfOk};
+ghost use Rattle.flow_system.specs.Shown.{tables_of, inclusions_of, inclusion_of};
+ghost use Rattle.flow_system.specs.Solution.{IsLeast};
+ghost use Rattle.points_to.specs.Asked.{demands};
+ghost use Rattle.points_to.specs.Known.{held, Grows, solution_of};
+ghost use Rattle.points_to.specs.Rounds.{InEvery, AllSatisfied, Counted};
+
+use crate::ask::demands;
+use crate::facts::{Fact, Facts};
+use flow_system::inclusion::{FlowSystem, Inclusion};
+use seq::Seq;
+use std::alloc::{AllocError, Global};
+
+// Whether one of two holds.
+fn either(a: bool, b: bool) -> bool
+    ensures { result ≡ (a || b) }
+{
+    a || b
+}
+
+// Adds facts, and says whether one of them is new.
+fn add_all(alloc: Global, facts: &mut Facts, more: &[Fact]) -> Result<bool, AllocError>
+    ensures grown { OnOk result (Grows (held facts.old) (held facts.new) more.now) }
+    ensures still { IfOk result (λ added. added ≡ false → facts.new ≡ facts.old) }
+    ensures counted { IfOk result (λ added. Counted facts.old facts.new added) }
+{
+    let mut added = false;
+    for fact in more {
+        added = either(added, facts.add(alloc, *fact)?);
+    }
+    Ok(added)
+}
+
+// Adds all that an inclusion asks for, and says whether some of it is new.
+fn satisfy(
+    alloc: Global,
+    system: &FlowSystem,
+    facts: &mut Facts,
+    inclusion: &Inclusion,
+) -> Result<bool, AllocError>
+    ensures grown { OnOk result (Grows (held facts.old) (held facts.new) (demands (tables_of system.now) (held facts.old) (inclusion_of inclusion.now))) }
+    ensures still { IfOk result (λ added. added ≡ false → facts.new ≡ facts.old) }
+    ensures counted { IfOk result (λ added. Counted facts.old facts.new added) }
+{
+    let mut asked = Seq::new(alloc);
+    demands(alloc, system, facts, inclusion, &mut asked)?;
+    add_all(alloc, facts, asked.as_slice())
+}
+
+// One round of all inclusions. Says whether a fact is new; where none is, nothing is wanting.
+fn round(alloc: Global, system: &FlowSystem, facts: &mut Facts) -> Result<bool, AllocError>
+    ensures sound { OnOk result (InEvery (tables_of system.now) (inclusions_of system.now) (held facts.old) → InEvery (tables_of system.now) (inclusions_of system.now) (held facts.new)) }
+    ensures done { IfOk result (λ added. added ≡ false → AllSatisfied (tables_of system.now) (inclusions_of system.now) (held facts.new)) }
+    ensures counted { IfOk result (λ added. Counted facts.old facts.new added) }
+{
+    let mut added = false;
+    for inclusion in system.inclusions.as_slice() {
+        added = either(added, satisfy(alloc, system, facts, inclusion)?);
+    }
+    Ok(added)
+}
+
+/// The facts of the least solution: rounds of all inclusions, until one adds nothing.
+pub fn least_facts(alloc: Global, system: &FlowSystem) -> Result<Facts, AllocError>
+    ensures { IfOk result (λ f. IsLeast (tables_of system.now) (inclusions_of system.now) (solution_of (held f))) }
+{
+    let mut facts = Facts::new(alloc);
+    let mut more = true;
+    'rounds: while more {
+        // The facts can be counted, so the rounds end.
+        let _count = facts.count();
+        more = round(alloc, system, &mut facts)?;
+    }
+    Ok(facts)
+}

@@ -1,0 +1,129 @@
+// What the tags of a program are.
+
+ghost use Rattle.std.specs.Prelude.{◌≡◌, ◌+◌, IfOk, drop};
+ghost use Rattle.grin_meaning.specs.Run.{is_part, part_from};
+ghost use Rattle.flow_system.specs.Tables.{fields_of};
+ghost use Rattle.flow_system.specs.Shown.{tables_of};
+ghost use Rattle.points_to.specs.Held.{is_done, delayed, called, longer, when_one, when_more};
+
+use flow_system::inclusion::FlowSystem;
+use grin_syntax::program::{Tag, TagKind};
+use std::alloc::AllocError;
+
+/// The number of fields of a tag.
+pub fn fields_of(system: &FlowSystem, t: u32) -> Option<u32>
+    ensures { result ≡ fields_of (tables_of system.now) t }
+{
+    match system.tags.get(t as usize) {
+        Some(tag) => Some(tag.fields),
+        None => None,
+    }
+}
+
+/// Whether the nodes of a tag are evaluated.
+pub fn is_done(system: &FlowSystem, t: u32) -> bool
+    ensures { result ≡ is_done (tables_of system.now) t }
+{
+    match system.tags.get(t as usize) {
+        Some(tag) => match tag.kind {
+            TagKind::Con => true,
+            TagKind::Fun => false,
+            TagKind::Part => true,
+        },
+        None => false,
+    }
+}
+
+/// The procedure whose calls a tag delays.
+pub fn delayed(system: &FlowSystem, t: u32) -> Option<u32>
+    ensures { result ≡ delayed (tables_of system.now) t }
+{
+    match system.tags.get(t as usize) {
+        Some(tag) => match tag.kind {
+            TagKind::Con => None,
+            TagKind::Fun => match tag.proc {
+                Some(f) => Some(f.0),
+                None => None,
+            },
+            TagKind::Part => None,
+        },
+        None => None,
+    }
+}
+
+fn when_one(f: u32, missing: u32) -> Option<u32>
+    ensures { result ≡ when_one f missing }
+{
+    if missing == 1 { Some(f) } else { None }
+}
+
+/// The procedure that the functions with this tag call when they are given one argument more.
+pub fn called(system: &FlowSystem, t: u32) -> Option<u32>
+    ensures { result ≡ called (tables_of system.now) t }
+{
+    match system.tags.get(t as usize) {
+        Some(tag) => match tag.kind {
+            TagKind::Con => None,
+            TagKind::Fun => None,
+            TagKind::Part => match tag.proc {
+                Some(f) => when_one(f.0, tag.missing),
+                None => None,
+            },
+        },
+        None => None,
+    }
+}
+
+// Whether a tag is that of the function f with r arguments missing.
+fn is_part(f: u32, r: u32, tag: &Tag) -> bool
+    ensures { result ≡ is_part f r tag.now }
+{
+    match tag.kind {
+        TagKind::Con => false,
+        TagKind::Fun => false,
+        TagKind::Part => match tag.proc {
+            Some(g) => g.0 == f && tag.missing == r,
+            None => false,
+        },
+    }
+}
+
+// The first tag, from number i on, of the function f with r arguments missing.
+fn part_from(i: u32, tags: &[Tag], f: u32, r: u32) -> Result<Option<u32>, AllocError>
+    ensures { IfOk result (λ t. t ≡ part_from i tags.now f r) }
+{
+    let mut at = i;
+    for tag in tags {
+        if is_part(f, r, tag) {
+            return Ok(Some(at));
+        }
+        at = at.checked_add(1).ok_or(AllocError)?;
+    }
+    Ok(None)
+}
+
+fn when_more(system: &FlowSystem, f: u32, missing: u32) -> Result<Option<u32>, AllocError>
+    ensures { IfOk result (λ t. t ≡ when_more (tables_of system.now) f missing) }
+{
+    if missing < 2 {
+        return Ok(None);
+    }
+    part_from(0, system.tags.as_slice(), f, missing - 1)
+}
+
+/// The tag that a function with this tag becomes with one argument more, where it waits for at least two. More tags than can be numbered are want of memory.
+pub fn longer(system: &FlowSystem, t: u32) -> Result<Option<u32>, AllocError>
+    ensures { IfOk result (λ r. r ≡ longer (tables_of system.now) t) }
+{
+    match system.tags.get(t as usize) {
+        Some(tag) => match tag.kind {
+            TagKind::Con => Ok(None),
+            TagKind::Fun => Ok(None),
+            TagKind::Part => match tag.proc {
+                Some(f) => when_more(system, f.0, tag.missing),
+                None => Ok(None),
+            },
+        },
+        None => Ok(None),
+    }
+}
