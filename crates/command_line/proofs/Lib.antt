@@ -1,0 +1,7 @@
+mod Words
+mod Lists
+mod Digits
+mod Walks
+mod Table
+mod Said
+mod Order

@@ -1,0 +1,150 @@
+-- The function from words to parts and the grammar say the same.
+use Rattle.std.proofs.lemmas.List.{take_all}
+use Rattle.std.proofs.lemmas.List.Sums.{split_at_first, passes_at_first}
+use Rattle.std.proofs.Common.{◌≡◌, ◌≢◌, ℕ, ◌+◌, ◌<◌, get_or, suc, nat_lt, Bool, true, false, List, [], ◌∷◌, ◌++◌, length, map, codes, Option, Some, None, refl, ap, ◌∙◌, arith, length-append}
+use Rattle.std.specs.List.{position_or_len, before_first, after_first}
+use Rattle.std.proofs.Math.Seq.{take-append_seam, drop-append-add}
+use Rattle.std.proofs.lemmas.Bool.Decides.{Decides-eqb, nat_tests}
+use Rattle.command_line.specs.Parts.{Part, Setting, Operand, Word, Plain, Joined, Named, End, Unknown, is_dash, is_equals, begins_with_dash, option_of, word_of, with_part, parts_of, parts_from_value}
+use Rattle.command_line.specs.Grammar.{is_operand, IsName, Says, Nothing, AnOperand, OneWord, TwoWords, Operands}
+use Rattle.command_line.specs.Laws.{PartsAreSaid}
+use Rattle.command_line.proofs.Walks.{parts_from}
+
+-- the first `=` stands behind a name
+equals_after : (b : ℕ) (bs value : List ℕ) (first : Bool) → is_equals b ≡ first → IsName (b ∷ bs)
+    → (IsName bs → position_or_len is_equals (bs ++ (61 ∷ value)) ≡ length bs) → position_or_len is_equals ((b ∷ bs) ++ (61 ∷ value)) ≡ length (b ∷ bs)
+equals_after b bs value true here is rest = absurd (cc (rw here at is))
+equals_after b bs value false here is rest = rw (here, rest (rw here at is)) (omega arith)
+
+equals_behind : (name value : List ℕ) → IsName name → position_or_len is_equals (name ++ (61 ∷ value)) ≡ length name
+equals_behind [] value is = refl
+equals_behind (b ∷ bs) value is = equals_after b bs value (is_equals b) refl is (λ rest. equals_behind bs value rest)
+
+-- and nowhere in it
+equals_nowhere : (b : ℕ) (bs : List ℕ) (first : Bool) → is_equals b ≡ first → IsName (b ∷ bs)
+    → (IsName bs → position_or_len is_equals bs ≡ length bs) → position_or_len is_equals (b ∷ bs) ≡ length (b ∷ bs)
+equals_nowhere b bs true here is rest = absurd (cc (rw here at is))
+equals_nowhere b bs false here is rest = rw (here, rest (rw here at is)) (omega arith)
+
+no_equals : (name : List ℕ) → IsName name → position_or_len is_equals name ≡ length name
+no_equals [] is = refl
+no_equals (b ∷ bs) is = equals_nowhere b bs (is_equals b) refl is (λ rest. no_equals bs rest)
+
+operand_word : (text : List ℕ) → is_operand text ≡ true → word_of text ≡ Plain text
+operand_word [] is = refl
+operand_word (b ∷ []) is = refl
+operand_word (b ∷ c ∷ bs) is = let plain : is_dash b ≡ false = grind (arith, nat_tests) in rw plain refl
+
+joined_word : (name value : List ℕ) → IsName name → option_of (name ++ (61 ∷ value)) ≡ Joined name value
+joined_word [] value is = let test : nat_lt 0 (length (61 ∷ value)) ≡ true = grind (arith, nat_tests) in rw test refl
+joined_word (b ∷ bs) value is =
+    let here : position_or_len is_equals ((b ∷ bs) ++ (61 ∷ value)) ≡ length (b ∷ bs) = equals_behind (b ∷ bs) value is in
+    let test : nat_lt (length (b ∷ bs)) (length ((b ∷ bs) ++ (61 ∷ value))) ≡ true = simp length-append (grind (arith, nat_tests)) in
+    rw (here, test, take-append_seam (b ∷ bs) (61 ∷ value), drop-append-add (b ∷ bs) (61 ∷ value) 1) refl
+
+named_word : (name : List ℕ) → name ≢ [] → IsName name → option_of name ≡ Named name
+named_word [] some is = absurd (some refl)
+named_word (b ∷ bs) some is =
+    let nowhere : position_or_len is_equals (b ∷ bs) ≡ length (b ∷ bs) = no_equals (b ∷ bs) is in
+    let test : nat_lt (length (b ∷ bs)) (length (b ∷ bs)) ≡ false = grind (arith, nat_tests) in
+    rw (nowhere, test) refl
+
+read_if_said : {words : List (List ℕ)} {parts : List Part} → Says words parts → parts_of words ≡ Some parts
+read_if_said Nothing = refl
+read_if_said (AnOperand {words = words} text is rest) =
+    ap (λ word. parts_from word words) (operand_word text is) ∙ ap (with_part (Operand text)) (read_if_said rest)
+read_if_said (OneWord {words = words} name value is rest) =
+    ap (λ word. parts_from word words) (joined_word name value is) ∙ ap (with_part (Setting name value)) (read_if_said rest)
+read_if_said (TwoWords {words = words} name value some is plain rest) =
+    ap (λ word. parts_from word (value ∷ words)) (named_word name some is)
+    ∙ (ap (λ dash. elim dash [ true ↦ None | false ↦ with_part (Setting name value) (parts_of words) ]) plain ∙ ap (with_part (Setting name value)) (read_if_said rest))
+read_if_said (Operands words) = refl
+
+-- what a text is, by the word that it is
+data IsWord : List ℕ → Word → Type 0 where
+  ItsOperand : (text : List ℕ) → is_operand text ≡ true → IsWord text (Plain text)
+  ItsOption : (name value : List ℕ) → IsName name → IsWord (codes "--" ++ (name ++ (codes "=" ++ value))) (Joined name value)
+  ItsName : (name : List ℕ) → name ≢ [] → IsName name → IsWord (codes "--" ++ name) (Named name)
+  ItsEnd : IsWord (codes "--") End
+  ItsNothing : (text : List ℕ) → IsWord text Unknown
+
+-- what stands before the first `=` is a name
+name_after : (b : ℕ) (bs : List ℕ) (first : Bool) → is_equals b ≡ first → IsName (before_first is_equals bs) → IsName (before_first is_equals (b ∷ bs))
+name_after b bs true here rest = rw here refl
+name_after b bs false here rest =
+    let one : 1 + position_or_len is_equals bs ≡ suc (position_or_len is_equals bs) = omega arith in
+    rw (here, one, here) rest
+
+name_before : (text : List ℕ) → IsName (before_first is_equals text)
+name_before [] = refl
+name_before (b ∷ bs) = name_after b bs (is_equals b) refl (name_before bs)
+
+joined_is : (text name value : List ℕ) → text ≡ name ++ (61 ∷ value) → IsName name → IsWord (codes "--" ++ text) (Joined name value)
+joined_is text name value is named = rw is (ItsOption name value named)
+
+option_is : (text : List ℕ) → IsWord (codes "--" ++ text) (option_of text)
+option_is [] = ItsEnd
+option_is (b ∷ bs) = by_place (nat_lt (position_or_len is_equals (b ∷ bs)) (length (b ∷ bs))) refl where
+  by_place : (test : Bool) → nat_lt (position_or_len is_equals (b ∷ bs)) (length (b ∷ bs)) ≡ test → IsWord (codes "--" ++ (b ∷ bs)) (option_of (b ∷ bs))
+  by_place true is =
+      let within : position_or_len is_equals (b ∷ bs) < length (b ∷ bs) = grind (arith, nat_tests) in
+      let here : get_or (b ∷ bs) (position_or_len is_equals (b ∷ bs)) 0 ≡ 61 = (Decides-eqb _ 61).0 (passes_at_first is_equals (b ∷ bs) 0 within) in
+      let name = before_first is_equals (b ∷ bs) in
+      let value = after_first is_equals (b ∷ bs) in
+      rw is (joined_is (b ∷ bs) name value (split_at_first is_equals (b ∷ bs) 0 within ∙ ap (λ first. name ++ (first ∷ value)) here) (name_before (b ∷ bs)))
+  by_place false is =
+      let all : before_first is_equals (b ∷ bs) ≡ b ∷ bs = take_all (position_or_len is_equals (b ∷ bs)) (b ∷ bs) (grind (arith, nat_tests)) in
+      rw is (ItsName (b ∷ bs) (λ e. cc e) (rw all at (name_before (b ∷ bs))))
+
+dashed_is : (b c : ℕ) (bs : List ℕ) (first second : Bool) → is_dash b ≡ first → is_dash c ≡ second → IsWord (b ∷ c ∷ bs) (word_of (b ∷ c ∷ bs))
+dashed_is b c bs true true is is' =
+    let first : b ≡ 45 = (Decides-eqb b 45).0 is in
+    let second : c ≡ 45 = (Decides-eqb c 45).0 is' in
+    rw (first, second) (option_is bs)
+dashed_is b c bs true false is is' = rw (is, is') (ItsNothing (b ∷ c ∷ bs))
+dashed_is b c bs false second is is' = rw is (ItsOperand (b ∷ c ∷ bs) (rw is refl))
+
+word_is : (text : List ℕ) → IsWord text (word_of text)
+word_is [] = ItsOperand [] refl
+word_is (b ∷ []) = ItsOperand (b ∷ []) refl
+word_is (b ∷ c ∷ bs) = dashed_is b c bs (is_dash b) (is_dash c) refl refl
+
+-- parts with one more before them
+with_part_some : (part : Part) (rest : Option (List Part)) (parts : List Part) → with_part part rest ≡ Some parts → (more : List Part) × ((rest ≡ Some more) × (parts ≡ part ∷ more))
+with_part_some part (Some more) parts is = (more, (refl, cc))
+with_part_some part None parts is = absurd (cc is)
+
+said_from : (words : List (List ℕ)) → ((parts : List Part) → parts_of words ≡ Some parts → Says words parts)
+    → ((name : List ℕ) (parts : List Part) → name ≢ [] → IsName name → parts_from_value name words ≡ Some parts → Says ((codes "--" ++ name) ∷ words) parts)
+    → (text : List ℕ) (word : Word) → IsWord text word → (parts : List Part) → parts_from word words ≡ Some parts → Says (text ∷ words) parts
+said_from words rest value _ _ (ItsOperand text is) parts read =
+    let more = with_part_some (Operand text) (parts_of words) parts read in
+    rw more.1.1 (AnOperand text is (rest more.0 more.1.0))
+said_from words rest value _ _ (ItsOption name given is) parts read =
+    let more = with_part_some (Setting name given) (parts_of words) parts read in
+    rw more.1.1 (OneWord name given is (rest more.0 more.1.0))
+said_from words rest value _ _ (ItsName name some is) parts read = value name parts some is read
+said_from words rest value _ _ ItsEnd parts read = let all : parts ≡ map Operand words = cc in rw all (Operands words)
+said_from words rest value _ _ (ItsNothing text) parts read = absurd (cc read)
+
+said_from_value : (value name : List ℕ) (words : List (List ℕ)) (parts : List Part) → name ≢ [] → IsName name → ((more : List Part) → parts_of words ≡ Some more → Says words more)
+    → (dash : Bool) → begins_with_dash value ≡ dash → elim dash [ true ↦ None | false ↦ with_part (Setting name value) (parts_of words) ] ≡ Some parts
+    → Says ((codes "--" ++ name) ∷ value ∷ words) parts
+said_from_value value name words parts some is rest true dash read = absurd (cc read)
+said_from_value value name words parts some is rest false plain read =
+    let more = with_part_some (Setting name value) (parts_of words) parts read in
+    rw more.1.1 (TwoWords name value some is plain (rest more.0 more.1.0))
+
+mutual
+  said_if_read : (words : List (List ℕ)) (parts : List Part) → parts_of words ≡ Some parts → Says words parts
+  said_if_read [] parts read = let none : parts ≡ [] = cc in rw none Nothing
+  said_if_read (text ∷ words) parts read =
+      said_from words (λ more. said_if_read words more) (λ name. said_if_read_value words name) text (word_of text) (word_is text) parts read
+
+  said_if_read_value : (words : List (List ℕ)) (name : List ℕ) (parts : List Part) → name ≢ [] → IsName name → parts_from_value name words ≡ Some parts → Says ((codes "--" ++ name) ∷ words) parts
+  said_if_read_value [] name parts some is read = absurd (cc read)
+  said_if_read_value (value ∷ words) name parts some is read =
+      said_from_value value name words parts some is (λ more. said_if_read words more) (begins_with_dash value) refl read
+
+pub parts_are_said : PartsAreSaid
+parts_are_said words parts = (said_if_read words parts, read_if_said)

@@ -1,0 +1,15 @@
+//! The command line: the words that it has, and the command that they stand for.
+#![tactic(auto)]
+
+mod arguments;
+mod command;
+pub mod laws;
+mod line;
+mod number;
+mod word;
+
+pub use command::{Command, Listing};
+pub use line::Line;
+
+#[cfg(test)]
+mod tests;
