@@ -1,0 +1,15 @@
+pub mod Alike
+pub mod Called
+pub mod Delayed
+pub mod Entered
+pub mod Expressions
+pub mod Forcing
+pub mod Forms
+pub mod Found
+pub mod Listed
+pub mod Lookups
+pub mod Places
+pub mod Printing
+pub mod Pushed
+pub mod Scoping
+pub mod TermOf

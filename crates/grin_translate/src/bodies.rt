@@ -1,0 +1,154 @@
+// The procedures of what waits.
+#![tactic(auto, using(grin_syntax::proofs::TreeOf::tree_of))]
+
+ghost use Rattle.std.specs.Prelude.{◌≡◌, ◌+◌, map, max, IfOk};
+ghost use Rattle.arity_check.specs.declared.normal.Var.TheVariants.{Local};
+ghost use Rattle.arity_check.specs.Program.{program};
+ghost use Rattle.grin_syntax.specs.Tree.{code_of, procedure_of};
+ghost use Rattle.grin_translate.specs.declared.tags.Delay.TheVariants.{Calls, Applies};
+ghost use Rattle.grin_translate.specs.Tags.{numbers_from, delay_name, delay_params};
+ghost use Rattle.grin_translate.specs.Translation.{procedure as procedure_in, delay_body, span};
+ghost use Rattle.grin_translate.specs.Numbered.{AreNumbers};
+
+use crate::block::{application, block, ended, primitive};
+use crate::counts::bound_in;
+use crate::names::{waiting_name, waiting_params};
+use crate::numbering::Numbers;
+use crate::procedures::{input_block, procedure};
+use crate::tags::Delay;
+use crate::variables::{Variables, sum};
+use arity_check::normal::{Checked, Var};
+use grin_syntax::program::{Block, Op, Proc};
+use seq::Seq;
+use std::alloc::{AllocError, Global};
+
+fn greater(a: u32, b: u32) -> u32
+    ensures { result ≡ max a b }
+{
+    if a < b { b } else { a }
+}
+
+/// The locals after the first one, so many.
+fn later_locals(alloc: Global, count: u32) -> Result<Seq<Var>, AllocError>
+    ensures { IfOk result (λ xs. xs ≡ map Local (numbers_from 1 count)) }
+{
+    let mut locals = Seq::new(alloc);
+    for x in 0..count {
+        locals.push(Var::Local(1 + x))?;
+    }
+    Ok(locals)
+}
+
+/// A function's block, with the number of the numbers that its variables have.
+fn function_block(
+    alloc: Global,
+    p: &Checked,
+    numbers: &Numbers,
+    base: u32,
+    f: u32,
+) -> Result<(Block, u32), AllocError>
+    requires { AreNumbers (program p.now) numbers.now }
+    ensures is { IfOk result (λ r. code_of r.0 ≡ delay_body (program p.now) base (Calls f)) }
+    ensures numbers { IfOk result (λ r. r.1 ≡ span (program p.now) (Calls f)) }
+{
+    let none = Seq::new(alloc);
+    match p.funs.get(f as usize) {
+        Some(fun) => {
+            let mut variables = Variables { base, bound: 0 };
+            let body = block(alloc, p, numbers, &mut variables, &fun.body, none)?;
+            let binders = bound_in(&fun.body)?;
+            let locals = sum(fun.params, binders)?;
+            let most = greater(locals, variables.bound);
+            let count = sum(most, most)?;
+            Ok((body, count))
+        }
+        None => {
+            let body = ended(alloc, none, Op::Fail)?;
+            Ok((body, 0))
+        }
+    }
+}
+
+fn application_block(
+    alloc: Global,
+    p: &Checked,
+    numbers: &Numbers,
+    base: u32,
+    args: u32,
+) -> Result<(Block, u32), AllocError>
+    requires { AreNumbers (program p.now) numbers.now }
+    ensures is { IfOk result (λ r. code_of r.0 ≡ delay_body (program p.now) base (Applies args)) }
+    ensures numbers { IfOk result (λ r. r.1 ≡ span (program p.now) (Applies args)) }
+{
+    let xs = later_locals(alloc, args)?;
+    let mut variables = Variables { base, bound: 0 };
+    let body = application(
+        alloc,
+        p,
+        numbers,
+        &mut variables,
+        Seq::new(alloc),
+        Var::Local(0),
+        xs.as_slice(),
+    )?;
+    let most = sum(1, args)?;
+    let count = sum(most, most)?;
+    Ok((body, count))
+}
+
+/// The block of what waits, with the number of the numbers that its variables have.
+fn waiting_block(
+    alloc: Global,
+    p: &Checked,
+    numbers: &Numbers,
+    base: u32,
+    delay: Delay,
+) -> Result<(Block, u32), AllocError>
+    requires { AreNumbers (program p.now) numbers.now }
+    ensures is { IfOk result (λ r. code_of r.0 ≡ delay_body (program p.now) base delay) }
+    ensures numbers { IfOk result (λ r. r.1 ≡ span (program p.now) delay) }
+{
+    let mut variables = Variables { base, bound: 0 };
+    match delay {
+        Delay::Calls(f) => function_block(alloc, p, numbers, base, f),
+        Delay::Applies(args) => application_block(alloc, p, numbers, base, args),
+        Delay::Operates(op) => {
+            let body = primitive(
+                alloc,
+                p,
+                numbers,
+                &mut variables,
+                Seq::new(alloc),
+                op,
+                Var::Local(0),
+                Var::Local(1),
+            )?;
+            Ok((body, 10))
+        }
+        Delay::Reads => {
+            let body = input_block(alloc, p, numbers, &variables)?;
+            Ok((body, 4))
+        }
+    }
+}
+
+/// The procedure of what waits, whose variables begin with the number `base`, and the first number after its variables.
+pub fn waiting_procedure(
+    alloc: Global,
+    p: &Checked,
+    numbers: &Numbers,
+    base: u32,
+    delay: Delay,
+) -> Result<(Proc, u32), AllocError>
+    requires { AreNumbers (program p.now) numbers.now }
+    ensures is { IfOk result (λ r. procedure_of r.0 ≡ procedure_in (program p.now) base (delay_name (program p.now) delay) (delay_params (program p.now) delay) (delay_body (program p.now) base delay)) }
+    ensures next { IfOk result (λ r. r.1 ≡ base + span (program p.now) delay) }
+{
+    let name = waiting_name(alloc, p, delay)?;
+    let params = waiting_params(p, delay)?;
+    let (body, count) = waiting_block(alloc, p, numbers, base, delay)?;
+    let next = sum(base, count)?;
+    let variables = Variables { base, bound: 0 };
+    let made = procedure(alloc, p, name, params, &variables, body)?;
+    Ok((made, next))
+}

@@ -1,0 +1,66 @@
+// The translation of a program in normal form to GRIN.
+#![tactic(auto)]
+
+ghost use Rattle.std.specs.Prelude.{◌≡◌, IfOk};
+ghost use Rattle.arity_check.specs.Program.{program};
+ghost use Rattle.grin_syntax.specs.Tree.{program_of};
+ghost use Rattle.grin_translate.specs.Translation.{tr};
+ghost use Rattle.grin_translate.specs.Same.{TranslationDoesAs, ValidTranslationDoesAs};
+
+mod block;
+mod bodies;
+mod counts;
+mod lists;
+mod names;
+pub mod numbering;
+mod procedures;
+pub mod tags;
+#[cfg(test)]
+mod tests;
+mod variables;
+mod waiting;
+
+use arity_check::normal::Checked;
+use grin_syntax::program::{Grin, ProcId};
+use numbering::Numbers;
+use std::alloc::{AllocError, Global};
+use variables::sum;
+use waiting::takes_input;
+
+/// The translation of a program in normal form.
+pub fn translate(alloc: Global, p: &Checked) -> Result<Grin, AllocError>
+    ensures { IfOk result (λ g. program_of g ≡ tr (program p.now)) }
+{
+    let numbers = Numbers::new(alloc, p)?;
+    let tags = lists::tags(alloc, p, &numbers)?;
+    let globals = lists::globals(alloc, p, &numbers)?;
+    let procs = lists::procedures(alloc, p, &numbers)?;
+    if takes_input(p) {
+        let start = ProcId(sum(1, numbers.waiting)?);
+        return Ok(Grin {
+            tags,
+            globals,
+            procs,
+            start,
+            argument: None,
+        });
+    }
+    let main = numbers.global(p, p.main);
+    Ok(Grin {
+        tags,
+        globals,
+        procs,
+        start: ProcId(numbers.waiting),
+        argument: Some(main),
+    })
+}
+
+/// The translated program does what the program means.
+pub fn translation_does_as()
+    ensures { TranslationDoesAs }
+{}
+
+/// The translation of the normal form of a program that breaks no rule does what the program means.
+pub fn valid_translation_does_as()
+    ensures { ValidTranslationDoesAs }
+{}

@@ -1,0 +1,250 @@
+// The tags, global cells and procedures of a translated program.
+
+ghost use Rattle.std.specs.Prelude.{◌≡◌, ◌++◌, ◌+◌, map, length, IfOk};
+ghost use Rattle.arity_check.specs.Program.{program};
+ghost use Rattle.core_meaning.specs.Evaluation.{params as params_of};
+ghost use Rattle.grin_syntax.specs.Tree.{procedure_of};
+ghost use Rattle.grin_translate.specs.declared.tags.Kind.TheVariants.{Constructor, Waits};
+ghost use Rattle.grin_translate.specs.Tags.{tag_of as tag_in, numbers_from, parts, parts_of, kinds, delays};
+ghost use Rattle.grin_translate.specs.Translation.{global_cells, delayed_procs, rest, tr};
+ghost use Rattle.grin_translate.specs.Pieces.{shared_of, start_if};
+ghost use Rattle.grin_translate.specs.Numbered.{AreNumbers};
+
+use crate::bodies::waiting_procedure;
+use crate::names::{function_name, waiting_name, waiting_params};
+use crate::numbering::{Numbers, params};
+use crate::procedures::{print_procedure, start_procedure};
+use crate::tags::{Delay, Kind};
+use crate::variables::sum;
+use crate::waiting::takes_input;
+use arity_check::normal::Checked;
+use grin_syntax::program::{GlobalCell, Proc, Site, Tag, TagKind};
+use seq::Seq;
+use std::alloc::{AllocError, Global};
+
+/// The tag of a kind.
+fn tag_of(alloc: Global, p: &Checked, numbers: &Numbers, kind: Kind) -> Result<Tag, AllocError>
+    requires { AreNumbers (program p.now) numbers.now }
+    ensures { IfOk result (λ t. t ≡ tag_in (program p.now) kind) }
+{
+    match kind {
+        Kind::Number => Ok(Tag {
+            kind: TagKind::Con,
+            name: Seq::from_slice(alloc, b"Int")?,
+            missing: 0,
+            fields: 1,
+            proc: None,
+        }),
+        Kind::Constructor(c) => constructor_tag(alloc, p, c),
+        Kind::Waits(delay) => Ok(Tag {
+            kind: TagKind::Fun,
+            name: waiting_name(alloc, p, delay)?,
+            missing: 0,
+            fields: waiting_params(p, delay)?,
+            proc: Some(numbers.proc(p, delay)),
+        }),
+        Kind::Lacks(f, missing) => Ok(Tag {
+            kind: TagKind::Part,
+            name: function_name(alloc, p, f)?,
+            missing,
+            fields: params(p, f).saturating_sub(missing),
+            proc: Some(numbers.proc(p, Delay::Calls(f))),
+        }),
+    }
+}
+
+fn constructor_tag(alloc: Global, p: &Checked, c: u32) -> Result<Tag, AllocError>
+    ensures { IfOk result (λ t. t ≡ tag_in (program p.now) (Constructor c)) }
+{
+    match p.cons.get(c as usize) {
+        Some(con) => Ok(Tag {
+            kind: TagKind::Con,
+            name: con.name.copied(alloc)?,
+            missing: 0,
+            fields: con.fields,
+            proc: None,
+        }),
+        None => Ok(Tag {
+            kind: TagKind::Con,
+            name: Seq::new(alloc),
+            missing: 0,
+            fields: 0,
+            proc: None,
+        }),
+    }
+}
+
+/// The tags of the constructors, after others.
+fn constructor_tags(
+    alloc: Global,
+    p: &Checked,
+    numbers: &Numbers,
+    before: Seq<Tag>,
+) -> Result<Seq<Tag>, AllocError>
+    requires { AreNumbers (program p.now) numbers.now }
+    ensures { IfOk result (λ ts. ts ≡ before ++ map (λ c. tag_in (program p.now) (Constructor c)) (numbers_from 0 numbers.now.constructors)) }
+{
+    let mut made = before;
+    for c in 0..numbers.constructors {
+        let tag = tag_of(alloc, p, numbers, Kind::Constructor(c))?;
+        made.push(tag)?;
+    }
+    Ok(made)
+}
+
+/// The tags of what waits, after others.
+fn waiting_tags(
+    alloc: Global,
+    p: &Checked,
+    numbers: &Numbers,
+    before: Seq<Tag>,
+) -> Result<Seq<Tag>, AllocError>
+    requires { AreNumbers (program p.now) numbers.now }
+    ensures { IfOk result (λ ts. ts ≡ before ++ map (λ d. tag_in (program p.now) (Waits d)) numbers.now.delays) }
+{
+    let mut made = before;
+    for delay in numbers.delays.as_slice() {
+        let tag = tag_of(alloc, p, numbers, Kind::Waits(*delay))?;
+        made.push(tag)?;
+    }
+    Ok(made)
+}
+
+/// The tags of a function that lacks arguments, after others: the one that lacks all comes first.
+fn part_tags(
+    alloc: Global,
+    p: &Checked,
+    numbers: &Numbers,
+    f: u32,
+    before: Seq<Tag>,
+) -> Result<Seq<Tag>, AllocError>
+    requires { AreNumbers (program p.now) numbers.now }
+    ensures { IfOk result (λ ts. ts ≡ before ++ map (tag_in (program p.now)) (parts_of f (params_of (program p.now) f))) }
+{
+    let mut made = before;
+    let mut missing = params(p, f);
+    'parts: while missing > 0 {
+        let tag = tag_of(alloc, p, numbers, Kind::Lacks(f, missing))?;
+        made.push(tag)?;
+        missing -= 1;
+    }
+    Ok(made)
+}
+
+fn all_part_tags(
+    alloc: Global,
+    p: &Checked,
+    numbers: &Numbers,
+    before: Seq<Tag>,
+) -> Result<Seq<Tag>, AllocError>
+    requires { AreNumbers (program p.now) numbers.now }
+    ensures { IfOk result (λ ts. ts ≡ before ++ map (tag_in (program p.now)) (parts (program p.now).funs 0)) }
+{
+    let mut made = before;
+    for f in 0..numbers.functions {
+        made = part_tags(alloc, p, numbers, f, made)?;
+    }
+    Ok(made)
+}
+
+/// The tags of a program, in their order.
+pub fn tags(alloc: Global, p: &Checked, numbers: &Numbers) -> Result<Seq<Tag>, AllocError>
+    requires { AreNumbers (program p.now) numbers.now }
+    ensures { IfOk result (λ ts. ts ≡ map (tag_in (program p.now)) (kinds (program p.now))) }
+{
+    let number = tag_of(alloc, p, numbers, Kind::Number)?;
+    let mut first = Seq::new(alloc);
+    first.push(number)?;
+    let second = constructor_tags(alloc, p, numbers, first)?;
+    let third = waiting_tags(alloc, p, numbers, second)?;
+    all_part_tags(alloc, p, numbers, third)
+}
+
+/// The cells of the functions without parameters, after others.
+fn shared_cell(
+    alloc: Global,
+    p: &Checked,
+    numbers: &Numbers,
+    f: u32,
+    before: Seq<GlobalCell>,
+) -> Result<Seq<GlobalCell>, AllocError>
+    requires { AreNumbers (program p.now) numbers.now }
+    ensures { IfOk result (λ cs. cs ≡ before ++ shared_of (program p.now) f) }
+{
+    let mut made = before;
+    if params(p, f) == 0 {
+        let name = function_name(alloc, p, f)?;
+        made.push(GlobalCell {
+            name,
+            site: Site(f),
+            tag: numbers.tag(p, Kind::Waits(Delay::Calls(f))),
+        })?;
+    }
+    Ok(made)
+}
+
+/// The global cells of a program.
+pub fn globals(alloc: Global, p: &Checked, numbers: &Numbers) -> Result<Seq<GlobalCell>, AllocError>
+    requires { AreNumbers (program p.now) numbers.now }
+    ensures { IfOk result (λ cs. cs ≡ global_cells (program p.now) (program p.now).funs 0) }
+{
+    let mut made = Seq::new(alloc);
+    for f in 0..numbers.functions {
+        made = shared_cell(alloc, p, numbers, f, made)?;
+    }
+    Ok(made)
+}
+
+/// The procedures of what waits, and the first number after their variables.
+fn waiting_procedures(
+    alloc: Global,
+    p: &Checked,
+    numbers: &Numbers,
+) -> Result<(Seq<Proc>, u32), AllocError>
+    requires { AreNumbers (program p.now) numbers.now }
+    ensures is { IfOk result (λ r. map procedure_of r.0 ≡ delayed_procs (program p.now) (length (program p.now).funs) (delays (program p.now))) }
+    ensures next { IfOk result (λ r. r.1 ≡ rest (program p.now)) }
+{
+    let mut base = numbers.functions;
+    let mut made = Seq::new(alloc);
+    let waiting = numbers.delays.as_slice();
+    for delay in waiting {
+        let (each, next) = waiting_procedure(alloc, p, numbers, base, *delay)?;
+        made.push(each)?;
+        base = next;
+    }
+    Ok((made, base))
+}
+
+/// The start after other procedures, where `main` takes the input.
+fn with_start(
+    alloc: Global,
+    p: &Checked,
+    numbers: &Numbers,
+    base: u32,
+    before: Seq<Proc>,
+) -> Result<Seq<Proc>, AllocError>
+    requires { AreNumbers (program p.now) numbers.now }
+    ensures { IfOk result (λ qs. map procedure_of qs ≡ map procedure_of before ++ start_if (program p.now) base) }
+{
+    let mut made = before;
+    if !takes_input(p) {
+        return Ok(made);
+    }
+    let next = sum(base, 10)?;
+    let start = start_procedure(alloc, p, numbers, next)?;
+    made.push(start)?;
+    Ok(made)
+}
+
+/// The procedures of a program.
+pub fn procedures(alloc: Global, p: &Checked, numbers: &Numbers) -> Result<Seq<Proc>, AllocError>
+    requires { AreNumbers (program p.now) numbers.now }
+    ensures { IfOk result (λ qs. map procedure_of qs ≡ (tr (program p.now)).procs) }
+{
+    let (waiting, base) = waiting_procedures(alloc, p, numbers)?;
+    let print = print_procedure(alloc, p, numbers, base)?;
+    let mut all = waiting;
+    all.push(print)?;
+    with_start(alloc, p, numbers, base, all)
+}
