@@ -1,0 +1,16 @@
+pub mod Lists
+pub mod Limits
+pub mod Delays
+pub mod Bounds
+pub mod Scopes
+pub mod Named
+pub mod Blocks
+pub mod Bodies
+pub mod Parts
+pub mod Tables
+pub mod Whole
+pub mod UniqueNumbers
+pub mod UniqueBlocks
+pub mod UniqueTerms
+pub mod UniqueSites
+pub mod UniquePrograms
