@@ -14,3 +14,7 @@ pub mod Causes
 pub mod Readability
 pub mod Answers
 pub mod OnlyOne
+pub mod Numerals
+pub mod Rereading
+pub mod Reprinted
+pub mod RoundTrip

@@ -54,7 +54,7 @@ found : (names : Texts) (w : List ℕ) → has names w ≡ true → find (bytes_
 found [] w h = absurd cc
 found (v ∷ names) w h = found_by names w v (bytes_eq w v) refl h (found names w)
 
-at_number : (names : Texts) (w : List ℕ) → has names w ≡ true → slice_get names (number_in names w) ≡ Some w
+pub at_number : (names : Texts) (w : List ℕ) → has names w ≡ true → slice_get names (number_in names w) ≡ Some w
 at_number names w h = sym (find_at (bytes_eq w) names) ∙ found names w h
 
 letters_known : (names : Texts) (w : List ℕ) (o : Option Token) → keyword_of w ≡ o → kind_of w ≡ Some Lower → (is_none o ≡ true → has names w ≡ true) → ((t : Token) → o ≡ Some t → KnownToken names t) → KnownToken names (said_by_letters names w o)
@@ -95,7 +95,7 @@ mutual
   term_readable : (names : Texts) (l : Room) (d : ℕ) (a : Term) (ts : List Lexeme) → SpellsTerm l d a ts → EachKnown names ts → ReadableTerm names a
   term_readable names l d (tree.Name n at) ts h k = (subst (EachKnown names) h k).0
   term_readable names l d (tree.Con n at) ts h k = (subst (EachKnown names) h k).0
-  term_readable names l d (tree.Int v at) ts h k = tt
+  term_readable names l d (tree.Int v at) ts h k = (subst (EachKnown names) h.1 k).0
   term_readable names l d (tree.Bracket a xs at) ts h k =
       let close = lexeme h.2 word.Close ∷ [] in
       let k2 : EachKnown names (h.0 ++ (h.1 ++ close)) = (subst (EachKnown names) h.6 k).1 in
@@ -127,7 +127,7 @@ binds_readable names l d (b ∷ bs) ts h k =
 
 pattern_readable : (names : Texts) (p : Pattern) (ts : List Lexeme) → SpellsPattern p ts → EachKnown names ts → ReadablePattern names p
 pattern_readable names (pattern.Con c fields) ts h k = let k2 = subst (EachKnown names) h k in (k2.0, binders_readable names fields k2.1)
-pattern_readable names (pattern.Int v at) ts h k = tt
+pattern_readable names (pattern.Int v at) ts h k = (subst (EachKnown names) h.1 k).0
 pattern_readable names (pattern.Default x) ts h k = (subst (EachKnown names) h k).0
 
 mutual

@@ -10,3 +10,6 @@ pub mod Machine
 pub mod Parsed
 pub mod Lexed
 pub mod Laws
+pub mod Canonical
+pub mod Same
+pub mod Depth

@@ -7,7 +7,7 @@ use Rattle.core_reader.specs.declared.look.Kind.TheVariants.{Lower, Upper}
 use Rattle.core_reader.specs.Tree.{Term, Terms, NoTerms, AndTerm, Application, Bind, Expr, App, Let, Case, Alts, NoAlts, AndAlt, Data, Function, Program}
 use Rattle.core_reader.specs.Tree as tree
 use Rattle.core_reader.specs.Tokens.{kind_of}
-use Rattle.core_reader.specs.Text.{keyword_of}
+use Rattle.core_reader.specs.Text.{keyword_of, IsInRange}
 use Rattle.core_reader.specs.Grammar.{IsGroup, IsSomeAlts}
 use Rattle.core_reader.specs.Size.{program_size}
 
@@ -32,7 +32,7 @@ abbrev mutual
   pub ReadableTerm : List (List ℕ) → Term → Type 0
   ReadableTerm names (tree.Name n at) = IsNamed names n
   ReadableTerm names (tree.Con n at) = IsTextAt names IsConstructor n
-  ReadableTerm names (tree.Int k at) = Unit {0}
+  ReadableTerm names (tree.Int k at) = IsInRange k
   ReadableTerm names (tree.Bracket head args at) = ReadableTerm names head × ReadableTerms names args
 
   pub ReadableTerms : List (List ℕ) → Terms → Type 0
@@ -47,7 +47,7 @@ ReadableBind names b = IsBound names b.binder × ReadableApp names b.app
 
 abbrev pub ReadablePattern : List (List ℕ) → Pattern → Type 0
 ReadablePattern names (pattern.Con c fields) = IsTextAt names IsConstructor c.name.0 × All (IsBound names) fields
-ReadablePattern names (pattern.Int k at) = Unit {0}
+ReadablePattern names (pattern.Int k at) = IsInRange k
 ReadablePattern names (pattern.Default x) = IsBound names x
 
 -- no let group and no list of alternatives is empty

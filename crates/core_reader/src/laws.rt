@@ -1,6 +1,17 @@
 //! What the definitions of texts and their rules say by themselves.
 
-ghost use Rattle.core_reader.specs.Laws.{OneRefusal, OneReading, OneProgram};
+ghost use Rattle.std.specs.Prelude.{◌≤◌, length};
+ghost use Rattle.core_reader.specs.Tree.{program};
+ghost use Rattle.core_reader.specs.Readable.{IsReadable};
+ghost use Rattle.core_reader.specs.Canonical.{canonical};
+ghost use Rattle.core_reader.specs.Depth.{program_depth};
+ghost use Rattle.core_reader.specs.Laws.{OneRefusal, OneReading, OneProgram, CanonicalStands, IsSameAgain};
+
+use crate::printer::print;
+use crate::reader::read;
+use crate::refusal::ReadRefusal;
+use crate::syntax::Core;
+use std::alloc::Global;
 
 /// The refusals exclude one another: a text breaks at most one rule first, at one place.
 pub fn one_refusal()
@@ -16,3 +27,20 @@ pub fn one_reading()
 pub fn one_program()
     ensures { OneProgram }
 {}
+
+/// The canonical text of a readable program stands for it: where the text has at most 1,048,576 bytes and at most 200
+/// constructs are open at one place, it breaks no rule, and the program that it stands for is the same, the places and
+/// the numbers of the names aside.
+pub fn canonical_stands()
+    ensures { CanonicalStands }
+{}
+
+/// What `read` answers to the text that `print` gives: where the text has at most 1,048,576 bytes and at most 200
+/// constructs are open at one place, the same program, the places and the numbers of the names aside, or want of memory.
+pub fn reread(alloc: Global, core: &Core) -> Result<Core, ReadRefusal>
+    requires { IsReadable (program core.now) }
+    ensures { length (canonical (program core.now)) ≤ 1048576 → program_depth (program core.now) ≤ 200 → IsSameAgain (program core.now) result }
+{
+    let text = print(alloc, core)?;
+    read(alloc, text.as_slice())
+}

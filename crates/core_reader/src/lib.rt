@@ -11,6 +11,7 @@ pub mod laws;
 mod lexer;
 mod look;
 mod parser;
+mod printer;
 mod reader;
 mod refusal;
 pub mod size;
@@ -19,6 +20,7 @@ pub mod syntax;
 mod tests;
 mod token;
 
+pub use printer::print;
 pub use reader::read;
 pub use refusal::ReadRefusal;
 pub use syntax::{

@@ -1,7 +1,7 @@
 //! Texts with their answers.
 
-use crate::size::size;
-use crate::{ReadRefusal, read};
+use crate::laws::reread;
+use crate::{ReadRefusal, print, read};
 use std::alloc::{AllocError, Global};
 use std::test::Fail;
 
@@ -113,6 +113,36 @@ fn passes_over_comments(rt: HostRuntime) -> Result<(), Fail> {
     assert_eq!(rt; functions.len(), 2);
     for (function, at) in functions.iter().zip(&places) {
         assert_eq!(rt; function.at, *at);
+    }
+    Ok(())
+}
+
+/// A text with each construct, its functions before its constructors, and its canonical text.
+const SPREAD: &[u8] =
+    b"main = case id 007 of { Nil -> -0 ; Cons x _ -> let a = (f) ; b = Cons ( Cons ( x ) 1 ) -08 ; in f a b ;\r\n-3 -> id 0 ; 2 -> Nil ; y -> y ; } ;\r\n-- constructors ; ) come first\r\nid x=x;f=id;data Cons 02;data Nil\t0;";
+
+const CANONICAL: &[u8] =
+    b"data Cons 2;\ndata Nil 0;\nmain = case id 7 of { Nil -> 0; Cons x _ -> let a = (f); b = Cons (Cons (x) 1) -8 in f a b; -3 -> id 0; 2 -> Nil; y -> y };\nid x = x;\nf = id;\n";
+
+#[test]
+fn prints_the_canonical_text(rt: HostRuntime) -> Result<(), Fail> {
+    let rows: [(&[u8], &[u8]); 4] = [
+        (b" -- nothing", b""),
+        (
+            b"data Nil 0; data Cons 2; main = Cons 72 (Cons 105 Nil);",
+            b"data Nil 0;\ndata Cons 2;\nmain = Cons 72 (Cons 105 Nil);\n",
+        ),
+        (
+            b"f = -2147483648; data T 2147483647;",
+            b"data T 2147483647;\nf = -2147483648;\n",
+        ),
+        (SPREAD, CANONICAL),
+    ];
+    for (text, want) in rows {
+        let core = read(rt.alloc(), text)?;
+        assert_eq!(rt; print(rt.alloc(), &core)?.as_slice(), want);
+        let again = reread(rt.alloc(), &core)?;
+        assert_eq!(rt; print(rt.alloc(), &again)?.as_slice(), want);
     }
     Ok(())
 }
