@@ -1,0 +1,5 @@
+pub mod Analysed
+pub mod Inlined
+pub mod Law
+pub mod Met
+pub mod Without

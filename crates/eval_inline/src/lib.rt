@@ -1,0 +1,54 @@
+// Evaluations by a case over the tags that they meet.
+#![tactic(auto)]
+
+ghost use Rattle.std.specs.Prelude.{◌≡◌, IfOk};
+ghost use Rattle.grin_syntax.specs.Tree.{program_of};
+ghost use Rattle.grin_syntax.specs.Formed.{Formed};
+ghost use Rattle.grin_meaning.specs.Keeps.{Keeps};
+ghost use Rattle.flow_system.specs.Inlining.{eval_inlined};
+ghost use Rattle.points_to.specs.Found.{found};
+ghost use Rattle.eval_inline.specs.Analysed.{IsAnalysed};
+ghost use Rattle.eval_inline.specs.Law.{EvalInliningKeeps};
+ghost use Rattle.eval_inline.specs.Without.{HasNoEval};
+
+mod blocks;
+pub mod fresh;
+pub mod met;
+
+use blocks::Inlining;
+use fresh::Fresh;
+use grin_syntax::{Grin, Proc};
+use points_to::Flow;
+use seq::Seq;
+use std::alloc::{AllocError, Global};
+use std::mem;
+
+/// Inlining by a solution of the program's flow system keeps what the program does.
+pub fn inlining_keeps()
+    ensures { EvalInliningKeeps }
+{}
+
+/// The program with each evaluation as a fetch and a case over the tags that the solution has where it looks. More variables than can be numbered are want of memory.
+pub fn inline(alloc: Global, mut g: Grin, flow: &Flow) -> Result<Grin, AllocError>
+    ensures inlined { IfOk result (λ h. program_of h ≡ eval_inlined (found flow.now) (program_of g)) }
+    ensures meaning { IsAnalysed (found flow.now) (program_of g) → IfOk result (λ h. Keeps (program_of g) (program_of h)) }
+    ensures formed { Formed (program_of g) → IfOk result (λ h. Formed (program_of h)) }
+    ensures no_eval { IfOk result (λ h. HasNoEval (program_of h)) }
+{
+    let mut fresh = Fresh::past(g.procs.as_slice());
+    let procs = mem::replace(&mut g.procs, Seq::new(alloc));
+    let inlining = Inlining { program: &g, flow };
+    let mut made = Seq::new(alloc);
+    for proc in procs.into_vec() {
+        made.push(Proc {
+            name: proc.name,
+            params: proc.params,
+            body: inlining.block(alloc, &mut fresh, proc.body)?,
+        })?;
+    }
+    g.procs = made;
+    Ok(g)
+}
+
+#[cfg(test)]
+mod tests;
