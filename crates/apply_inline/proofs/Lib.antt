@@ -1,0 +1,17 @@
+pub mod Applied
+pub mod Begins
+pub mod Binding
+pub mod Both
+pub mod Candidate
+pub mod Done
+pub mod Filtered
+pub mod Has
+pub mod Loops
+pub mod Measured
+pub mod Next
+pub mod Placed
+pub mod Still
+pub mod Sums
+pub mod Weighed
+pub mod Well
+pub mod Whole

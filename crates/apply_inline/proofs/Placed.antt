@@ -1,0 +1,12 @@
+-- Lists as far as a loop has come.
+use Rattle.std.proofs.Common.{◌≡◌, ℕ, zero, suc, ◌+◌, ◌<◌, ◌≤◌, Bool, true, false, cond, List, [], ◌∷◌, ◌++◌, map, take, drop, length, get_or, drop-cons, add-one, Option, Some, None, refl, sym, ap, ◌∙◌, arith}
+use Rattle.grin_syntax.specs.declared.program.Tag.{Tag}
+use Rattle.grin_syntax.specs.Tags.{is_part, part_from}
+use Rattle.flow_system.proofs.SoFar.{take_next, take_all}
+use Rattle.eval_inline.proofs.Pieces.{map_push}
+
+pub map_next : {X Y : Type 0} (f : X → Y) (xs : List X) (i : ℕ) (x : X) → i < length xs → x ≡ get_or xs i x → map f (take (i + 1) xs) ≡ map f (take i xs) ++ f x ∷ []
+map_next f xs i x lt is = ap (map f) (take_next xs i x lt is) ∙ map_push f (take i xs) x
+
+pub map_all : {X Y : Type 0} (f : X → Y) (xs : List X) (i : ℕ) → length xs ≤ i → map f (take i xs) ≡ map f xs
+map_all f xs i le = ap (map f) (take_all xs i le)

@@ -1,0 +1,169 @@
+-- What the loops that add sizes have added so far.
+use Rattle.std.proofs.Common.{◌≡◌, ℕ, zero, suc, ◌+◌, ◌-◌, ◌^◌, ◌<◌, ◌≤◌, min, Bool, true, false, cond, List, [], ◌∷◌, ◌++◌, map, take, length, get_or, Option, Some, None, slice_get, refl, sym, ap, ◌∙◌, subst, arith}
+use Rattle.std.specs.List.{filter}
+use Rattle.grin_syntax.specs.declared.program.Stmt.{Stmt}
+use Rattle.grin_syntax.specs.declared.program.Stmt.TheVariants.{Store, Bind}
+use Rattle.grin_syntax.specs.declared.program.Alt.{Alt}
+use Rattle.grin_syntax.specs.declared.program.Op.{Op}
+use Rattle.grin_syntax.specs.declared.program.Op.TheVariants.{Apply}
+use Rattle.grin_syntax.specs.declared.program.Block.{Block}
+use Rattle.grin_syntax.specs.declared.program.Cell.{Cell}
+use Rattle.grin_syntax.specs.declared.program.Target.{Target}
+use Rattle.grin_syntax.specs.declared.program.Tag.{Tag}
+use Rattle.grin_syntax.specs.declared.program.TagId.{TagId}
+use Rattle.grin_syntax.specs.declared.program.Shape.{Shape}
+use Rattle.grin_syntax.specs.declared.program.Word.{Word}
+use Rattle.grin_syntax.specs.declared.program.Val.{Val}
+use Rattle.grin_syntax.specs.Tree.{Code, end, store, bind, Arms, no_arm, arm, act_of, before_of, arm_of, code_of, all_before, arms_of, Procedure, Program}
+use Rattle.grin_syntax.proofs.TreeOf.{act_of-Apply, code_of-parts, arm_of-parts, before_of-Store, before_of-Bind}
+use Rattle.flow_system.specs.Solution.{Solution, among}
+use Rattle.flow_system.specs.Size.{val_size, target_size, shape_size, cells_size, total}
+use Rattle.flow_system.specs.declared.fact.Element.TheVariants.{Tag as tag}
+use Rattle.flow_system.specs.declared.fact.Place.TheVariants.{Site as site}
+use Rattle.flow_system.specs.declared.fact.Part.TheVariants.{Tags as tags}
+use Rattle.flow_system.specs.Inlining.{those, some_of, sites_of, tags_of}
+use Rattle.flow_system.proofs.SoFar.{take_next, take_all, before_snoc}
+use Rattle.eval_inline.specs.Met.{tags_from}
+use Rattle.eval_inline.proofs.Pieces.{map_push}
+use Rattle.apply_inline.specs.Applied.{arms_before}
+use Rattle.apply_inline.specs.Expanded.{capped, eval_tag_size, eval_tags_size, evaluation_size, part_tag_size, parts_size, application_size, expanded_act, expanded_code, expanded_arms}
+use Rattle.apply_inline.proofs.Loops.{arms_before-push, arms_of_before}
+
+cells_push : (cs : List Cell) (c : Cell) → cells_size (cs ++ c ∷ []) ≡ cells_size cs + (2 + val_size c.val)
+cells_push [] c = omega arith
+cells_push (d ∷ cs) c = let h = cells_push cs c in omega arith
+
+pub cells_next : (cs : List Cell) (i : ℕ) (c : Cell) → i < length cs → c ≡ get_or cs i c → cells_size (take (i + 1) cs) ≡ cells_size (take i cs) + (2 + val_size c.val)
+cells_next cs i c lt is = ap cells_size (take_next cs i c lt is) ∙ cells_push (take i cs) c
+
+pub cells_done : (cs : List Cell) (i : ℕ) → length cs ≤ i → cells_size (take i cs) ≡ cells_size cs
+cells_done cs i le = ap cells_size (take_all cs i le)
+
+total_push : {X : Type 0} (g : X → Procedure) (f : Procedure → ℕ) (xs : List X) (x : X) → total f (map g (xs ++ x ∷ [])) ≡ total f (map g xs) + f (g x)
+total_push g f [] x = omega arith
+total_push g f (y ∷ xs) x = let h = total_push g f xs x in omega arith
+
+pub total_next : {X : Type 0} (g : X → Procedure) (f : Procedure → ℕ) (xs : List X) (i : ℕ) (x : X) → i < length xs → x ≡ get_or xs i x → total f (map g (take (i + 1) xs)) ≡ total f (map g (take i xs)) + f (g x)
+total_next g f xs i x lt is = ap (λ l. total f (map g l)) (take_next xs i x lt is) ∙ total_push g f (take i xs) x
+
+pub total_done : {X : Type 0} (g : X → Procedure) (f : Procedure → ℕ) (xs : List X) (i : ℕ) → length xs ≤ i → total f (map g (take i xs)) ≡ total f (map g xs)
+total_done g f xs i le = ap (λ l. total f (map g l)) (take_all xs i le)
+
+-- sums of capped numbers
+chain : (x n y k c m : ℕ) → capped x ≡ capped (n + y) → capped y ≡ capped (k + c) → m ≡ capped (n + k) → capped x ≡ capped (m + c)
+chain x n y k c m e f g = omega arith
+
+module _ (p : Program) (A : Solution) where
+  -- the size of statements
+  pub record StmtsSize (ss : List Stmt) (n : ℕ) : Type 0 where
+    pub by : (c : Code) → capped (expanded_code p A (all_before (map before_of ss) c)) ≡ capped (n + expanded_code p A c)
+
+  pub no_stmts : StmtsSize [] 0
+  no_stmts = record { by = λ c. let e : 0 + expanded_code p A c ≡ expanded_code p A c = omega arith in ap capped (sym e) }
+
+  pub stmt_more : (ss : List Stmt) (i : ℕ) (s : Stmt) (n k m : ℕ) → i < length ss → s ≡ get_or ss i s → StmtsSize (take i ss) n → ((c : Code) → capped (expanded_code p A (before_of s c)) ≡ capped (k + expanded_code p A c))
+      → m ≡ capped (n + k) → StmtsSize (take (i + 1) ss) m
+  stmt_more ss i s n k m lt is u h e = record {
+    by = λ c.
+        ap (λ l. capped (expanded_code p A (all_before (map before_of l) c))) (take_next ss i s lt is) ∙ ap (λ b. capped (expanded_code p A b)) (before_snoc (take i ss) s c)
+        ∙ chain (expanded_code p A (all_before (map before_of (take i ss)) (before_of s c))) n (expanded_code p A (before_of s c)) k (expanded_code p A c) m (u.by (before_of s c)) (h c) e;
+  }
+
+  pub block_sized : (block : Block) (i n k m : ℕ) → length block.stmts ≤ i → StmtsSize (take i block.stmts) n → k ≡ capped (expanded_act p A (act_of block.last.value)) → m ≡ capped (n + k) → m ≡ capped (expanded_code p A (code_of block))
+  unfolding expanded_act
+  block_sized block i n k m le u h e =
+      let all : capped (expanded_code p A (all_before (map before_of block.stmts) (end (act_of block.last.value)))) ≡ capped (n + expanded_act p A (act_of block.last.value))
+      = ap (λ l. capped (expanded_code p A (all_before (map before_of l) (end (act_of block.last.value))))) (sym (take_all block.stmts i le)) ∙ u.by (end (act_of block.last.value)) in
+      let f : m ≡ capped (expanded_code p A (all_before (map before_of block.stmts) (end (act_of block.last.value)))) = omega arith in
+      f ∙ ap (λ b. capped (expanded_code p A b)) (sym (code_of-parts block))
+
+  pub store_sized : (cs : List Cell) (c : Code) (k : ℕ) → k ≡ capped (cells_size cs) → capped (expanded_code p A (before_of (Store cs) c)) ≡ capped (k + expanded_code p A c)
+  unfolding expanded_act
+  store_sized cs c k e = ap (λ b. capped (expanded_code p A (b c))) (before_of-Store cs) ∙ omega arith
+
+  pub bind_sized : (t : Target) (o : Op) (c : Code) (j k m : ℕ) → j ≡ target_size t → k ≡ capped (expanded_act p A (act_of o)) → m ≡ capped (j + k) → capped (expanded_code p A (before_of (Bind t o) c)) ≡ capped (m + expanded_code p A c)
+  unfolding expanded_act
+  bind_sized t o c j k m e f g = ap (λ b. capped (expanded_code p A (b c))) (before_of-Bind t o) ∙ omega arith
+
+  pub apply_sized : (o : Op) (v : Val) (a : Word) → o ≡ Apply v a → application_size p A v ≡ expanded_act p A (act_of o)
+  unfolding expanded_act
+  apply_sized o v a e = ap (expanded_act p A) (sym (ap act_of e ∙ act_of-Apply v a))
+
+  -- the size of alternatives
+  pub record AltsSize (as' : List Alt) (n : ℕ) : Type 0 where
+    pub by : (rest : Arms) → capped (expanded_arms p A (arms_before (map arm_of as') rest)) ≡ capped (n + expanded_arms p A rest)
+    pub fits : n ≤ 2 ^ 64 - 1
+
+  pub no_alts : AltsSize [] 0
+  no_alts = record { by = λ rest. let e : 0 + expanded_arms p A rest ≡ expanded_arms p A rest = omega arith in ap capped (sym e); fits = omega arith }
+
+  alt_sized : (a : Alt) (rest : Arms) (j b k : ℕ) → j ≡ shape_size a.pattern → b ≡ capped (expanded_code p A (code_of a.body)) → k ≡ capped (j + b) → capped (expanded_arms p A (arm (arm_of a).0 (arm_of a).1 rest)) ≡ capped (k + expanded_arms p A rest)
+  unfolding expanded_act
+  alt_sized a rest j b k e f g = ap (λ q. capped (expanded_arms p A (arm q.0 q.1 rest))) (arm_of-parts a) ∙ omega arith
+
+  pub alt_more : (as' : List Alt) (i : ℕ) (a : Alt) (n j b k m : ℕ) → i < length as' → a ≡ get_or as' i a → AltsSize (take i as') n → j ≡ shape_size a.pattern → b ≡ capped (expanded_code p A (code_of a.body)) → k ≡ capped (j + b)
+      → m ≡ capped (n + k) → AltsSize (take (i + 1) as') m
+  alt_more as' i a n j b k m lt is u e f g h = record {
+    by = λ rest.
+        ap (λ l. capped (expanded_arms p A (arms_before (map arm_of l) rest))) (take_next as' i a lt is) ∙ ap (λ l. capped (expanded_arms p A (arms_before l rest))) (map_push arm_of (take i as') a)
+        ∙ ap (λ r. capped (expanded_arms p A r)) (arms_before-push (map arm_of (take i as')) (arm_of a) rest)
+        ∙ chain (expanded_arms p A (arms_before (map arm_of (take i as')) (arm (arm_of a).0 (arm_of a).1 rest))) n (expanded_arms p A (arm (arm_of a).0 (arm_of a).1 rest)) k (expanded_arms p A rest) m
+        (u.by (arm (arm_of a).0 (arm_of a).1 rest)) (alt_sized a rest j b k e f g) h;
+    fits = omega arith;
+  }
+
+  pub alts_sized : (as' : List Alt) (i n : ℕ) → length as' ≤ i → AltsSize (take i as') n → n ≡ capped (expanded_arms p A (arms_of (map arm_of as')))
+  unfolding expanded_act
+  alts_sized as' i n le u =
+      let fits = u.fits in
+      let e : capped (expanded_arms p A (arms_before (map arm_of as') no_arm)) ≡ capped (n + 0) = ap (λ l. capped (expanded_arms p A (arms_before (map arm_of l) no_arm))) (sym (take_all as' i le)) ∙ u.by no_arm in
+      let f : n ≡ capped (expanded_arms p A (arms_before (map arm_of as') no_arm)) = omega arith in
+      f ∙ ap (λ r. capped (expanded_arms p A r)) (sym (arms_of_before (map arm_of as')))
+
+  -- the size of the alternatives of an evaluation, from those that are left
+  pub record TagsSize (a : Word) (n from : ℕ) : Type 0 where
+    pub sum : capped (evaluation_size p A a) ≡ capped (n + eval_tags_size p A (tags_from p A a from))
+    pub within : from ≤ length p.tags
+    pub fits : n ≤ 2 ^ 64 - 1
+
+  pub no_tags : (a : Word) → TagsSize a 5 0
+  no_tags a = record {
+    sum =
+        let e : length p.tags ≡ length p.tags - 0 = omega arith in
+        ap (λ k. capped (5 + eval_tags_size p A (those (λ t. some_of (λ s. among (tag t) (A (site s) tags)) (sites_of p A a)) 0 k))) e;
+    within = omega arith;
+    fits = omega arith;
+  }
+
+  pub tag_more : (a : Word) (n from t k m : ℕ) → TagsSize a n from → tags_from p A a from ≡ t ∷ tags_from p A a (suc t) → t < length p.tags → k ≡ capped (eval_tag_size p A (slice_get p.tags t)) → m ≡ capped (n + k) → TagsSize a m (t + 1)
+  tag_more a n from t k m u e lt h f = record {
+    sum =
+        let s : eval_tags_size p A (tags_from p A a from) ≡ eval_tag_size p A (slice_get p.tags t) + eval_tags_size p A (tags_from p A a (suc t)) = ap (eval_tags_size p A) e in
+        let r = u.sum in
+        let g : capped (evaluation_size p A a) ≡ capped (m + eval_tags_size p A (tags_from p A a (suc t))) = omega arith in
+        let z : suc t ≡ t + 1 = omega arith in
+        subst (λ j. capped (evaluation_size p A a) ≡ capped (m + eval_tags_size p A (tags_from p A a j))) z g;
+    within = omega arith;
+    fits = omega arith;
+  }
+
+  pub tags_sized : (a : Word) (n from : ℕ) → TagsSize a n from → tags_from p A a from ≡ [] → n ≡ capped (evaluation_size p A a)
+  tags_sized a n from u e = let s : eval_tags_size p A (tags_from p A a from) ≡ 0 = ap (eval_tags_size p A) e in let r = u.sum in let f = u.fits in omega arith
+
+  those_low : (test : ℕ → Bool) (i k t : ℕ) (ts : List ℕ) → those test i k ≡ t ∷ ts → i ≤ t
+  those_low test i zero t ts e = cc
+  those_low test i (suc k) t ts e = go (test i) e (those_low test (suc i) k t ts)
+    where
+      go : (b : Bool) → cond b (i ∷ those test (suc i) k) (those test (suc i) k) ≡ t ∷ ts → (those test (suc i) k ≡ t ∷ ts → suc i ≤ t) → i ≤ t
+      go true e rest = let s : i ≡ t = cc in omega arith
+      go false e rest = let h : suc i ≤ t = rest e in omega arith
+
+  pub tags_low : (a : Word) (from t : ℕ) (ts : List ℕ) → tags_from p A a from ≡ t ∷ ts → from ≤ t
+  tags_low a from t ts e = those_low _ from (length p.tags - from) t ts e
+
+  parts_push : (ts : List ℕ) (t : ℕ) → parts_size p A (ts ++ t ∷ []) ≡ parts_size p A ts + part_tag_size p A (slice_get p.tags t)
+  parts_push [] t = omega arith
+  parts_push (s ∷ ts) t = let h = parts_push ts t in omega arith
+
+  pub parts_more : (ts us : List ℕ) (t : ℕ) (i : Tag) → us ≡ ts ++ t ∷ [] → slice_get p.tags t ≡ Some i → parts_size p A us ≡ parts_size p A ts + part_tag_size p A (Some i)
+  parts_more ts us t i e is = ap (parts_size p A) e ∙ parts_push ts t ∙ ap (λ o. parts_size p A ts + part_tag_size p A o) is

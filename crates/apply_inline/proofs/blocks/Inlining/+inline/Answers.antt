@@ -1,0 +1,69 @@
+use Rattle.std.proofs.Common.{◌≡◌, ◌+◌, refl, sym, ap, ◌∙◌, subst, rules}
+use Rattle.std.proofs.lemmas.Iterator.Adapters.{YieldsList-from_vec}
+use Rattle.std.proofs.lemmas.Iterator.Consumers.{YieldsList-end}
+use Rattle.grin_syntax.specs.declared.program.Op.TheVariants.{Case}
+use Rattle.grin_syntax.specs.Tree.{act_of, before_of, program_of}
+use Rattle.flow_system.specs.Inlining.{apply_act, apply_act_room, apply_code, apply_code_room}
+use Rattle.points_to.specs.Found.{found}
+use Rattle.eval_inline.proofs.Pieces.{map_same}
+use Rattle.apply_inline.proofs.Loops.{AllApply, case_done, case_room, none_applies, one_more, none_apply, one_more_alt, store_applies, store_room, bind_applies, bind_room}
+use Rattle.apply_inline.proofs.blocks.Inlining.+inline.Goals as goal
+
+pub stmt-returns-in-Store-clause-is : goal.stmt-returns-in-Store-clause-is
+stmt-returns-in-Store-clause-is t c =
+    let p = program_of c.args.self.now.known.program.now in
+    let A = found c.args.self.now.known.flow.now in
+    let x = c.args.fresh.now.next in
+    λ b. store_applies p A x c.in-Store.cells b ∙ ap (λ s. apply_code p A x (before_of s b)) (sym c.in-Store.is)
+
+pub stmt-returns-in-Store-clause-next : goal.stmt-returns-in-Store-clause-next
+stmt-returns-in-Store-clause-next t c =
+    let p = program_of c.args.self.now.known.program.now in
+    let A = found c.args.self.now.known.flow.now in
+    let x = c.args.fresh.now.next in
+    λ b. store_room p A x c.in-Store.cells b ∙ ap (λ s. x + apply_code_room p A (before_of s b)) (sym c.in-Store.is)
+
+pub stmt-returns-in_ok-op-in-Bind-clause-is : goal.stmt-returns-in_ok-op-in-Bind-clause-is
+stmt-returns-in_ok-op-in-Bind-clause-is t c =
+    let p = program_of c.args.self.now.known.program.now in
+    let A = found c.args.self.now.known.flow.now in
+    let x = c.args.fresh.now.next in
+    λ b. bind_applies p A x c.op.new.fresh.next c.in-Bind.target c.in_ok-op-in-Bind.field-0 c.in-Bind.op b c.in_ok-op-in-Bind.ensures.is c.in_ok-op-in-Bind.ensures.next ∙ ap (λ s. apply_code p A x (before_of s b)) (sym c.in-Bind.is)
+
+pub stmt-returns-in_ok-op-in-Bind-clause-next : goal.stmt-returns-in_ok-op-in-Bind-clause-next
+stmt-returns-in_ok-op-in-Bind-clause-next t c =
+    let p = program_of c.args.self.now.known.program.now in
+    let A = found c.args.self.now.known.flow.now in
+    let x = c.args.fresh.now.next in
+    λ b. bind_room p A x c.op.new.fresh.next c.in-Bind.target c.in-Bind.op b c.in_ok-op-in-Bind.ensures.next ∙ ap (λ s. x + apply_code_room p A (before_of s b)) (sym c.in-Bind.is)
+
+pub block-loop-stmt-preserved : goal.block-loop-stmt-preserved
+block-loop-stmt-preserved t c =
+    rw c.in_ok-push.ensures.ok (one_more (program_of c.args.self.now.known.program.now) (found c.args.self.now.known.flow.now) _ _ _ _ _ _ _ c.loop-stmt.invariant c.in_ok-stmt.ensures.is c.in_ok-stmt.ensures.next)
+
+pub op-loop-alt-preserved : goal.op-loop-alt-preserved
+op-loop-alt-preserved t c = record {
+  scrutinee = c.loop-alt.invariant.scrutinee;
+  some = rw c.in_ok-push-in-Case.ensures.ok (one_more_alt (program_of c.args.self.now.known.program.now) (found c.args.self.now.known.flow.now) _ _ _ _ _ _ _ c.loop-alt.invariant.some refl c.in_ok-block-in-Case.ensures.is c.in_ok-block-in-Case.ensures.next);
+}
+
+pub op-returns-in-None-clause-is : goal.op-returns-in-None-clause-is
+op-returns-in-None-clause-is t c =
+    let p = program_of c.args.self.now.known.program.now in
+    let A = found c.args.self.now.known.flow.now in
+    let x = c.args.fresh.now.next in
+    let all = YieldsList-end (YieldsList-from_vec c.in-Case.alts (search rules) (search rules)) c.loop-alt.yielded c.loop-alt.alt-iterator c.loop-alt.yielded_by _ c.next.new.self c.in-None.is c.next.ensures.steps in
+    let e : c.loop-alt.yielded ≡ c.in-Case.alts = sym (map_same c.loop-alt.yielded) ∙ all.0 in
+    ap (λ v. act_of (Case v c.loop-alt.made)) c.loop-alt.invariant.scrutinee
+    ∙ case_done p A x c.in-Case.v c.loop-alt.made c.in-Case.alts c.loop-alt.fresh.next (subst (λ l. AllApply p A x c.loop-alt.made l c.loop-alt.fresh.next) e c.loop-alt.invariant.some)
+    ∙ ap (λ o. apply_act p A x (act_of o)) (sym c.in-Case.is)
+
+pub op-returns-in-None-clause-next : goal.op-returns-in-None-clause-next
+op-returns-in-None-clause-next t c =
+    let p = program_of c.args.self.now.known.program.now in
+    let A = found c.args.self.now.known.flow.now in
+    let x = c.args.fresh.now.next in
+    let all = YieldsList-end (YieldsList-from_vec c.in-Case.alts (search rules) (search rules)) c.loop-alt.yielded c.loop-alt.alt-iterator c.loop-alt.yielded_by _ c.next.new.self c.in-None.is c.next.ensures.steps in
+    let e : c.loop-alt.yielded ≡ c.in-Case.alts = sym (map_same c.loop-alt.yielded) ∙ all.0 in
+    case_room p A x c.in-Case.v c.loop-alt.made c.in-Case.alts c.loop-alt.fresh.next (subst (λ l. AllApply p A x c.loop-alt.made l c.loop-alt.fresh.next) e c.loop-alt.invariant.some)
+    ∙ ap (λ o. x + apply_act_room p A (act_of o)) (sym c.in-Case.is)

@@ -1,0 +1,7 @@
+use Rattle.std.proofs.Common.{◌≡◌, take}
+use Rattle.flow_system.specs.Size.{cells_size}
+use Rattle.apply_inline.specs.Expanded.{capped}
+use Rattle.apply_inline.proofs.expanded.cells_size.Given as goal
+
+abbrev pub invariant-loop-cell : goal.invariant-loop-cell
+invariant-loop-cell l = l.size ≡ capped (cells_size (take l.cell-index l.cells))

@@ -1,0 +1,17 @@
+use Rattle.std.proofs.Common.{◌≡◌, map, ap, arith}
+use Rattle.grin_syntax.specs.Tree.{procedure_of, program_of}
+use Rattle.flow_system.specs.Size.{total}
+use Rattle.flow_system.specs.Inlining.{inlined_size}
+use Rattle.points_to.specs.Found.{found}
+use Rattle.apply_inline.specs.Expanded.{expanded_procedure}
+use Rattle.apply_inline.proofs.Measured.{measured}
+use Rattle.apply_inline.proofs.Next.{have_next}
+use Rattle.apply_inline.proofs.expanded_size.Goals as goal
+
+pub returns : goal.returns
+returns c = λ formed fits.
+    let p = program_of c.args.g.now in
+    let A = found c.args.flow.now in
+    let m : inlined_size A p ≡ total (expanded_procedure p A) p.procs = measured p A (have_next p formed) in
+    let s = ap (λ l. total (expanded_procedure p A) (map procedure_of l)) c.as_slice.ensures in
+    omega arith

@@ -1,0 +1,25 @@
+use Rattle.std.proofs.Common.{◌≡◌, map, sym, ap, ◌∙◌}
+use Rattle.std.specs.List.{filter}
+use Rattle.grin_syntax.specs.Tree.{program_of}
+use Rattle.points_to.specs.Found.{found}
+use Rattle.apply_inline.specs.Applied.{has_some, meets_other}
+use Rattle.apply_inline.proofs.Filtered.{others_filtered}
+use Rattle.apply_inline.proofs.Placed.{map_all}
+use Rattle.apply_inline.proofs.Loops.{some_kept}
+use Rattle.apply_inline.proofs.known.Known.has_other.Goals as goal
+
+pub returns-then-is_other : goal.returns-then-is_other
+returns-then-is_other c =
+    let p = program_of c.args.self.now.program.now in
+    let A = found c.args.self.now.flow.now in
+    let ts = c.candidates-t-items.result.now in
+    sym (ap has_some (others_filtered p A c.args.v.now (map (λ t. t.0) ts) c.candidates-t-items.ensures)
+    ∙ some_kept (meets_other p A c.args.v.now) ts c.loop-t.t-index _ c.loop-t-test.true (sym c.is_other.ensures ∙ c.if-is_other.true))
+
+pub returns : goal.returns
+returns c =
+    let p = program_of c.args.self.now.program.now in
+    let A = found c.args.self.now.flow.now in
+    let ts = c.candidates-t-items.result.now in
+    sym (ap has_some (others_filtered p A c.args.v.now (map (λ t. t.0) ts) c.candidates-t-items.ensures
+    ∙ ap (filter (meets_other p A c.args.v.now)) (sym (map_all (λ t. t.0) ts c.loop-t.t-index c.loop-t-test.false)) ∙ c.loop-t.invariant))

@@ -1,0 +1,9 @@
+use Rattle.std.proofs.Common.{◌≡◌, map, take}
+use Rattle.grin_syntax.specs.Tree.{procedure_of, program_of}
+use Rattle.flow_system.specs.Size.{total}
+use Rattle.points_to.specs.Found.{found}
+use Rattle.apply_inline.specs.Expanded.{capped, expanded_procedure}
+use Rattle.apply_inline.proofs.known.Known.procs_size.Given as goal
+
+abbrev pub invariant-loop-proc : goal.invariant-loop-proc
+invariant-loop-proc l = l.size ≡ capped (total (expanded_procedure (program_of l.self.program.now) (found l.self.flow.now)) (map procedure_of (take l.proc-index l.procs)))

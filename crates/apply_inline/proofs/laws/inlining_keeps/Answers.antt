@@ -1,0 +1,5 @@
+use Rattle.apply_inline.proofs.Both.{inlining_law}
+use Rattle.apply_inline.proofs.laws.inlining_keeps.Goals as goal
+
+pub returns : goal.returns
+returns c = inlining_law

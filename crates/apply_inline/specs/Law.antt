@@ -1,0 +1,23 @@
+-- Inlining of evaluations and applications keeps what a program does.
+use Rattle.std.specs.Prelude.{ℕ, List, ◌≢◌}
+use Rattle.grin_syntax.specs.Tree.{Program}
+use Rattle.grin_meaning.specs.Values.{missing}
+use Rattle.grin_meaning.specs.Run.{run}
+use Rattle.grin_meaning.specs.Keeps.{ended, end_of, Keeps}
+use Rattle.flow_system.specs.Tables.{tables}
+use Rattle.flow_system.specs.System.{system}
+use Rattle.flow_system.specs.Solution.{Solution, Solves}
+use Rattle.flow_system.specs.Covers.{Started}
+use Rattle.flow_system.specs.Inlining.{eval_inlined, inlined}
+use Rattle.eval_inline.specs.Law.{UsesBound}
+
+-- no run of the program is missing
+abbrev pub NeverMissing : Program → Type 0
+NeverMissing p = (i : List ℕ) (n : ℕ) → end_of (run p i n) ≢ ended missing
+
+abbrev pub InliningKeeps : Type 0
+InliningKeeps = (p : Program) (A : Solution) → Started p → UsesBound p → Solves (tables p) (system p) A → Keeps p (inlined A p)
+
+-- inlining of applications, once evaluations are inlined by the same solution of the program before
+abbrev pub ApplyInliningKeeps : Type 0
+ApplyInliningKeeps = (p : Program) (A : Solution) → Started p → UsesBound p → Solves (tables p) (system p) A → NeverMissing p → Keeps (eval_inlined A p) (inlined A p)

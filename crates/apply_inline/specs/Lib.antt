@@ -1,0 +1,6 @@
+pub mod Applied
+pub mod Before
+pub mod Expanded
+pub mod Law
+pub mod Parts
+pub mod Small

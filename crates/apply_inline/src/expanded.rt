@@ -1,0 +1,209 @@
+// The size of a program once its evaluations and applications are inlined, from its text.
+// A sum that passes the largest number stays there.
+#![tactic(auto, using(grin_syntax::proofs::TreeOf::tree_of), unfolding(crate::specs::Expanded::expanded_act, flow_system::specs::Size::act_size))]
+
+ghost use Rattle.std.specs.Prelude.{◌≡◌, ◌+◌, map, slice_get};
+ghost use Rattle.grin_syntax.specs.Tree.{Code, act_of, before_of, arm_of, arms_of, code_of, procedure_of, program_of};
+ghost use Rattle.flow_system.specs.Inlining.{parts_of};
+ghost use Rattle.flow_system.specs.Size.{val_size, target_size, shape_size, cells_size, total};
+ghost use Rattle.points_to.specs.Found.{found};
+ghost use Rattle.apply_inline.specs.Expanded.{capped, eval_body_size, eval_tag_size, evaluation_size, part_body_size, parts_size, application_size, expanded_act, expanded_code, expanded_arms, expanded_procedure};
+
+use crate::known::Known;
+use eval_inline::met::next_tag;
+use grin_syntax::{
+    Alt, Block, Cell, Op, Proc, Shape, Stmt, Tag, TagId, TagKind, Target, Val, Word,
+};
+
+impl Known<'_> {
+    /// The size of these procedures once they are inlined.
+    pub(crate) fn procs_size(&self, procs: &[Proc]) -> u64
+        ensures { result ≡ capped (total (expanded_procedure (program_of self.now.program.now) (found self.now.flow.now)) (map procedure_of procs.now)) }
+    {
+        let mut size = 0u64;
+        for proc in procs {
+            size = size.saturating_add(self.proc_size(proc));
+        }
+        size
+    }
+
+    fn proc_size(&self, proc: &Proc) -> u64
+        ensures { result ≡ capped (expanded_procedure (program_of self.now.program.now) (found self.now.flow.now) (procedure_of proc.now)) }
+    {
+        let params = proc.params.len() as u64;
+        params.saturating_add(self.block_size(&proc.body))
+    }
+
+    #[cycle(size)]
+    fn block_size(&self, block: &Block) -> u64
+        ensures { result ≡ capped (expanded_code (program_of self.now.program.now) (found self.now.flow.now) (code_of block.now)) }
+    {
+        let mut size = 0u64;
+        for stmt in block.stmts.as_slice() {
+            size = size.saturating_add(self.stmt_size(stmt));
+        }
+        size.saturating_add(self.op_size(&block.last))
+    }
+
+    #[cycle(size)]
+    fn stmt_size(&self, stmt: &Stmt) -> u64
+        ensures { (c : Code) → capped (expanded_code (program_of self.now.program.now) (found self.now.flow.now) (before_of stmt.now c)) ≡ capped (result + expanded_code (program_of self.now.program.now) (found self.now.flow.now) c) }
+    {
+        match stmt {
+            Stmt::Store(cells) => cells_size(cells.as_slice()),
+            Stmt::Bind(target, op) => target_size(target).saturating_add(self.op_size(op)),
+        }
+    }
+
+    #[cycle(size)]
+    fn alts_size(&self, alts: &[Alt]) -> u64
+        ensures { result ≡ capped (expanded_arms (program_of self.now.program.now) (found self.now.flow.now) (arms_of (map arm_of alts.now))) }
+    {
+        let mut size = 0u64;
+        for alt in alts {
+            let pattern = shape_size(&alt.pattern);
+            size = size.saturating_add(pattern.saturating_add(self.block_size(&alt.body)));
+        }
+        size
+    }
+
+    #[cycle(size)]
+    fn op_size(&self, op: &Op) -> u64
+        ensures { result ≡ capped (expanded_act (program_of self.now.program.now) (found self.now.flow.now) (act_of op.now)) }
+    {
+        match op {
+            Op::Unit(v) => val_size(v).saturating_add(1),
+            Op::Fetch(_) => 2,
+            Op::FetchWord(_, _) => 2,
+            Op::Update(_, v) => val_size(v).saturating_add(2),
+            Op::Eval(word) => self.evaluation_size(word),
+            Op::Apply(v, _) => self.application_size(v),
+            Op::Call(_, words) => (words.len() as u64).saturating_add(1),
+            Op::Prim(_, _, _) => 3,
+            Op::Read => 1,
+            Op::Write(_) => 2,
+            Op::Case(v, alts) => {
+                let scrutinee = val_size(v).saturating_add(1);
+                scrutinee.saturating_add(self.alts_size(alts.as_slice()))
+            }
+            Op::Nested(block) => self.block_size(block).saturating_add(1),
+            Op::Fail => 1,
+        }
+    }
+
+    // The fetch that binds a node variable, and the case on it.
+    fn evaluation_size(&self, word: &Word) -> u64
+        ensures { result ≡ capped (evaluation_size (program_of self.now.program.now) (found self.now.flow.now) word.now) }
+    {
+        let mut size = 5u64;
+        let mut from = 0;
+        'tags: while let Some(tag) = next_tag(self.program, self.flow, word, from) {
+            size = size.saturating_add(self.eval_tag_size(tag));
+            from = tag.0 as usize + 1;
+        }
+        size
+    }
+
+    // The alternative of an evaluation for a tag.
+    fn eval_tag_size(&self, t: TagId) -> u64
+        ensures { result ≡ capped (eval_tag_size (program_of self.now.program.now) (found self.now.flow.now) (slice_get self.now.program.now.tags t.0)) }
+    {
+        match self.program.tags.get(t.0 as usize) {
+            Some(tag) => u64::from(tag.fields).saturating_add(eval_body_size(tag)),
+            None => 0,
+        }
+    }
+
+    fn application_size(&self, v: &Val) -> u64
+        ensures { result ≡ capped (application_size (program_of self.now.program.now) (found self.now.flow.now) v.now) }
+    {
+        let scrutinee = val_size(v).saturating_add(1);
+        let last = u64::from(self.has_other(v));
+        scrutinee
+            .saturating_add(self.parts_size(v))
+            .saturating_add(last)
+    }
+
+    // The alternatives of an application.
+    fn parts_size(&self, v: &Val) -> u64
+        ensures { result ≡ capped (parts_size (program_of self.now.program.now) (found self.now.flow.now) (parts_of (program_of self.now.program.now) (found self.now.flow.now) v.now)) }
+    {
+        let mut size = 0u64;
+        for t in self.candidates(v) {
+            if let Some(tag) = self.part(v, *t) {
+                size = size.saturating_add(part_size(tag));
+            }
+        }
+        size
+    }
+}
+
+// The alternative of an application for a function that lacks arguments.
+fn part_size(tag: &Tag) -> u64
+    ensures { result ≡ tag.now.fields + part_body_size tag.now tag.now.proc }
+{
+    let fields = u64::from(tag.fields);
+    match tag.proc {
+        Some(_) => match tag.missing {
+            0 => fields + 1,
+            _ => fields + fields + 2,
+        },
+        None => fields + 1,
+    }
+}
+
+// What is done with a node of this tag once it is fetched.
+fn eval_body_size(tag: &Tag) -> u64
+    ensures { result ≡ eval_body_size tag.now }
+{
+    match tag.kind {
+        TagKind::Fun => match tag.proc {
+            Some(_) => u64::from(tag.fields) + 7,
+            None => 1,
+        },
+        TagKind::Con => 2,
+        TagKind::Part => 2,
+    }
+}
+
+fn val_size(v: &Val) -> u64
+    ensures { result ≡ val_size v.now }
+{
+    match v {
+        Val::NodeVar(_) => 1,
+        Val::Node(_, words) => words.len() as u64,
+        Val::Vector(words) => words.len() as u64,
+        Val::One(_) => 1,
+    }
+}
+
+fn target_size(target: &Target) -> u64
+    ensures { result ≡ target_size target.now }
+{
+    match target {
+        Target::Nothing => 0,
+        Target::Node(_) => 1,
+        Target::One(_) => 1,
+        Target::Vector(xs) => xs.len() as u64,
+    }
+}
+
+fn shape_size(shape: &Shape) -> u64
+    ensures { result ≡ shape_size shape.now }
+{
+    match shape {
+        Shape::Node(_, xs) => xs.len() as u64,
+        Shape::Int(_) => 0,
+        Shape::Else => 0,
+    }
+}
+
+fn cells_size(cells: &[Cell]) -> u64
+    ensures { result ≡ capped (cells_size cells.now) }
+{
+    let mut size = 0u64;
+    for cell in cells {
+        size = size.saturating_add(val_size(&cell.val).saturating_add(2));
+    }
+    size
+}
