@@ -1,0 +1,218 @@
+-- How much larger a program becomes when its evaluations and its applications are inlined.
+use Rattle.std.proofs.Common.{◌≡◌, ℕ, zero, suc, ◌≤◌, ◌+◌, ◌*◌, Bool, true, false, cond, List, [], ◌∷◌, ◌++◌, map, length, length-append, Option, Some, None, slice_get, refl, arith}
+use Rattle.std.proofs.Math.Nat.{mul-add, add-mul}
+use Rattle.grin_syntax.specs.declared.program.ProcId.{ProcId}
+use Rattle.grin_syntax.specs.declared.program.Tag.{Tag}
+use Rattle.grin_syntax.specs.declared.program.Target.{Target}
+use Rattle.grin_syntax.specs.declared.program.Val.{Val}
+use Rattle.grin_syntax.specs.declared.program.Val.TheVariants.{NodeVar}
+use Rattle.grin_syntax.specs.declared.program.Word.{Word}
+use Rattle.grin_syntax.specs.declared.program.Word.TheVariants.{Var}
+use Rattle.grin_syntax.specs.Tree.{Code, end, store, bind, Act, unit, fetch, fetch_word, update, eval, apply, call, prim, read, write, case, nested, fail, Arms, no_arm, arm, Procedure, Program}
+use Rattle.grin_meaning.specs.Run.{is_fun_kind, part_from}
+use Rattle.grin_meaning.specs.Ready.{most_fields}
+use Rattle.flow_system.specs.Solution.{Solution}
+use Rattle.flow_system.specs.Size.{val_size, target_size, cells_size, shape_size, act_size, code_size, arms_size, procedure_size, total, size}
+use Rattle.flow_system.specs.Inlining.{variable, variables, those, call_body, eval_body, eval_arms, evaluation, eval_bound, eval_ended, eval_act, eval_code, eval_all, eval_procs, eval_inlined, act_room, code_room, tags_of, past_procs, with_one_more, apply_body, part_body, apply_arms, parts_of, others_of, else_fail, apply_act, apply_code, apply_all, apply_procs, apply_act_room, apply_code_room, inlined}
+
+-- ---- numbers
+
+-- so much for each of a number of things
+pub one_more : (n m : ℕ) → suc n * m ≡ m + n * m
+one_more n m = let e : suc n ≡ n + 1 = omega arith in rw (e, add-mul n 1 m) (omega arith)
+
+pub more_times : (n k m : ℕ) → n ≤ k → n * m ≤ k * m
+more_times zero k m le = omega arith
+more_times (suc n) zero m le = absurd (omega (arith, le))
+more_times (suc n) (suc k) m le = omega (arith, one_more n m, one_more k m, more_times n k m (omega (arith, le)))
+
+pub both_grow : (g a b a' b' : ℕ) → a' ≤ g * a → b' ≤ g * b → a' + b' ≤ g * (a + b)
+both_grow g a b a' b' la lb = omega (arith, mul-add g a b)
+
+-- at most so many times as large
+abbrev pub growth : List Tag → ℕ
+growth ts = 5 + length ts * (2 * most_fields ts + 7)
+
+at_least : (g n : ℕ) → 1 ≤ g → n ≤ g * n
+at_least g n le = omega (arith, more_times 1 g n le)
+
+-- ---- pieces
+
+field_bound : (ts : List Tag) (t : ℕ) (i : Tag) → slice_get ts t ≡ Some i → i.fields ≤ most_fields ts
+field_bound [] t i e = cc
+field_bound (x ∷ ts) zero i e = let h : x ≡ i = cc in rw h (omega arith)
+field_bound (x ∷ ts) (suc t) i e = omega (arith, field_bound ts t i e)
+
+variables_length : (x k : ℕ) → length (map Var (variables x k)) ≡ k
+variables_length x zero = refl
+variables_length x (suc k) = omega (arith, variables_length (suc x) k)
+
+names_length : (x k : ℕ) → length (variables x k) ≡ k
+names_length x zero = refl
+names_length x (suc k) = omega (arith, names_length (suc x) k)
+
+those_few : (test : ℕ → Bool) (i k : ℕ) → length (those test i k) ≤ k
+those_few test i zero = omega arith
+those_few test i (suc k) = on (test i) (those_few test (suc i) k)
+  where
+    on : (b : Bool) → length (those test (suc i) k) ≤ k → length (cond b (i ∷ those test (suc i) k) (those test (suc i) k)) ≤ suc k
+    on true le = omega (arith, le)
+    on false le = omega (arith, le)
+
+module _ (p : Program) (A : Solution) where
+  abbrev G : ℕ
+  G = growth p.tags
+
+  abbrev M : ℕ
+  M = 2 * most_fields p.tags + 7
+
+  large : (n : ℕ) → n ≤ G * n
+  large n = at_least G n (omega arith)
+
+  -- ---- evaluations
+
+  call_size : (a : Word) (y k : ℕ) (o : Option ProcId) → code_size (call_body p A a y k o) ≤ k + 7
+  unfolding act_size
+  call_size a y k None = omega arith
+  call_size a y k (Some f) = omega (arith, variables_length y k)
+
+  eval_body_size : (a : Word) (n y : ℕ) (i : Tag) → code_size (eval_body p A a n y i) ≤ i.fields + 7
+  unfolding act_size
+  eval_body_size a n y i = on (is_fun_kind i.kind)
+    where
+      on : (b : Bool) → code_size (cond b (call_body p A a y i.fields i.proc) (end (unit (NodeVar (variable n))))) ≤ i.fields + 7
+      on true = call_size a y i.fields i.proc
+      on false = omega arith
+
+  eval_arms_size : (a : Word) (n y : ℕ) (ks : List ℕ) → arms_size (eval_arms p A a n y ks) ≤ length ks * M
+  unfolding act_size
+  eval_arms_size a n y [] = omega arith
+  eval_arms_size a n y (t ∷ ts) = on (slice_get p.tags t) refl (λ z. eval_arms_size a n z ts)
+    where
+      on : (o : Option Tag) → slice_get p.tags t ≡ o → ((z : ℕ) → arms_size (eval_arms p A a n z ts) ≤ length ts * M) → arms_size (eval_arms p A a n y (t ∷ ts)) ≤ length (t ∷ ts) * M
+      on None e later = rw e (omega (arith, one_more (length ts) M, later (suc (y + 0))))
+      on (Some i) e later = rw e (omega (arith, one_more (length ts) M, later (suc (y + i.fields)), names_length y i.fields, eval_body_size a n y i, field_bound p.tags t i e))
+
+  case_size : (x : ℕ) (a : Word) → act_size (evaluation p A x a) + 3 ≤ G
+  unfolding act_size
+  case_size x a = omega (arith, eval_arms_size a x (suc x) (tags_of p A a), more_times (length (tags_of p A a)) (length p.tags) M (those_few _ 0 (length p.tags)))
+
+  ended_size : (x : ℕ) (o : Act) → act_size (eval_act p A x o) ≤ G * act_size o → code_size (eval_ended p A x (eval_act p A x o)) ≤ G * act_size o
+  unfolding act_size eval_act
+  ended_size x (eval a) le = omega (arith, case_size x a, more_times 1 2 G (omega arith))
+  ended_size x o le = le
+
+  bound_size : (x : ℕ) (t : Target) (o : Act) (b b' : Code) → act_size (eval_act p A x o) ≤ G * act_size o → code_size b' ≤ G * code_size b → code_size (eval_bound p A x t (eval_act p A x o) b') ≤ G * code_size (bind t o b)
+  unfolding act_size eval_act
+  bound_size x t (eval a) b b' le leb = omega (arith, case_size x a, large (target_size t), mul-add G (target_size t + 2) (code_size b), mul-add G (target_size t) 2, leb)
+  bound_size x t o b b' le leb = both_grow G (target_size t + act_size o) (code_size b) _ _ (both_grow G (target_size t) (act_size o) _ _ (large (target_size t)) le) leb
+
+  mutual
+    unfolding act_size eval_act
+
+    eval_act_size : (o : Act) (x : ℕ) → act_size (eval_act p A x o) ≤ G * act_size o
+    eval_act_size (unit v) x = large (act_size (unit v))
+    eval_act_size (fetch a) x = large (act_size (fetch a))
+    eval_act_size (fetch_word a i) x = large (act_size (fetch_word a i))
+    eval_act_size (update a v) x = large (act_size (update a v))
+    eval_act_size (eval a) x = large (act_size (eval a))
+    eval_act_size (apply v a) x = large (act_size (apply v a))
+    eval_act_size (call f ws) x = large (act_size (call f ws))
+    eval_act_size (prim f a b) x = large (act_size (prim f a b))
+    eval_act_size read x = large (act_size read)
+    eval_act_size (write a) x = large (act_size (write a))
+    eval_act_size (case v as') x = both_grow G (1 + val_size v) (arms_size as') _ _ (large (1 + val_size v)) (eval_all_size as' x)
+    eval_act_size (nested b) x = both_grow G 1 (code_size b) _ _ (large 1) (eval_code_size b x)
+    eval_act_size fail x = large (act_size fail)
+
+    eval_code_size : (b : Code) (x : ℕ) → code_size (eval_code p A x b) ≤ G * code_size b
+    eval_code_size (end o) x = ended_size x o (eval_act_size o x)
+    eval_code_size (store cs b) x = both_grow G (cells_size cs) (code_size b) _ _ (large (cells_size cs)) (eval_code_size b x)
+    eval_code_size (bind t o b) x = bound_size x t o b _ (eval_act_size o x) (eval_code_size b (x + act_room p A o))
+
+    eval_all_size : (as' : Arms) (x : ℕ) → arms_size (eval_all p A x as') ≤ G * arms_size as'
+    eval_all_size no_arm x = omega arith
+    eval_all_size (arm s b as') x = both_grow G (shape_size s + code_size b) (arms_size as') _ _ (both_grow G (shape_size s) (code_size b) _ _ (large (shape_size s)) (eval_code_size b x)) (eval_all_size as' (x + code_room p A b))
+
+  pub eval_procs_size : (qs : List Procedure) (x : ℕ) → total procedure_size (eval_procs p A x qs) ≤ G * total procedure_size qs
+  eval_procs_size [] x = omega arith
+  eval_procs_size (q ∷ qs) x = both_grow G (procedure_size q) (total procedure_size qs) _ _ (both_grow G (length q.params) (code_size q.body) _ _ (large (length q.params)) (eval_code_size q.body x)) (eval_procs_size qs (x + code_room p A q.body))
+
+  -- ---- applications
+
+  more_size : (f : ℕ) (o : Option ℕ) (ws : List Word) → code_size (with_one_more p A f o ws) ≤ length ws + 1
+  unfolding act_size
+  more_size f None ws = omega arith
+  more_size f (Some t) ws = omega arith
+
+  apply_body_size : (f m : ℕ) (ws : List Word) → code_size (apply_body p A f m ws) ≤ length ws + 1
+  unfolding act_size
+  apply_body_size f zero ws = omega arith
+  apply_body_size f (suc zero) ws = omega arith
+  apply_body_size f (suc (suc r)) ws = more_size f (part_from 0 p.tags f (suc r)) ws
+
+  part_size : (x : ℕ) (a : Word) (i : Tag) (o : Option ProcId) → code_size (part_body p A x a i o) ≤ i.fields + 2
+  unfolding act_size
+  part_size x a i None = omega arith
+  part_size x a i (Some f) = omega (arith, apply_body_size f.0 i.missing (map Var (variables x i.fields) ++ a ∷ []), length-append (map Var (variables x i.fields)) (a ∷ []), variables_length x i.fields)
+
+  apply_arms_size : (a : Word) (x : ℕ) (ks : List ℕ) (last : Arms) → arms_size (apply_arms p A a x ks last) ≤ length ks * M + arms_size last
+  unfolding act_size
+  apply_arms_size a x [] last = omega arith
+  apply_arms_size a x (t ∷ ts) last = on (slice_get p.tags t) refl (λ z. apply_arms_size a z ts last)
+    where
+      on : (o : Option Tag) → slice_get p.tags t ≡ o → ((z : ℕ) → arms_size (apply_arms p A a z ts last) ≤ length ts * M + arms_size last) → arms_size (apply_arms p A a x (t ∷ ts) last) ≤ length (t ∷ ts) * M + arms_size last
+      on None e later = rw e (omega (arith, one_more (length ts) M, later (x + 0)))
+      on (Some i) e later = rw e (omega (arith, one_more (length ts) M, later (x + i.fields), names_length x i.fields, part_size x a i i.proc, field_bound p.tags t i e))
+
+  last_size : (ks : List ℕ) → arms_size (else_fail p A ks) ≤ 1
+  unfolding act_size
+  last_size [] = omega arith
+  last_size (k ∷ ks) = omega arith
+
+  applied_size : (v : Val) (a : Word) (x : ℕ) → act_size (case v (apply_arms p A a x (parts_of p A v) (else_fail p A (others_of p A v)))) ≤ G * act_size (apply v a)
+  unfolding act_size
+  applied_size v a x =
+      let few = more_times (length (parts_of p A v)) (length p.tags) M (those_few _ 0 (length p.tags)) in
+      omega (arith, apply_arms_size a x (parts_of p A v) (else_fail p A (others_of p A v)), last_size (others_of p A v), few, mul-add G 2 (val_size v), large (val_size v), more_times 1 2 G (omega arith))
+
+  mutual
+    unfolding act_size apply_act
+
+    apply_act_size : (o : Act) (x : ℕ) → act_size (apply_act p A x o) ≤ G * act_size o
+    apply_act_size (unit v) x = large (act_size (unit v))
+    apply_act_size (fetch a) x = large (act_size (fetch a))
+    apply_act_size (fetch_word a i) x = large (act_size (fetch_word a i))
+    apply_act_size (update a v) x = large (act_size (update a v))
+    apply_act_size (eval a) x = large (act_size (eval a))
+    apply_act_size (apply v a) x = applied_size v a x
+    apply_act_size (call f ws) x = large (act_size (call f ws))
+    apply_act_size (prim f a b) x = large (act_size (prim f a b))
+    apply_act_size read x = large (act_size read)
+    apply_act_size (write a) x = large (act_size (write a))
+    apply_act_size (case v as') x = both_grow G (1 + val_size v) (arms_size as') _ _ (large (1 + val_size v)) (apply_all_size as' x)
+    apply_act_size (nested b) x = both_grow G 1 (code_size b) _ _ (large 1) (apply_code_size b x)
+    apply_act_size fail x = large (act_size fail)
+
+    apply_code_size : (b : Code) (x : ℕ) → code_size (apply_code p A x b) ≤ G * code_size b
+    apply_code_size (end o) x = apply_act_size o x
+    apply_code_size (store cs b) x = both_grow G (cells_size cs) (code_size b) _ _ (large (cells_size cs)) (apply_code_size b x)
+    apply_code_size (bind t o b) x = both_grow G (target_size t + act_size o) (code_size b) _ _ (both_grow G (target_size t) (act_size o) _ _ (large (target_size t)) (apply_act_size o x)) (apply_code_size b (x + apply_act_room p A o))
+
+    apply_all_size : (as' : Arms) (x : ℕ) → arms_size (apply_all p A x as') ≤ G * arms_size as'
+    apply_all_size no_arm x = omega arith
+    apply_all_size (arm s b as') x = both_grow G (shape_size s + code_size b) (arms_size as') _ _ (both_grow G (shape_size s) (code_size b) _ _ (large (shape_size s)) (apply_code_size b x)) (apply_all_size as' (x + apply_code_room p A b))
+
+  pub apply_procs_size : (qs : List Procedure) (x : ℕ) → total procedure_size (apply_procs p A x qs) ≤ G * total procedure_size qs
+  apply_procs_size [] x = omega arith
+  apply_procs_size (q ∷ qs) x = both_grow G (procedure_size q) (total procedure_size qs) _ _ (both_grow G (length q.params) (code_size q.body) _ _ (large (length q.params)) (apply_code_size q.body x)) (apply_procs_size qs (x + apply_code_room p A q.body))
+
+-- each inlining makes a program larger by this factor at most
+pub inlined_grows : (p : Program) (A : Solution) → size (inlined A p) ≤ growth p.tags * (growth p.tags * size p)
+inlined_grows p A =
+    let q = eval_inlined A p in
+    omega (arith, apply_procs_size q A q.procs (past_procs q.procs), mul_le (growth p.tags) (size q) (growth p.tags * size p) (eval_procs_size p A p.procs (past_procs p.procs)))
+  where
+    mul_le : (g a b : ℕ) → a ≤ b → g * a ≤ g * b
+    mul_le zero a b le = omega arith
+    mul_le (suc g) a b le = omega (arith, one_more g a, one_more g b, mul_le g a b le, le)

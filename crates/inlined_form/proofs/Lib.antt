@@ -1,0 +1,15 @@
+pub mod Sorts
+pub mod Goes
+pub mod RunsWell
+pub mod Knows
+pub mod Evaluations
+pub mod Applications
+pub mod Texts
+pub mod Growth
+pub mod Translated
+pub mod Bound
+pub mod Readiness
+pub mod Costs
+pub mod BlockSizes
+pub mod ProgramSizes
+pub mod SizesFit
