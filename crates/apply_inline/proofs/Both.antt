@@ -1,13 +1,8 @@
 -- Evaluations and applications, inlined together.
-use Rattle.std.proofs.Common.{length, ◌∙◌, ◌≡◌, ◌≢◌, ℕ, suc, ◌<◌, ◌≤◌, ◌+◌, max, Bool, true, false, cond, List, [], ◌∷◌, Option, Some, None, slice_get, refl, sym, subst, arith}
-use Rattle.grin_syntax.specs.declared.program.ProcId.{ProcId}
-use Rattle.grin_syntax.specs.declared.program.Tag.{Tag}
-use Rattle.grin_syntax.specs.declared.program.Word.{Word}
-use Rattle.grin_syntax.specs.declared.program.Val.TheVariants.{NodeVar}
+use Rattle.std.proofs.Common.{length, ◌∙◌, ◌≡◌, ◌≢◌, ℕ, ◌<◌, ◌≤◌, ◌+◌, max, List, [], ◌∷◌, refl, sym, subst, arith}
 use Rattle.grin_syntax.specs.declared.program.Target.{Target}
-use Rattle.grin_syntax.specs.declared.program.Target.TheVariants.{Node as NodeTarget}
 use Rattle.grin_syntax.specs.Tree.{Code, end, store, bind, Act, unit, fetch, fetch_word, update, eval, apply, call, prim, read, write, case, nested, fail, Arms, no_arm, arm, Procedure, Program}
-use Rattle.grin_meaning.specs.Run.{Calls, run, is_fun_kind}
+use Rattle.grin_meaning.specs.Run.{Calls, run}
 use Rattle.grin_meaning.specs.Names.{ActOk, CodeOk, ArmsOk, ProcsOk}
 use Rattle.grin_meaning.specs.Follows.{Depths, Same, same, Follows, free, gives_too, stops_too}
 use Rattle.grin_meaning.proofs.Back.{CallsBack}
@@ -16,8 +11,7 @@ use Rattle.grin_meaning.proofs.Related.{CallsFollow}
 use Rattle.grin_meaning.proofs.Simulated.{BodiesLike, bodies_keep, bodies_follow, no_deeper, as_deep}
 use Rattle.flow_system.specs.Solution.{Solution}
 use Rattle.flow_system.specs.Covers.{Lies}
-use Rattle.grin_syntax.specs.declared.program.Shape.TheVariants.{Node as NodeShape}
-use Rattle.flow_system.specs.Inlining.{variable as var, variables, tag_id, fields_at, call_body, eval_body, eval_arm, eval_arms, evaluation, eval_bound, eval_ended, eval_act, eval_code, eval_all, eval_procs, act_room, code_room, tags_of, apply_act, apply_code, apply_all, apply_procs, apply_act_room, apply_code_room, past_target, past_act, past_code, past_arms, past_procs, eval_inlined, apply_inlined}
+use Rattle.flow_system.specs.Inlining.{evaluation, eval_bound, eval_ended, eval_act, eval_code, eval_all, eval_procs, act_room, code_room, apply_act, apply_code, apply_all, apply_procs, apply_act_room, apply_code_room, past_target, past_act, past_code, past_arms, past_procs, eval_inlined, apply_inlined}
 use Rattle.flow_system.proofs.Covered.{covers}
 use Rattle.eval_inline.proofs.Inlining.{it, end_sim, bind_sim, procs_sim}
 use Rattle.apply_inline.proofs.Applied.{apply_sim}

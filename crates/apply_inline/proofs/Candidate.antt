@@ -1,9 +1,8 @@
 -- Candidates for the tags of a value, by what kind of value it is.
-use Rattle.std.proofs.Common.{◌≡◌, ℕ, zero, suc, ◌+◌, ◌<◌, Bool, true, false, ◌||◌, ◌&&◌, nat_eq, List, [], ◌∷◌, map, length, Option, Some, None, slice_get, refl, sym, ap, ◌∙◌, subst, IsTrue, inl, inr, ⊎_elim, arith}
+use Rattle.std.proofs.Common.{◌≡◌, ℕ, Bool, true, false, ◌||◌, nat_eq, List, [], ◌∷◌, map, Some, None, slice_get, refl, sym, subst, inl, inr, ⊎_elim, arith}
 use Rattle.std.specs.Prelude.{◌⊎◌, ◌↔◌}
 use Rattle.std.specs.List.Sorted.{IsStrictlyIncreasing}
 use Rattle.std.proofs.lemmas.Bool.Decides.{nat_tests}
-use Rattle.grin_syntax.specs.declared.program.Tag.{Tag}
 use Rattle.grin_syntax.specs.declared.program.TagId.{TagId}
 use Rattle.grin_syntax.specs.declared.program.VarId.{VarId}
 use Rattle.grin_syntax.specs.declared.program.Word as W
@@ -15,10 +14,10 @@ use Rattle.flow_system.specs.declared.fact.Element.TheVariants.{Tag as tag}
 use Rattle.flow_system.specs.declared.fact.Place.TheVariants.{Var as var}
 use Rattle.flow_system.specs.declared.fact.Part.TheVariants.{Tags as tags, Word as word}
 use Rattle.flow_system.specs.Solution.{Solution, among, At}
-use Rattle.flow_system.specs.Inlining.{word_has, value_has}
+use Rattle.flow_system.specs.Inlining.{word_has}
 use Rattle.points_to.specs.Held.{In, here}
 use Rattle.points_to.proofs.Member.{none_in}
-use Rattle.apply_inline.specs.Applied.{fits, Candidates}
+use Rattle.apply_inline.specs.Applied.{Candidates}
 use Rattle.apply_inline.proofs.Filtered.{and_left}
 
 same : (t t' : ℕ) → nat_eq t t' ≡ true → In t (t' ∷ [])

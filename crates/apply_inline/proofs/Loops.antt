@@ -1,5 +1,5 @@
 -- What the loops over statements, alternatives and candidates have made so far.
-use Rattle.std.proofs.Common.{◌≡◌, ℕ, zero, suc, ◌+◌, ◌<◌, ◌≤◌, Bool, true, false, cond, List, [], ◌∷◌, ◌++◌, map, take, length, get_or, Option, Some, None, slice_get, append_assoc, refl, sym, ap, ◌∙◌, subst, arith}
+use Rattle.std.proofs.Common.{◌≡◌, ℕ, zero, suc, ◌+◌, ◌<◌, Bool, true, false, cond, List, [], ◌∷◌, ◌++◌, map, take, length, get_or, Some, slice_get, refl, sym, ap, ◌∙◌, arith}
 use Rattle.std.specs.List.{filter}
 use Rattle.std.proofs.Math.Seq.{take-suc}
 use Rattle.std.proofs.lemmas.List.{append-nil}
@@ -18,11 +18,11 @@ use Rattle.grin_syntax.specs.declared.program.Shape.{Shape}
 use Rattle.grin_syntax.specs.declared.program.Shape.TheVariants.{Else}
 use Rattle.grin_syntax.specs.declared.program.Word.{Word}
 use Rattle.grin_syntax.specs.declared.program.Val.{Val}
-use Rattle.grin_syntax.specs.Tree.{Code, end, bind, store, Act, case, fail, Arms, no_arm, arm, act_of, before_of, arm_of, code_of, all_before, arms_of, Procedure, Program}
-use Rattle.grin_syntax.proofs.TreeOf.{code_of-parts, arm_of-parts, act_of-Case, act_of-Fail, before_of-Store, before_of-Bind}
+use Rattle.grin_syntax.specs.Tree.{Code, end, bind, case, fail, Arms, no_arm, arm, act_of, before_of, arm_of, code_of, all_before, arms_of, Procedure, Program}
+use Rattle.grin_syntax.proofs.TreeOf.{code_of-parts, arm_of-parts, act_of-Case, before_of-Store, before_of-Bind}
 use Rattle.flow_system.specs.Solution.{Solution}
 use Rattle.flow_system.specs.Inlining.{fields_at, apply_arm, apply_arms, parts_of, others_of, else_fail, parts_room, apply_act, apply_code, apply_all, apply_procs, apply_act_room, apply_code_room, apply_arms_room}
-use Rattle.flow_system.proofs.SoFar.{take_next, take_all, before_snoc}
+use Rattle.flow_system.proofs.SoFar.{before_snoc}
 use Rattle.eval_inline.proofs.Pieces.{map_push}
 use Rattle.apply_inline.specs.Applied.{has_some, arms_before}
 use Rattle.apply_inline.proofs.Binding.{procs_room}

@@ -1,10 +1,9 @@
 -- In a well-formed program each function that lacks two or more arguments has a tag for one argument more.
-use Rattle.std.proofs.Common.{◌≡◌, ℕ, zero, suc, Bool, true, false, cond, List, [], ◌∷◌, Option, Some, None, slice_get, refl, sym, ap, ◌∙◌, subst}
+use Rattle.std.proofs.Common.{◌≡◌, ℕ, suc, Bool, true, false, cond, List, [], ◌∷◌, Some, refl, subst}
 use Rattle.std.specs.List.{filter}
 use Rattle.grin_syntax.specs.declared.program.Tag.{Tag}
 use Rattle.grin_syntax.specs.declared.program.TagKind.{TagKind}
 use Rattle.grin_syntax.specs.declared.program.TagKind.TheVariants as kind
-use Rattle.grin_syntax.specs.declared.program.ProcId.{ProcId}
 use Rattle.grin_syntax.specs.Tree.{Program}
 use Rattle.grin_syntax.specs.Formed.{Formed, KindFormed, TagFormed, HasNext}
 use Rattle.grin_syntax.specs.Tags.{is_part, is_part_kind, part_from}

@@ -1,7 +1,5 @@
 -- Lists as far as a loop has come.
-use Rattle.std.proofs.Common.{◌≡◌, ℕ, zero, suc, ◌+◌, ◌<◌, ◌≤◌, Bool, true, false, cond, List, [], ◌∷◌, ◌++◌, map, take, drop, length, get_or, drop-cons, add-one, Option, Some, None, refl, sym, ap, ◌∙◌, arith}
-use Rattle.grin_syntax.specs.declared.program.Tag.{Tag}
-use Rattle.grin_syntax.specs.Tags.{is_part, part_from}
+use Rattle.std.proofs.Common.{◌≡◌, ℕ, ◌+◌, ◌<◌, ◌≤◌, List, [], ◌∷◌, ◌++◌, map, take, length, get_or, ap, ◌∙◌}
 use Rattle.flow_system.proofs.SoFar.{take_next, take_all}
 use Rattle.eval_inline.proofs.Pieces.{map_push}
 

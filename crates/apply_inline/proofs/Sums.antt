@@ -1,6 +1,5 @@
 -- What the loops that add sizes have added so far.
-use Rattle.std.proofs.Common.{◌≡◌, ℕ, zero, suc, ◌+◌, ◌-◌, ◌^◌, ◌<◌, ◌≤◌, min, Bool, true, false, cond, List, [], ◌∷◌, ◌++◌, map, take, length, get_or, Option, Some, None, slice_get, refl, sym, ap, ◌∙◌, subst, arith}
-use Rattle.std.specs.List.{filter}
+use Rattle.std.proofs.Common.{◌≡◌, ℕ, zero, suc, ◌+◌, ◌-◌, ◌^◌, ◌<◌, ◌≤◌, Bool, true, false, cond, List, [], ◌∷◌, ◌++◌, map, take, length, get_or, Some, slice_get, sym, ap, ◌∙◌, subst, arith}
 use Rattle.grin_syntax.specs.declared.program.Stmt.{Stmt}
 use Rattle.grin_syntax.specs.declared.program.Stmt.TheVariants.{Store, Bind}
 use Rattle.grin_syntax.specs.declared.program.Alt.{Alt}
@@ -10,18 +9,16 @@ use Rattle.grin_syntax.specs.declared.program.Block.{Block}
 use Rattle.grin_syntax.specs.declared.program.Cell.{Cell}
 use Rattle.grin_syntax.specs.declared.program.Target.{Target}
 use Rattle.grin_syntax.specs.declared.program.Tag.{Tag}
-use Rattle.grin_syntax.specs.declared.program.TagId.{TagId}
-use Rattle.grin_syntax.specs.declared.program.Shape.{Shape}
 use Rattle.grin_syntax.specs.declared.program.Word.{Word}
 use Rattle.grin_syntax.specs.declared.program.Val.{Val}
-use Rattle.grin_syntax.specs.Tree.{Code, end, store, bind, Arms, no_arm, arm, act_of, before_of, arm_of, code_of, all_before, arms_of, Procedure, Program}
+use Rattle.grin_syntax.specs.Tree.{Code, end, Arms, no_arm, arm, act_of, before_of, arm_of, code_of, all_before, arms_of, Procedure, Program}
 use Rattle.grin_syntax.proofs.TreeOf.{act_of-Apply, code_of-parts, arm_of-parts, before_of-Store, before_of-Bind}
 use Rattle.flow_system.specs.Solution.{Solution, among}
 use Rattle.flow_system.specs.Size.{val_size, target_size, shape_size, cells_size, total}
 use Rattle.flow_system.specs.declared.fact.Element.TheVariants.{Tag as tag}
 use Rattle.flow_system.specs.declared.fact.Place.TheVariants.{Site as site}
 use Rattle.flow_system.specs.declared.fact.Part.TheVariants.{Tags as tags}
-use Rattle.flow_system.specs.Inlining.{those, some_of, sites_of, tags_of}
+use Rattle.flow_system.specs.Inlining.{those, some_of, sites_of}
 use Rattle.flow_system.proofs.SoFar.{take_next, take_all, before_snoc}
 use Rattle.eval_inline.specs.Met.{tags_from}
 use Rattle.eval_inline.proofs.Pieces.{map_push}

@@ -1,5 +1,5 @@
 -- Inlining of applications leaves a program well formed.
-use Rattle.std.proofs.Common.{◌≡◌, ℕ, zero, suc, ◌+◌, ◌<◌, ◌≤◌, Bool, true, false, cond, List, [], ◌∷◌, ◌++◌, map, length, Option, Some, None, slice_get, refl, sym, ap, ◌∙◌, subst, arith}
+use Rattle.std.proofs.Common.{◌≡◌, ℕ, zero, suc, ◌+◌, ◌<◌, Bool, true, false, cond, List, [], ◌∷◌, ◌++◌, map, length, Option, Some, None, slice_get, refl, ap, ◌∙◌, subst, arith}
 use Rattle.std.proofs.lemmas.Option.{slice_get_within}
 use Rattle.grin_syntax.specs.declared.program.ProcId.{ProcId}
 use Rattle.grin_syntax.specs.declared.program.Tag.{Tag}
@@ -15,7 +15,7 @@ use Rattle.grin_syntax.proofs.FormedAgain.{known_again}
 use Rattle.grin_meaning.specs.Run.{part_from}
 use Rattle.flow_system.specs.Solution.{Solution}
 use Rattle.flow_system.specs.Inlining.{variables, fields_at, with_one_more, apply_body, part_body, apply_arm, apply_arms, parts_of, others_of, else_fail, apply_act, apply_code, apply_all, apply_procs, apply_act_room, apply_code_room, past_procs, apply_inlined}
-use Rattle.eval_inline.proofs.Scope.{Within, within_self, within_left, within_more, all_get, after, word_stays, words_stay, val_stays, cells_stay, shape_stays, vars_formed, formed_with}
+use Rattle.eval_inline.proofs.Scope.{Within, within_self, within_left, within_more, all_get, after, word_stays, vars_formed, formed_with}
 use Rattle.apply_inline.proofs.Binding.{vars_once, sites_stay}
 
 part_below : (i : ℕ) (ts : List Tag) (f r t : ℕ) → part_from i ts f r ≡ Some t → t < i + length ts

@@ -3,9 +3,12 @@ use Rattle.std.proofs.Common.{◌≡◌, ℕ, ◌+◌, ◌-◌, ◌<◌, ◌≤�
 use Rattle.std.specs.Prelude.{IfSome, IsSome, unwrap_or}
 use Rattle.std.proofs.Math.Seq.{take-add, take-append_seam}
 use Rattle.std.proofs.lemmas.List.{length-take-le, take_all}
+use mathlib.Core.Logic.{◌⊎◌, inl, inr}
 use Rattle.std.proofs.lemmas.Bool.{ltb-true, ltb-false}
+use Rattle.std.proofs.lemmas.Option.{same_Some}
 use Rattle.grin_io.specs.Content.{Files, Fills, file_named, rest_of, moved_on}
 use Rattle.grin_driver.specs.Reading.{IsBehind, Goes, Reading, ReadsOn, IsRead}
+use Rattle.grin_driver.specs.Answer.{OfFile}
 
 -- the bytes at a buffer's front
 pub piece_is : (rest buffer filled : List ℕ) (k : ℕ) → k ≤ length rest → filled ≡ take k rest ++ drop k buffer → take k filled ≡ take k rest
@@ -113,20 +116,50 @@ reading_on first before now file text text' more reading on = λ old e.
     let s = on r.0 r.1 file r.3 in
     (s.0, s.1, s.2 ∙ r.2, s.3)
 
-pub read_full : (first now : Option Files) (file text : List ℕ) → Reading first now file text → length text ≡ 1048577 → IsRead first file text
-read_full first now file text reading full = record {
+pub read_full : (most : ℕ) (first now : Option Files) (file text : List ℕ) → Reading first now file text → length text ≡ most → IsRead most first file text
+read_full most first now file text reading full = record {
   front = λ old e.
       let r = reading old e in
       (r.3.bytes, subst (λ n. file_named file n ≡ Some r.3.bytes) r.2 r.3.named, r.3.front ∙ ap (λ n. take n r.3.bytes) full);
   short = omega (arith, full);
 }
 
-pub read_ended : (first before now : Option Files) (file text text' : List ℕ) (more : Bool) → Reading first before file text → ReadsOn before now text text' more → more ≡ false → length text' ≤ 1048577 → IsRead first file text'
-read_ended first before now file text text' more reading goes ended short = record {
+pub read_ended : (most : ℕ) (first before now : Option Files) (file text text' : List ℕ) (more : Bool) → Reading first before file text → ReadsOn before now text text' more → more ≡ false → length text' ≤ most → IsRead most first file text'
+read_ended most first before now file text text' more reading goes ended short = record {
   front = λ old e.
       let r = reading old e in
       let on : ReadsOn before now text text' false = subst (λ b. ReadsOn before now text text' b) ended goes in
       let s = on r.0 r.1 file r.3 in
-      (text', subst (λ n. file_named file n ≡ Some text') (s.2 ∙ r.2) s.4, sym (take_all 1048577 text' short));
+      (text', subst (λ n. file_named file n ≡ Some text') (s.2 ∙ r.2) s.4, sym (take_all most text' short));
   short = short;
 }
+
+-- ---- what was read of a file
+
+le_or_lt : (a b : ℕ) → (a ≤ b) ⊎ (b < a)
+le_or_lt a b = go (nat_lt b a) refl
+  where
+    go : (t : Bool) → nat_lt b a ≡ t → (a ≤ b) ⊎ (b < a)
+    go true e = inr (ltb-true b a e)
+    go false e = inl (ltb-false b a e)
+
+-- what holds of the bytes that were read holds of the file, if it does so where the file has more than the most that are read
+pub of_file : (most : ℕ) (content : Option Files) (file front : List ℕ) (outcome : List ℕ → Type 0)
+    → ((bytes : List ℕ) → length front ≡ most → most < length bytes → outcome front → outcome bytes)
+    → IsRead most content file front → outcome front → OfFile content file outcome
+of_file most content file front outcome longer read h = go content refl
+  where
+    by : (bytes : List ℕ) → front ≡ take most bytes → (length bytes ≤ most) ⊎ (most < length bytes) → outcome bytes
+    by bytes is (inl short) = subst outcome (is ∙ take_all most bytes short) h
+    by bytes is (inr long) =
+        let within : most ≤ length bytes = omega (arith, long) in
+        longer bytes (ap length is ∙ length-take-le most bytes within) long h
+
+    go : (c : Option Files) → content ≡ c → OfFile content file outcome
+    go None is = (front, (λ files e. let c : None ≡ Some files = sym is ∙ e in absurd cc), h)
+    go (Some files) is =
+        let r = read.front files is in (
+          r.0,
+          (λ files' e. let c : Some files ≡ Some files' = sym is ∙ e in subst (λ f. file_named file f.named ≡ Some r.0) (same_Some files files' c) r.1),
+          by r.0 r.2 (le_or_lt (length r.0) most),
+        )

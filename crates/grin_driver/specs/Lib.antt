@@ -1,6 +1,10 @@
-pub mod Words
 pub mod Statuses
 pub mod Telling
 pub mod Reading
+pub mod Text
+pub mod Putting
 pub mod Outcome
+pub mod Checking
+pub mod Listing
+pub mod Execution
 pub mod Answer

@@ -1,37 +1,38 @@
 -- What each status says of a text that is run.
-use Rattle.std.specs.Prelude.{◌≡◌, ℕ, ◌+◌, ◌*◌, ◌≤◌, ◌⊎◌, Bool, List, [], Option, Some}
+use Rattle.std.specs.Prelude.{◌≡◌, ℕ, ◌+◌, ◌*◌, ◌≤◌, ◌⊎◌, Bool, List, [], Option, Some, None}
 use Rattle.core_reader.specs.Tree as tree
-use Rattle.core_reader.specs.Text.{IsText, IsFirstUnread, IsUnbroken}
 use Rattle.core_reader.specs.Size.{program_size}
-use Rattle.arity_check.specs.Accepted as check
-use Rattle.arity_check.specs.Accepted.{IsFirstBroken}
 use Rattle.arity_check.specs.Program.{Program}
 use Rattle.elf32.specs.Image.{Image}
-use Rattle.grin_io.specs.Causes.{Rose}
 use Rattle.headline.specs.Carries.{End, going, done, no_alternative, Begins, Finish, runs, exits, traps}
-use Rattle.rv32_machine.specs.Runs as machine
-use Rattle.rv32_machine.specs.Runs.{TookAll, TookPart}
+use Rattle.rv32_machine.specs.Runs.{TookAll}
 use Rattle.rv32_machine.specs.declared.machine.Stop.{Stop}
 use Rattle.rv32_machine.specs.declared.machine.Stop.TheVariants.{Steps, Exit, Trap}
 use Rattle.first_path.specs.Simple.{not_yet_at}
 use Rattle.first_path.specs.Carried.{told, seen}
-use Rattle.first_path.specs.Built.{IsBuiltFrom, IsCarriedBy}
+use Rattle.first_path.specs.Built.{IsCarriedBy}
 use Rattle.grin_driver.specs.declared.status.Status.{Status}
-use Rattle.grin_driver.specs.declared.status.Status.TheVariants.{Done, Refused, Usage, NoAlternative, StepLimit, OutOfMemory, ReadFault, WriteFault}
+use Rattle.grin_driver.specs.declared.status.Status.TheVariants.{Done, Refused, NoAlternative, StepLimit, OutOfMemory, WriteFault}
+use Rattle.grin_driver.specs.Text.{IsRefusedBy, IsAccepted}
+use Rattle.grin_driver.specs.Putting.{Broke}
 
--- Which rule a text breaks first, and where: one of the text, else one of its program, else that a function is not built yet.
-pub data IsRefusedBy (text : List ℕ) : (rule number : ℕ) → Type 0 where
-  Unread : (rule at : ℕ) → IsFirstUnread text rule at → IsRefusedBy text rule at
-  Unaccepted : (rule at : ℕ) (p : tree.Program) → IsUnbroken text → IsText text p → IsFirstBroken p rule at → IsRefusedBy text rule at
-  Unbuilt : (at : ℕ) (p : tree.Program) → IsUnbroken text → IsText text p → check.IsUnbroken p → not_yet_at p ≡ Some at → IsRefusedBy text 6 at
+-- a function of the text's program is not built yet; the first such one has its name at this place
+pub record IsUnbuilt (text : List ℕ) (at : ℕ) : Type 0 where
+  pub source : tree.Program
+  pub program : Program
+  pub accepted : IsAccepted text source program
+  pub unbuilt : not_yet_at source ≡ Some at
+
+-- which rule refuses a run: the first one that the text breaks, else rule 6 for a function that is not built yet
+abbrev pub IsNotRun : (text : List ℕ) → (rule number : ℕ) → Type 0
+IsNotRun text rule number = IsRefusedBy text rule number ⊎ ((rule ≡ 6) × IsUnbuilt text number)
 
 -- The image carries the program of a text that breaks no rule.
 pub record IsImageOf (text : List ℕ) (image : Image) : Type 0 where
   pub source : tree.Program
   pub program : Program
-  pub unbroken : IsUnbroken text
-  pub stands : IsText text source
-  pub built : IsBuiltFrom source program
+  pub accepted : IsAccepted text source program
+  pub built : not_yet_at source ≡ None
   pub carried : IsCarriedBy source program image
 
 -- ---- the run of an image on an input of no bytes
@@ -41,12 +42,6 @@ pub record Ran {K : Type 0} (gives : K → List ℕ → Bool → K → Type 0) (
   pub finished : (seen image [] steps).finish ≡ finish
   pub took : TookAll gives taken old new (seen image [] steps).out
 
--- a put failed, which was the last thing that was asked of the sink, and what it took are bytes that were due
-pub record Broke {K : Type 0} (gives : K → List ℕ → Bool → K → Type 0) (taken : K → Option (List ℕ)) (faults : K → ℕ) (old new : K) (due : List ℕ) : Type 0 where
-  pub rose : Rose (faults old) (faults new)
-  pub part : TookPart taken old new due
-  pub puts : machine.Refused gives old new due
-
 -- the status names the end of the run
 abbrev pub RunsTo : {K : Type 0} → (gives : K → List ℕ → Bool → K → Type 0) → (taken : K → Option (List ℕ)) → (faults : K → ℕ) → (old new : K) → Image → (steps : ℕ) → Status → Type 0
 RunsTo gives taken faults old new image steps Done = Ran gives taken old new image steps (exits 0)
@@ -54,9 +49,7 @@ RunsTo gives taken faults old new image steps NoAlternative = Ran gives taken ol
 RunsTo gives taken faults old new image steps StepLimit = Ran gives taken old new image steps runs
 RunsTo gives taken faults old new image steps WriteFault = Broke gives taken faults old new (seen image [] steps).out
 RunsTo gives taken faults old new image steps OutOfMemory = new ≡ old
-RunsTo gives taken faults old new image steps Usage = ⊥
-RunsTo gives taken faults old new image steps ReadFault = ⊥
-RunsTo gives taken faults old new image steps (Refused rule number) = ⊥
+RunsTo gives taken faults old new image steps _ = ⊥
 
 -- what an answer of the machine's run says of its finish
 abbrev pub finish_by : Stop → Finish
@@ -69,11 +62,7 @@ abbrev pub IsNamedBy : Finish → Status → Type 0
 IsNamedBy finish Done = finish ≡ exits 0
 IsNamedBy finish NoAlternative = finish ≡ exits 3
 IsNamedBy finish StepLimit = finish ≡ runs
-IsNamedBy finish WriteFault = ⊥
-IsNamedBy finish OutOfMemory = ⊥
-IsNamedBy finish Usage = ⊥
-IsNamedBy finish ReadFault = ⊥
-IsNamedBy finish (Refused rule number) = ⊥
+IsNamedBy finish _ = ⊥
 
 -- the run goes on, or has ended by the exit 0 or 3
 abbrev pub IsFine : Finish → Type 0
@@ -103,10 +92,7 @@ Says source p steps out Done = Ends p done out
 Says source p steps out NoAlternative = Ends p no_alternative out
 Says source p steps out StepLimit = Pauses (work source) steps p out
 Says source p steps out WriteFault = Puts p out
-Says source p steps out OutOfMemory = Unit {0}
-Says source p steps out Usage = ⊥
-Says source p steps out ReadFault = ⊥
-Says source p steps out (Refused rule number) = ⊥
+Says source p steps out _ = ⊥
 
 -- ---- the statuses of a text
 
@@ -119,22 +105,12 @@ pub record Runs {K : Type 0} (gives : K → List ℕ → Bool → K → Type 0) 
 
 -- The status of a text, and what the sink took: nothing at a refusal or for want of memory.
 abbrev pub Outcome : {K : Type 0} → (gives : K → List ℕ → Bool → K → Type 0) → (taken : K → Option (List ℕ)) → (faults : K → ℕ) → (old new : K) → (text : List ℕ) → (steps : ℕ) → Status → Type 0
-Outcome gives taken faults old new text steps (Refused rule number) = IsRefusedBy text rule number × (new ≡ old)
+Outcome gives taken faults old new text steps (Refused rule number) = IsNotRun text rule number × (new ≡ old)
 Outcome gives taken faults old new text steps OutOfMemory = new ≡ old
-Outcome gives taken faults old new text steps Done = Runs gives taken faults old new text steps Done
-Outcome gives taken faults old new text steps NoAlternative = Runs gives taken faults old new text steps NoAlternative
-Outcome gives taken faults old new text steps StepLimit = Runs gives taken faults old new text steps StepLimit
-Outcome gives taken faults old new text steps WriteFault = Runs gives taken faults old new text steps WriteFault
-Outcome gives taken faults old new text steps Usage = ⊥
-Outcome gives taken faults old new text steps ReadFault = ⊥
+Outcome gives taken faults old new text steps status = Runs gives taken faults old new text steps status
 
 -- why no image was made of a text
 abbrev pub IsUnmade : (text : List ℕ) → Status → Type 0
-IsUnmade text (Refused rule number) = IsRefusedBy text rule number
+IsUnmade text (Refused rule number) = IsNotRun text rule number
 IsUnmade text OutOfMemory = Unit {0}
-IsUnmade text Done = ⊥
-IsUnmade text NoAlternative = ⊥
-IsUnmade text StepLimit = ⊥
-IsUnmade text WriteFault = ⊥
-IsUnmade text Usage = ⊥
-IsUnmade text ReadFault = ⊥
+IsUnmade text _ = ⊥

@@ -3,7 +3,7 @@ use Rattle.std.specs.Prelude.{◌≡◌, ℕ, ◌<◌, ◌≤◌, Bool, true, fa
 use Rattle.grin_io.specs.Causes.{Rose}
 use Rattle.grin_io.specs.Content.{Files, file_named}
 use Rattle.grin_driver.specs.declared.status.Status.{Status}
-use Rattle.grin_driver.specs.declared.status.Status.TheVariants.{Done, Refused, Usage, NoAlternative, StepLimit, OutOfMemory, ReadFault, WriteFault}
+use Rattle.grin_driver.specs.declared.status.Status.TheVariants.{OutOfMemory, ReadFault}
 
 -- the file is open behind these bytes, which are the first ones of it
 pub record IsBehind (files : Files) (file text : List ℕ) : Type 0 where
@@ -28,18 +28,13 @@ ReadsOn before now text text' more =
     (old : Files) → before ≡ Some old → (file : List ℕ) → IsBehind old file text
     → (new : Files) × (now ≡ Some new) × (new.named ≡ old.named) × IsBehind new file text' × Goes new file text text' more
 
--- all bytes of the file, or the first 1,048,577
-pub record IsRead (before : Option Files) (file text : List ℕ) : Type 0 where
-  pub front : (old : Files) → before ≡ Some old → (bytes : List ℕ) × (file_named file old.named ≡ Some bytes) × (text ≡ take 1048577 bytes)
-  pub short : length text ≤ 1048577
+-- all bytes of the file, or as many as the most that are read
+pub record IsRead (most : ℕ) (before : Option Files) (file text : List ℕ) : Type 0 where
+  pub front : (old : Files) → before ≡ Some old → (bytes : List ℕ) × (file_named file old.named ≡ Some bytes) × (text ≡ take most bytes)
+  pub short : length text ≤ most
 
 -- why a file was not read
 abbrev pub IsUnread : (faults faults' : ℕ) → Status → Type 0
 IsUnread faults faults' ReadFault = Rose faults faults'
 IsUnread faults faults' OutOfMemory = Unit {0}
-IsUnread faults faults' Done = ⊥
-IsUnread faults faults' (Refused rule number) = ⊥
-IsUnread faults faults' Usage = ⊥
-IsUnread faults faults' NoAlternative = ⊥
-IsUnread faults faults' StepLimit = ⊥
-IsUnread faults faults' WriteFault = ⊥
+IsUnread faults faults' _ = ⊥

@@ -3,7 +3,7 @@ use Rattle.std.specs.Prelude.{◌≡◌, ◌⊎◌, ℕ, ◌≤◌, List, ◌++�
 use Rattle.grin_io.specs.Causes.{Rose}
 use Rattle.rv32_machine.specs.Runs.{Told}
 use Rattle.grin_driver.specs.declared.status.Status.{Status}
-use Rattle.grin_driver.specs.declared.status.Status.TheVariants.{Done, Refused, Usage, NoAlternative, StepLimit, OutOfMemory, ReadFault, WriteFault}
+use Rattle.grin_driver.specs.declared.status.Status.TheVariants.{Done}
 use Rattle.grin_driver.specs.Statuses.{line_of}
 
 -- one put of these bytes, and nothing else
@@ -13,13 +13,7 @@ IsOnePut gives old new piece = (whole : Bool) × gives old piece whole new
 -- no put at Done, and else one put of the line
 abbrev pub Puts : {K : Type 0} → (gives : K → List ℕ → Bool → K → Type 0) → (old new : K) → Status → Type 0
 Puts gives old new Done = new ≡ old
-Puts gives old new (Refused rule number) = IsOnePut gives old new (line_of (Refused rule number))
-Puts gives old new Usage = IsOnePut gives old new (line_of Usage)
-Puts gives old new NoAlternative = IsOnePut gives old new (line_of NoAlternative)
-Puts gives old new StepLimit = IsOnePut gives old new (line_of StepLimit)
-Puts gives old new OutOfMemory = IsOnePut gives old new (line_of OutOfMemory)
-Puts gives old new ReadFault = IsOnePut gives old new (line_of ReadFault)
-Puts gives old new WriteFault = IsOnePut gives old new (line_of WriteFault)
+Puts gives old new status = IsOnePut gives old new (line_of status)
 
 -- The line of a status is told: by at most one put, and where the sink's count did not rise it took just the line.
 pub record IsTold {K : Type 0} (gives : K → List ℕ → Bool → K → Type 0) (taken : K → Option (List ℕ)) (faults : K → ℕ) (old new : K) (status : Status) : Type 0 where

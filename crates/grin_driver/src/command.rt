@@ -1,19 +1,32 @@
 //! The command line as a whole.
 
-ghost use Rattle.std.specs.Prelude.{◌≡◌, ℕ, ◌≤◌, List, IfSome};
-ghost use Rattle.grin_driver.specs.Words.{file_of};
-ghost use Rattle.grin_driver.specs.Answer.{Answer, Answers};
+ghost use Rattle.std.specs.Prelude.{◌≡◌, ◌≤◌, Some, IfSome};
+ghost use Rattle.command_line.specs.Commands.{command_of, asked_by};
+ghost use Rattle.grin_driver.specs.Outcome.{Outcome};
+ghost use Rattle.grin_driver.specs.Checking.{Checks};
+ghost use Rattle.grin_driver.specs.Listing.{ListsAfter};
+ghost use Rattle.grin_driver.specs.Execution.{Execution};
+ghost use Rattle.grin_driver.specs.Answer.{OfOperand, Answers, operand_of, default_steps};
 ghost use Rattle.grin_driver.specs.Telling.{IsTold};
 
-use crate::line::Line;
+use crate::check::check_text;
+use crate::exec::exec_image;
+use crate::list::list_after;
 use crate::reading::read_file;
+use crate::run::run_text;
 use crate::status::Status;
-use crate::text::run_text;
+use command_line::{Command, Line, Listing};
 use grin_io::{Shelf, Sink, Source};
 use std::alloc::Global;
 
-/// The instructions that a command gives a program.
+/// The instructions that `run` gives a program.
 const STEPS: u64 = 1_000_000_000;
+
+/// The most bytes that are read of a text: one more than those of the longest one.
+const MOST_OF_TEXT: usize = 1_048_577;
+
+/// The most bytes that are read of an image: one more than those of the longest one.
+const MOST_OF_IMAGE: usize = 1_342_177_281;
 
 /// Runs the text of a file.
 fn run_file<F: Shelf, I: Source, K: Sink>(
@@ -24,13 +37,82 @@ fn run_file<F: Shelf, I: Source, K: Sink>(
     out: &mut K,
 ) -> Status
     requires { F.permitted file.now }
-    ensures answer { Answer K.put_gives K.taken K.faults out.old out.new (F.content shelf.old) (F.faults shelf.old) (F.faults shelf.new) file.now result }
+    ensures answer { OfOperand (F.content shelf.old) (F.faults shelf.old) (F.faults shelf.new) (out.new ≡ out.old) file.now (λ text status. Outcome K.put_gives K.taken K.faults out.old out.new text default_steps status) result }
     ensures later { (F.faults shelf.old ≤ F.faults shelf.new) × (K.faults out.old ≤ K.faults out.new) }
     ensures input { input.new ≡ input.old }
 {
-    match read_file(alloc, shelf, file) {
+    match read_file(alloc, shelf, file, MOST_OF_TEXT) {
         Ok(text) => run_text(alloc, text.as_slice(), STEPS, input, out),
         Err(status) => status,
+    }
+}
+
+/// Checks the text of a file, and puts the line of its program.
+fn check_file<F: Shelf, K: Sink>(alloc: Global, file: &str, shelf: &mut F, out: &mut K) -> Status
+    requires { F.permitted file.now }
+    ensures answer { OfOperand (F.content shelf.old) (F.faults shelf.old) (F.faults shelf.new) (out.new ≡ out.old) file.now (λ text status. Checks K.put_gives K.taken K.faults out.old out.new text status) result }
+    ensures later { (F.faults shelf.old ≤ F.faults shelf.new) × (K.faults out.old ≤ K.faults out.new) }
+{
+    match read_file(alloc, shelf, file, MOST_OF_TEXT) {
+        Ok(text) => check_text(alloc, text.as_slice(), out),
+        Err(status) => status,
+    }
+}
+
+/// Lists the text of a file after a pass.
+fn list_file<F: Shelf, K: Sink>(
+    alloc: Global,
+    file: &str,
+    after: Listing,
+    shelf: &mut F,
+    out: &mut K,
+) -> Status
+    requires { F.permitted file.now }
+    ensures answer { OfOperand (F.content shelf.old) (F.faults shelf.old) (F.faults shelf.new) (out.new ≡ out.old) file.now (λ text status. ListsAfter K.put_gives K.taken K.faults out.old out.new text after status) result }
+    ensures later { (F.faults shelf.old ≤ F.faults shelf.new) × (K.faults out.old ≤ K.faults out.new) }
+{
+    match read_file(alloc, shelf, file, MOST_OF_TEXT) {
+        Ok(text) => list_after(alloc, text.as_slice(), after, out),
+        Err(status) => status,
+    }
+}
+
+/// Runs the executable of a file on the input for at most so many instructions.
+fn exec_file<F: Shelf, I: Source, K: Sink>(
+    alloc: Global,
+    file: &str,
+    steps: u64,
+    shelf: &mut F,
+    input: &mut I,
+    out: &mut K,
+) -> Status
+    requires { F.permitted file.now }
+    ensures answer { OfOperand (F.content shelf.old) (F.faults shelf.old) (F.faults shelf.new) ((input.new ≡ input.old) × (out.new ≡ out.old)) file.now (λ bytes status. Execution I.left I.faults input.old input.new K.put_gives K.taken K.faults out.old out.new bytes steps status) result }
+    ensures later { (F.faults shelf.old ≤ F.faults shelf.new) × ((I.faults input.old ≤ I.faults input.new) × (K.faults out.old ≤ K.faults out.new)) }
+{
+    match read_file(alloc, shelf, file, MOST_OF_IMAGE) {
+        Ok(bytes) => exec_image(alloc, bytes.as_slice(), steps, input, out),
+        Err(status) => status,
+    }
+}
+
+/// Runs a command.
+fn run_command<F: Shelf, I: Source, K: Sink>(
+    alloc: Global,
+    command: &Command<'_>,
+    shelf: &mut F,
+    input: &mut I,
+    out: &mut K,
+) -> Status
+    requires { F.permitted (operand_of (asked_by command.now)) }
+    ensures answer { Answers F.content F.faults shelf.old shelf.new I.left I.faults input.old input.new K.put_gives K.taken K.faults out.old out.new (Some (asked_by command.now)) result }
+    ensures later { (F.faults shelf.old ≤ F.faults shelf.new) × ((I.faults input.old ≤ I.faults input.new) × (K.faults out.old ≤ K.faults out.new)) }
+{
+    match command {
+        Command::Run { file } => run_file(alloc, file, shelf, input, out),
+        Command::Check { file } => check_file(alloc, file, shelf, out),
+        Command::List { file, after } => list_file(alloc, file, *after, shelf, out),
+        Command::Exec { image, steps } => exec_file(alloc, image, *steps, shelf, input, out),
     }
 }
 
@@ -42,21 +124,21 @@ fn run_line<F: Shelf, I: Source, K: Sink>(
     input: &mut I,
     out: &mut K,
 ) -> Status
-    requires { IfSome (file_of line.now) F.permitted }
-    ensures answer { Answers F.content F.faults shelf.old shelf.new K.put_gives K.taken K.faults out.old out.new (file_of line.now) result }
-    ensures later { (F.faults shelf.old ≤ F.faults shelf.new) × (K.faults out.old ≤ K.faults out.new) }
-    ensures input { input.new ≡ input.old }
+    requires { IfSome (command_of line.now) (λ command. F.permitted (operand_of command)) }
+    ensures answer { Answers F.content F.faults shelf.old shelf.new I.left I.faults input.old input.new K.put_gives K.taken K.faults out.old out.new (command_of line.now) result }
+    ensures later { (F.faults shelf.old ≤ F.faults shelf.new) × ((I.faults input.old ≤ I.faults input.new) × (K.faults out.old ≤ K.faults out.new)) }
 {
-    match line.file() {
+    match line.command() {
         None => Status::Usage,
-        Some(file) => run_file(alloc, file, shelf, input, out),
+        Some(command) => run_command(alloc, &command, shelf, input, out),
     }
 }
 
 /// Runs the command that the words of a line stand for, and puts the line of its status on `err`.
 ///
-/// The one command is `run FILE`: the file is read to its end, or up to the first byte past the longest text, and run for at
-/// most 1,000,000,000 instructions. A fault of `err` changes no status.
+/// `run FILE` runs a text for at most 1,000,000,000 instructions, `check FILE` puts the line of its program, and
+/// `exec IMAGE` runs an executable. A file is read to its end, or up to the first byte past the longest one. A fault of `err`
+/// changes no status.
 pub fn grinc_main<F: Shelf, I: Source, K: Sink, E: Sink>(
     alloc: Global,
     line: &Line,
@@ -65,11 +147,10 @@ pub fn grinc_main<F: Shelf, I: Source, K: Sink, E: Sink>(
     out: &mut K,
     err: &mut E,
 ) -> Status
-    requires permitted { IfSome (file_of line.now) F.permitted }
-    ensures answer { Answers F.content F.faults shelf.old shelf.new K.put_gives K.taken K.faults out.old out.new (file_of line.now) result }
+    requires permitted { IfSome (command_of line.now) (λ command. F.permitted (operand_of command)) }
+    ensures answer { Answers F.content F.faults shelf.old shelf.new I.left I.faults input.old input.new K.put_gives K.taken K.faults out.old out.new (command_of line.now) result }
     ensures told { IsTold E.put_gives E.taken E.faults err.old err.new result }
-    ensures later { (F.faults shelf.old ≤ F.faults shelf.new) × (K.faults out.old ≤ K.faults out.new) }
-    ensures input { input.new ≡ input.old }
+    ensures later { (F.faults shelf.old ≤ F.faults shelf.new) × ((I.faults input.old ≤ I.faults input.new) × (K.faults out.old ≤ K.faults out.new)) }
 {
     let status = run_line(alloc, line, shelf, input, out);
     status.tell(err);

@@ -1,13 +1,19 @@
 //! The command line of the compiler: from its words to a status and the bytes put out.
 #![tactic(auto)]
 
+mod accept;
+mod check;
 mod command;
-mod line;
+mod exec;
+mod list;
+mod note;
+mod pieces;
 mod reading;
+mod run;
 mod status;
-mod text;
 
 pub use command::grinc_main;
-pub use line::Line;
+pub use command_line::Line;
+pub use list::list_text;
+pub use run::run_text;
 pub use status::Status;
-pub use text::run_text;

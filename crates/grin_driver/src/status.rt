@@ -1,20 +1,21 @@
 //! How a command ends, and what is told of it.
 
-ghost use Rattle.std.specs.Prelude.{◌≡◌, ◌+◌, ◌≤◌, [], ◌++◌, length, take};
-ghost use Rattle.grin_driver.specs.Statuses.{code_of, line_of};
-ghost use Rattle.grin_driver.specs.declared.status.Status.TheVariants.{Refused};
+ghost use Rattle.std.specs.Prelude.{◌≡◌, ◌+◌, ◌≤◌, ◌++◌, length};
+ghost use Rattle.grin_driver.specs.Statuses.{code_of, line_of, kind_text};
+ghost use Rattle.grin_driver.specs.declared.status.Status.TheVariants.{Refused, Exited, Trapped};
 ghost use Rattle.grin_driver.specs.Telling.{IsTold};
 
+use crate::note::Note;
 use grin_io::Sink;
-use itoa::Buffer;
-use std::marker::Model;
+use rv32_machine::TrapKind;
 
 /// How a command ended.
 #[derive(Clone, Copy, PartialEq, Eq, Debug, Drop)]
 pub enum Status {
-    /// The program's list ended.
+    /// The command did all that it says; at `run` the program's list ended, at `exec` the image exited with 0.
     Done,
-    /// The text breaks this rule first; the number is its place in bytes, or the size for rule 35.
+    /// The text or the image breaks this rule first; the number is its place in bytes, the size for rule 35, or the number of a
+    /// program header.
     Refused { rule: u8, number: u64 },
     /// The words are no command.
     Usage,
@@ -22,55 +23,15 @@ pub enum Status {
     NoAlternative,
     /// The program hasn't ended after the given number of instructions.
     StepLimit,
+    /// The image exited with this code, which isn't 0.
+    Exited(u32),
+    /// The image met an instruction that can't be done, at this address.
+    Trapped(TrapKind, u32),
     OutOfMemory,
-    /// The file couldn't be opened or read.
+    /// The file couldn't be opened or read, or the input couldn't be read.
     ReadFault,
     /// The output didn't take all of a put.
     WriteFault,
-}
-
-/// A line of at most 64 bytes, without memory of its own.
-#[derive(Drop)]
-struct Note {
-    bytes: [u8; 64],
-    length: usize,
-}
-
-impl Model for Note {
-    ghost use Rattle.std.specs.Prelude.{ℕ, List, take, ◌≤◌};
-
-    ghost Value = { List ℕ };
-
-    ghost view = { λ n. take n.length n.bytes };
-
-    ghost invariant = { λ n. n.length ≤ 64 };
-}
-
-impl Note {
-    fn new() -> Note
-        ensures { result ≡ [] }
-    {
-        Note {
-            bytes: [0; 64],
-            length: 0,
-        }
-    }
-
-    /// Puts a piece at the end.
-    fn push(&mut self, piece: &[u8])
-        requires { length self.old + length piece.now ≤ 64 }
-        ensures { self.new ≡ self.old ++ piece.now }
-    {
-        let end = self.length + piece.len();
-        self.bytes[self.length..end].copy_from_slice(piece);
-        self.length = end;
-    }
-
-    fn as_slice(&self) -> &[u8]
-        ensures { result.now ≡ self.now }
-    {
-        &self.bytes[..self.length]
-    }
 }
 
 impl Status {
@@ -84,6 +45,8 @@ impl Status {
             Status::Usage => 2,
             Status::NoAlternative => 3,
             Status::StepLimit => 6,
+            Status::Exited(_) => 7,
+            Status::Trapped(_, _) => 7,
             Status::OutOfMemory => 8,
             Status::ReadFault => 9,
             Status::WriteFault => 10,
@@ -108,6 +71,12 @@ impl Status {
             Status::StepLimit => {
                 let _told = err.put(b"grinc: step limit\n");
             }
+            Status::Exited(code) => {
+                let _told = err.put(exit(*code).as_slice());
+            }
+            Status::Trapped(kind, pc) => {
+                let _told = err.put(trap(kind, *pc).as_slice());
+            }
             Status::OutOfMemory => {
                 let _told = err.put(b"grinc: out of memory\n");
             }
@@ -121,16 +90,65 @@ impl Status {
     }
 }
 
+/// The status of a rule that is broken at a place of 32 bits.
+pub(crate) fn refused(rule: u8, at: u32) -> Status
+    ensures { result ≡ Refused rule at }
+{
+    Status::Refused {
+        rule,
+        number: at as u64,
+    }
+}
+
 /// The line of a refusal.
 fn refusal(rule: u8, number: u64) -> Note
     ensures { result ≡ line_of (Refused rule number) }
 {
-    let mut buffer = Buffer::new();
     let mut note = Note::new();
-    note.push(b"grinc: refused ");
-    note.push(buffer.format(rule).as_bytes());
-    note.push(b" at ");
-    note.push(buffer.format(number).as_bytes());
+    note.push_named(b"grinc: refused ", rule as u64);
+    note.push_named(b" at ", number);
     note.push(b"\n");
     note
+}
+
+/// The line of an exit.
+fn exit(code: u32) -> Note
+    ensures { result ≡ line_of (Exited code) }
+{
+    let mut note = Note::new();
+    note.push_named(b"grinc: exited ", code as u64);
+    note.push(b"\n");
+    note
+}
+
+/// The line of a trap.
+fn trap(kind: &TrapKind, pc: u32) -> Note
+    ensures { result ≡ line_of (Trapped kind.now pc) }
+{
+    let mut note = Note::new();
+    note.push(b"grinc: trap ");
+    push_kind(&mut note, kind);
+    note.push_named(b" at ", pc as u64);
+    note.push(b"\n");
+    note
+}
+
+/// Puts the reason of a trap at the end.
+fn push_kind(note: &mut Note, kind: &TrapKind)
+    requires { length note.old + 40 ≤ 96 }
+    ensures kind { note.new ≡ note.old ++ kind_text kind.now }
+    ensures short { length note.new ≤ length note.old + 40 }
+{
+    match kind {
+        TrapKind::IllegalInstruction(word) => {
+            note.push_named(b"illegal-instruction ", *word as u64)
+        }
+        TrapKind::MisalignedJump => note.push(b"misaligned-jump"),
+        TrapKind::MisalignedAccess(address) => {
+            note.push_named(b"misaligned-access ", *address as u64)
+        }
+        TrapKind::AccessOutside(address) => note.push_named(b"access-outside ", *address as u64),
+        TrapKind::UnknownCall(number) => note.push_named(b"unknown-call ", *number as u64),
+        TrapKind::Breakpoint => note.push(b"breakpoint"),
+    }
 }

@@ -1,6 +1,6 @@
-use Rattle.std.proofs.Common.{◌≡◌, ◌∷◌, [], ◌++◌, refl, sym, ap, ◌∙◌}
+use Rattle.std.proofs.Common.{◌∷◌, [], ◌++◌, ap, ◌∙◌}
 use Rattle.grin_syntax.specs.declared.program.Word.TheVariants.{Var}
-use Rattle.apply_inline.proofs.Placed.{map_next, map_all}
+use Rattle.apply_inline.proofs.Placed.{map_all}
 use Rattle.apply_inline.proofs.blocks.with_argument.Goals as goal
 
 pub returns : goal.returns

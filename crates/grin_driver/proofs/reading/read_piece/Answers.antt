@@ -4,4 +4,4 @@ use Rattle.grin_driver.proofs.Files.{reads_on}
 use Rattle.grin_driver.proofs.reading.read_piece.Goals as goal
 
 pub returns-clause-on : goal.returns-clause-on
-returns-clause-on g c = reads_on (g.F.Shelf.content c.args.shelf.now) (g.F.Shelf.content c.read.new.self) c.args.text.now.items c.extend_from_slice.new.self.items _ c.read.new.buf c.in-Ok.count (grind (arith, common_steps)) c.in-Ok.ensures.content (grind (arith, common_steps))
+returns-clause-on g c = reads_on (g.F.Shelf.content c.args.shelf.now) (g.F.Shelf.content c.read.new.self) c.args.bytes.now.items c.extend_from_slice.new.self.items _ c.read.new.buf c.in-Ok.count (grind (arith, common_steps)) c.in-Ok.ensures.content (grind (arith, common_steps))

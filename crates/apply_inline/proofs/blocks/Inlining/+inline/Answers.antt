@@ -6,7 +6,7 @@ use Rattle.grin_syntax.specs.Tree.{act_of, before_of, program_of}
 use Rattle.flow_system.specs.Inlining.{apply_act, apply_act_room, apply_code, apply_code_room}
 use Rattle.points_to.specs.Found.{found}
 use Rattle.eval_inline.proofs.Pieces.{map_same}
-use Rattle.apply_inline.proofs.Loops.{AllApply, case_done, case_room, none_applies, one_more, none_apply, one_more_alt, store_applies, store_room, bind_applies, bind_room}
+use Rattle.apply_inline.proofs.Loops.{AllApply, case_done, case_room, one_more, one_more_alt, store_applies, store_room, bind_applies, bind_room}
 use Rattle.apply_inline.proofs.blocks.Inlining.+inline.Goals as goal
 
 pub stmt-returns-in-Store-clause-is : goal.stmt-returns-in-Store-clause-is

@@ -1,7 +1,7 @@
 use Rattle.std.proofs.Common.{◌≤◌, arith}
 use Rattle.grin_syntax.specs.Tree.{program_of}
 use Rattle.points_to.specs.Found.{found}
-use Rattle.apply_inline.proofs.Sums.{tag_more, tags_low, tags_sized}
+use Rattle.apply_inline.proofs.Sums.{tags_low, tags_sized}
 use Rattle.apply_inline.proofs.known.Known.evaluation_size.Goals as goal
 
 pub tags-smaller : goal.tags-smaller

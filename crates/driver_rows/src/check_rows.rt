@@ -1,0 +1,130 @@
+//! Texts that are checked: the line of those that are accepted, and the refusals of the others.
+
+use crate::outside::{Ended, LISTS, Outside};
+use std::alloc::{AllocError, Global};
+use std::test::Fail;
+
+/// What `check` of a text answers.
+fn checked(alloc: Global, text: &[u8]) -> Result<Ended, AllocError> {
+    Outside::of(text).run(alloc, &["grinc", "check", "a"])
+}
+
+/// A text whose `main` has a body behind so many opening words, and as many closing ones behind it.
+fn nested(
+    alloc: Global,
+    times: usize,
+    open: &str,
+    body: &str,
+    close: &str,
+) -> Result<String, AllocError> {
+    let mut text = String::from_str(alloc, LISTS)?;
+    text.push_str("main = ")?;
+    for _ in 0..times {
+        text.push_str(open)?;
+    }
+    text.push_str(body)?;
+    for _ in 0..times {
+        text.push_str(close)?;
+    }
+    text.push_str(";")?;
+    Ok(text)
+}
+
+#[test]
+fn refused_programs(rt: HostRuntime) -> Result<(), Fail> {
+    let rows = [
+        ("main = foo;", "grinc: refused 14 at 32\n"),
+        ("main = Cons 1;", "grinc: refused 15 at 32\n"),
+        ("main = Cons 2147483648 Nil;", "grinc: refused 3 at 37\n"),
+        (
+            "main = case Nil of { Nil -> Nil",
+            "grinc: refused 2 at 56\n",
+        ),
+        ("main = case", "grinc: refused 2 at 36\n"),
+        ("main = - 1;", "grinc: refused 1 at 32\n"),
+        ("data T 2147483648;", "grinc: refused 3 at 32\n"),
+        ("data T 13;", "grinc: refused 34 at 30\n"),
+        (
+            "main = Cons 1 Nil; main = Nil;",
+            "grinc: refused 12 at 44\n",
+        ),
+    ];
+    for (text, err) in rows {
+        let text = format!(in rt.alloc(); "{LISTS}{text}")?;
+        let shown = checked(rt.alloc(), text.as_bytes())?;
+        assert!(rt; shown.is(1, "", err), "{text}");
+    }
+    Ok(())
+}
+
+#[test]
+fn refused_texts(rt: HostRuntime) -> Result<(), Fail> {
+    let spaces = vec![in rt.alloc(); b' '; 1_048_577]?;
+    let rows: [(&[u8], &str); 5] = [
+        (b"", "grinc: refused 19 at 0\n"),
+        (&[0xFF], "grinc: refused 1 at 0\n"),
+        (b"data Nil 0; data Cons 2", "grinc: refused 2 at 23\n"),
+        (b"data Nil 0; data Nil 0;", "grinc: refused 11 at 17\n"),
+        (&spaces, "grinc: refused 5 at 1048576\n"),
+    ];
+    for (text, err) in rows {
+        let shown = checked(rt.alloc(), text)?;
+        assert!(rt; shown.is(1, "", err), "{err}");
+    }
+    Ok(())
+}
+
+#[test]
+fn deepest_texts(rt: HostRuntime) -> Result<(), Fail> {
+    let binding = "let a = 1 in ";
+    let rows = [
+        (
+            200,
+            "(",
+            "Nil",
+            ")",
+            0,
+            "ok functions 1 constructors 2 size 6\n",
+            "",
+        ),
+        (201, "(", "Nil", ")", 1, "", "grinc: refused 4 at 232\n"),
+        (
+            200,
+            binding,
+            "a",
+            "",
+            0,
+            "ok functions 1 constructors 2 size 406\n",
+            "",
+        ),
+        (201, binding, "a", "", 1, "", "grinc: refused 4 at 2632\n"),
+    ];
+    for (times, open, body, close, code, out, err) in rows {
+        let text = nested(rt.alloc(), times, open, body, close)?;
+        let shown = checked(rt.alloc(), text.as_bytes())?;
+        assert!(rt; shown.is(code, out, err), "{times} {open}");
+    }
+    Ok(())
+}
+
+#[test]
+fn accepted_texts(rt: HostRuntime) -> Result<(), Fail> {
+    // A constructor counts twice; a function's name, its parameters and the tokens of its body count once each.
+    let rows = [
+        ("main = Nil;", "ok functions 1 constructors 2 size 6\n"),
+        (
+            "id x = x; main = Nil;",
+            "ok functions 2 constructors 2 size 9\n",
+        ),
+        (
+            "main = Cons (add Nil 1) Nil;",
+            "ok functions 1 constructors 2 size 10\n",
+        ),
+    ];
+    for (text, out) in rows {
+        let text = format!(in rt.alloc(); "{LISTS}{text}")?;
+        let shown = checked(rt.alloc(), text.as_bytes())?;
+        assert!(rt; shown.is(0, out, ""), "{text}");
+    }
+    Ok(())
+}

@@ -1,0 +1,17 @@
+//! Command lines worked by hand, over files, streams and failures in memory.
+#![tactic(auto)]
+
+#[cfg(test)]
+mod check_rows;
+#[cfg(test)]
+mod exec_rows;
+#[cfg(test)]
+mod failure_rows;
+#[cfg(test)]
+mod images;
+#[cfg(test)]
+mod list_rows;
+#[cfg(test)]
+mod outside;
+#[cfg(test)]
+mod run_rows;

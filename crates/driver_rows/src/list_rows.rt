@@ -1,0 +1,114 @@
+//! Texts that are listed: their canonical text, their stages, and the refusals of the others.
+
+use crate::outside::{Ended, LISTS, Object, Outside};
+use std::alloc::{AllocError, Global};
+use std::fmt::Write;
+use std::test::Fail;
+
+/// What `list` of a text after a pass answers.
+fn listed(alloc: Global, text: &str, after: &str) -> Result<Ended, AllocError> {
+    Outside::of(text.as_bytes()).run(alloc, &["grinc", "list", "a", "--after", after])
+}
+
+/// A text in which k functions are delayed, and each of their results is given to one function.
+fn many_delayed(alloc: Global, k: u32) -> Result<String, AllocError> {
+    let mut text = String::from_str(alloc, LISTS)?;
+    for i in 0..k {
+        write!(text, "f{i} x = x; ")?;
+    }
+    text.push_str("h y = let ")?;
+    for i in 0..k {
+        write!(text, "b{i} = f{i} y; ")?;
+    }
+    for i in 0..k {
+        write!(text, "c{i} = h b{i}; ")?;
+    }
+    text.push_str("in Nil; main = h Nil;")?;
+    Ok(text)
+}
+
+/// What all programs print with: the list is evaluated, then its head, which is written, and then the tail is printed.
+const EMPTY: &str = "global main = (Fmain)
+
+main =
+  unit (CNil)
+
+@print v0 =
+  v1 <- eval v0
+  case v1 of
+    (CNil) ->
+      unit (CNil)
+    (CCons v2 v3) ->
+      v4 <- eval v2
+      case v4 of
+        (CInt v5) ->
+          write v5
+          call @print v3
+        else ->
+          fail
+    else ->
+      fail
+";
+
+#[test]
+fn listings(rt: HostRuntime) -> Result<(), Fail> {
+    let rows = [
+        (
+            "main = Cons 72 (Cons 105 Nil);",
+            "read",
+            "data Nil 0;\ndata Cons 2;\nmain = Cons 72 (Cons 105 Nil);\n",
+        ),
+        (
+            "main = foo;",
+            "read",
+            "data Nil 0;\ndata Cons 2;\nmain = foo;\n",
+        ),
+        ("main = Nil;", "translate", EMPTY),
+    ];
+    for (text, after, out) in rows {
+        let text = format!(in rt.alloc(); "{LISTS}{text}")?;
+        let shown = listed(rt.alloc(), text.as_str(), after)?;
+        assert!(rt; shown.is(0, out, ""), "{text} {after}");
+    }
+    Ok(())
+}
+
+#[test]
+fn refused_listings(rt: HostRuntime) -> Result<(), Fail> {
+    let large = many_delayed(rt.alloc(), 120)?;
+    let unbound = format!(in rt.alloc(); "{LISTS}main = foo;")?;
+    let unread = format!(in rt.alloc(); "{LISTS}main = - 1;")?;
+    let rows = [
+        (&large, "eval", "grinc: refused 36 at 131322\n"),
+        (&large, "apply", "grinc: refused 36 at 131322\n"),
+        (&unbound, "translate", "grinc: refused 14 at 32\n"),
+        (&unbound, "eval", "grinc: refused 14 at 32\n"),
+        (&unread, "read", "grinc: refused 1 at 32\n"),
+    ];
+    for (text, after, err) in rows {
+        let shown = listed(rt.alloc(), text.as_str(), after)?;
+        assert!(rt; shown.is(1, "", err), "{after}");
+    }
+    Ok(())
+}
+
+#[test]
+fn pieces_up_to_a_failure(rt: HostRuntime) -> Result<(), Fail> {
+    // A thousand lines of nine or more bytes each.
+    let mut text = String::from_str(rt.alloc(), LISTS)?;
+    for i in 0..1000 {
+        write!(text, "f{i} = 1; ")?;
+    }
+    let words = ["grinc", "list", "--after=read", "a"];
+    let outside = Outside {
+        file: text.as_bytes(),
+        input: b"",
+        failing: Some((Object::Out, 1)),
+    };
+    let shown = outside.run(rt.alloc(), &words)?;
+    assert!(rt; shown.took(10, 4096));
+    let shown = listed(rt.alloc(), text.as_str(), "read")?;
+    // 25 bytes of declarations with their line feeds, and ten lines of 8, ninety of 9 and nine hundred of 10 bytes.
+    assert!(rt; shown.took(0, 9915));
+    Ok(())
+}

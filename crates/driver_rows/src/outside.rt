@@ -1,0 +1,89 @@
+//! The objects in memory that a command line is run over.
+
+use grin_driver::{Line, Status, grinc_main};
+use grin_io::{MemFile, MemShelf, MemSink, MemSource};
+use std::alloc::{AllocError, Global};
+
+/// `Nil` and `Cons`, 25 bytes.
+pub(crate) const LISTS: &str = "data Nil 0; data Cons 2; ";
+
+/// An object that a command line is given.
+#[derive(Clone, Copy, PartialEq, Eq)]
+pub(crate) enum Object {
+    Shelf,
+    Input,
+    Out,
+    Err,
+}
+
+/// A file under the name `a`, an input, and an object whose call of this number fails.
+#[derive(Clone, Copy)]
+pub(crate) struct Outside<'a> {
+    pub(crate) file: &'a [u8],
+    pub(crate) input: &'a [u8],
+    pub(crate) failing: Option<(Object, u64)>,
+}
+
+/// A status, the bytes on the output, and the line on the error output.
+#[derive(Drop)]
+pub(crate) struct Ended {
+    status: Status,
+    out: MemSink,
+    err: MemSink,
+}
+
+impl Ended {
+    /// Whether this is the status of the process, and whether the two outputs took these bytes.
+    pub(crate) fn is(&self, code: u8, out: &str, err: &str) -> bool {
+        self.status.code() == code
+            && self.out.taken() == out.as_bytes()
+            && self.err.taken() == err.as_bytes()
+    }
+
+    /// Whether this is the status of the process, and whether the output took so many bytes.
+    pub(crate) fn took(&self, code: u8, bytes: usize) -> bool {
+        self.status.code() == code && self.out.taken().len() == bytes
+    }
+}
+
+impl<'a> Outside<'a> {
+    /// A file, an input of no bytes, and no failure.
+    pub(crate) fn of(file: &'a [u8]) -> Outside<'a> {
+        Outside {
+            file,
+            input: b"",
+            failing: None,
+        }
+    }
+
+    /// The calls of an object that are to fail.
+    fn failing_calls(&self, alloc: Global, object: Object) -> Result<Vec<u64>, AllocError> {
+        let mut calls = Vec::new(alloc);
+        if let Some((failing, call)) = self.failing {
+            if failing == object {
+                calls.push(call)?;
+            }
+        }
+        Ok(calls)
+    }
+
+    /// Runs the command line of these words.
+    pub(crate) fn run(&self, alloc: Global, words: &[&str]) -> Result<Ended, AllocError> {
+        let mut line = Line::new(alloc);
+        for word in words {
+            line.add(word)?;
+        }
+        let mut files = Vec::new(alloc);
+        files.push(MemFile {
+            name: String::from_str(alloc, "a")?,
+            bytes: Vec::from_slice(alloc, self.file)?,
+        })?;
+        let mut shelf = MemShelf::new(files, self.failing_calls(alloc, Object::Shelf)?);
+        let bytes = Vec::from_slice(alloc, self.input)?;
+        let mut input = MemSource::new(bytes, self.failing_calls(alloc, Object::Input)?);
+        let mut out = MemSink::new(alloc, 16384, self.failing_calls(alloc, Object::Out)?)?;
+        let mut err = MemSink::new(alloc, 64, self.failing_calls(alloc, Object::Err)?)?;
+        let status = grinc_main(alloc, &line, &mut shelf, &mut input, &mut out, &mut err);
+        Ok(Ended { status, out, err })
+    }
+}

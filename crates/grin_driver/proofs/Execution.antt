@@ -1,0 +1,51 @@
+-- The runs of executables.
+use Rattle.std.proofs.Common.{◌≡◌, ℕ, ◌<◌, Bool, false, List, length, Option, refl, subst, arith}
+use Rattle.elf32.specs.Image.{Image}
+use Rattle.elf32.specs.Rules.{Breaks, KeepsBelow, rule}
+use Rattle.elf32.specs.declared.refusal.ElfRefusal.{ElfRefusal}
+use Rattle.elf32.specs.declared.refusal.ElfRefusal.TheVariants.{ImageTooLong, Memory}
+use Rattle.grin_io.specs.declared.outside.Fault.{Fault}
+use Rattle.rv32_machine.specs.Steps.{Stand, IsAt, start_of, state_of}
+use Rattle.rv32_machine.specs.Runs.{run, Told, TookPart, Broke, Raised}
+use Rattle.grin_driver.specs.declared.status.Status.{Status}
+use Rattle.grin_driver.specs.declared.status.Status.TheVariants.{Refused, OutOfMemory}
+use Rattle.grin_driver.specs.Execution.{IsUnloadable, number_of, Fails, Execution}
+
+-- a refusal that is no want of memory is the smallest broken rule
+pub unloadable : (r : ElfRefusal) (bytes : List ℕ) → Breaks r bytes × KeepsBelow (rule r) bytes → IsUnloadable bytes (rule r) (number_of r)
+unloadable r bytes h = record { refusal = r; broken = h.0; smallest = h.1; rule_is = refl; number_is = refl }
+
+-- ---- images that are too long
+
+none_below : (bytes : List ℕ) → KeepsBelow 40 bytes
+none_below bytes (Memory e) less broken = broken
+none_below bytes r less broken = absurd (omega (arith, less))
+
+-- of an image that is too long so much of its front is too long
+unloadable_long : (front bytes : List ℕ) → 1342177280 < length front → 1342177280 < length bytes → (k at : ℕ) → IsUnloadable front k at → IsUnloadable bytes k at
+unloadable_long front bytes short long k at u = go u.refusal u.broken u.smallest u.rule_is u.number_is
+  where
+    go : (r : ElfRefusal) → Breaks r front → KeepsBelow (rule r) front → rule r ≡ k → number_of r ≡ at → IsUnloadable bytes k at
+    go ImageTooLong broken smallest rule_is number_is = record { refusal = ImageTooLong; broken = long; smallest = none_below bytes; rule_is = rule_is; number_is = number_is }
+    go (Memory e) broken smallest rule_is number_is = absurd broken
+    go r broken smallest rule_is number_is = absurd (smallest ImageTooLong (omega arith) short)
+
+-- ---- the statuses
+
+module _ {I K : Type 0} (left : I → Option (List ℕ)) (read_faults : I → ℕ) (from from' : I) (gives : K → List ℕ → Bool → K → Type 0) (taken : K → Option (List ℕ)) (faults : K → ℕ) (old new : K) where
+  pub failed : (program : Image) (m : Stand) (steps : ℕ) (fault : Fault) → IsAt m (start_of program) false false
+      → Raised fault (read_faults from) (read_faults from') (faults old) (faults new)
+      → Told (left from) (λ i. TookPart taken old new (run steps i (state_of m)).out)
+      → Told (left from) (λ i. Broke fault gives old new (run steps i (state_of m)).out)
+      → Fails left read_faults from from' gives taken faults old new program steps fault
+  failed program m steps fault begins raised part puts = record {
+    raised = raised;
+    part = λ i e. subst (λ s. TookPart taken old new (run steps i s).out) begins.0 (part i e);
+    puts = λ i e. subst (λ s. Broke fault gives old new (run steps i s).out) begins.0 (puts i e);
+  }
+
+  pub execution_long : (front bytes : List ℕ) (steps : ℕ) → 1342177280 < length front → 1342177280 < length bytes → (status : Status)
+      → Execution left read_faults from from' gives taken faults old new front steps status → Execution left read_faults from from' gives taken faults old new bytes steps status
+  execution_long front bytes steps short long (Refused k at) h = (unloadable_long front bytes short long k at h.0, h.1)
+  execution_long front bytes steps short long OutOfMemory h = h
+  execution_long front bytes steps short long _ h = absurd (h.1.unbroken ImageTooLong (omega arith) short)

@@ -1,0 +1,79 @@
+-- What each status says of a text that is listed.
+use Rattle.std.specs.Prelude.{◌≡◌, ◌≢◌, ◌⊎◌, ◌<◌, ℕ, Bool, List, Option}
+use Rattle.core_reader.specs.Tree as tree
+use Rattle.core_reader.specs.Text.{IsText, IsFirstUnread, IsUnbroken}
+use Rattle.core_reader.specs.Canonical.{canonical}
+use Rattle.arity_check.specs.Program.{Program}
+use Rattle.grin_syntax.specs.Tree as grin
+use Rattle.grin_syntax.specs.Listing as grin_listing
+use Rattle.grin_opt.specs.declared.pass.PassName.{PassName}
+use Rattle.grin_opt.specs.declared.pass.PassName.TheVariants.{Translate, Eval, Apply}
+use Rattle.command_line.specs.declared.command.Listing.{Listing}
+use Rattle.command_line.specs.declared.command.Listing.TheVariants as listing
+use Rattle.grin_stages.specs.Stage.{IsStage, Fits, HasExpandedSize}
+use Rattle.grin_driver.specs.declared.status.Status.{Status}
+use Rattle.grin_driver.specs.declared.status.Status.TheVariants.{Done, Refused, OutOfMemory, WriteFault}
+use Rattle.grin_driver.specs.Text.{IsRefusedBy, IsAccepted}
+use Rattle.grin_driver.specs.Putting.{TookPieces, Broke}
+
+-- ---- a stage
+
+-- The text breaks no rule, and these bytes are the listing of its program's stage. Rule 36 is one of the rules behind the translation.
+pub record IsListing (text : List ℕ) (after : PassName) (bytes : List ℕ) : Type 0 where
+  pub source : tree.Program
+  pub program : Program
+  pub accepted : IsAccepted text source program
+  pub stage : grin.Program
+  pub made : IsStage program after stage
+  pub fits : after ≢ Translate → Fits program
+  pub is_listing : bytes ≡ grin_listing.listing stage
+
+-- rule 36 is broken: the text breaks no rule before, and its program is too large once it is inlined
+pub record IsLargeText (text : List ℕ) (size : ℕ) : Type 0 where
+  pub source : tree.Program
+  pub program : Program
+  pub accepted : IsAccepted text source program
+  pub expanded : HasExpandedSize program size
+  pub large : 131072 < size
+
+-- which rule refuses a listing: the first one that the text breaks, else rule 36 where the stage is behind the translation
+abbrev pub IsNotListed : (text : List ℕ) → (after : PassName) → (rule number : ℕ) → Type 0
+IsNotListed text after rule number = IsRefusedBy text rule number ⊎ ((rule ≡ 36) × (after ≢ Translate) × IsLargeText text number)
+
+-- why a text has no listing
+abbrev pub IsUnlisted : (text : List ℕ) → (after : PassName) → Status → Type 0
+IsUnlisted text after (Refused rule number) = IsNotListed text after rule number
+IsUnlisted text after OutOfMemory = Unit {0}
+IsUnlisted text after _ = ⊥
+
+-- The status of a text that is listed, and what the sink took: the listing in pieces, and nothing at a refusal or for want of memory.
+abbrev pub Lists : {K : Type 0} → (gives : K → List ℕ → Bool → K → Type 0) → (taken : K → Option (List ℕ)) → (faults : K → ℕ) → (old new : K) → (text : List ℕ) → (after : PassName) → Status → Type 0
+Lists gives taken faults old new text after Done = (bytes : List ℕ) × IsListing text after bytes × TookPieces gives taken old new bytes
+Lists gives taken faults old new text after WriteFault = (bytes : List ℕ) × IsListing text after bytes × Broke gives taken faults old new bytes
+Lists gives taken faults old new text after (Refused rule number) = IsNotListed text after rule number × (new ≡ old)
+Lists gives taken faults old new text after OutOfMemory = new ≡ old
+Lists gives taken faults old new text after _ = ⊥
+
+-- ---- the canonical text
+
+-- the text breaks none of the rules of reading, and these bytes are the canonical text of its program
+pub record IsCanonicalText (text bytes : List ℕ) : Type 0 where
+  pub source : tree.Program
+  pub unbroken : IsUnbroken text
+  pub stands : IsText text source
+  pub is_canonical : bytes ≡ canonical source
+
+-- The status of a text whose canonical text is put, and what the sink took: that text in pieces, and nothing at a refusal or for want of memory.
+abbrev pub Prints : {K : Type 0} → (gives : K → List ℕ → Bool → K → Type 0) → (taken : K → Option (List ℕ)) → (faults : K → ℕ) → (old new : K) → (text : List ℕ) → Status → Type 0
+Prints gives taken faults old new text Done = (bytes : List ℕ) × IsCanonicalText text bytes × TookPieces gives taken old new bytes
+Prints gives taken faults old new text WriteFault = (bytes : List ℕ) × IsCanonicalText text bytes × Broke gives taken faults old new bytes
+Prints gives taken faults old new text (Refused rule number) = IsFirstUnread text rule number × (new ≡ old)
+Prints gives taken faults old new text OutOfMemory = new ≡ old
+Prints gives taken faults old new text _ = ⊥
+
+-- what a listing is made after, and its status
+abbrev pub ListsAfter : {K : Type 0} → (gives : K → List ℕ → Bool → K → Type 0) → (taken : K → Option (List ℕ)) → (faults : K → ℕ) → (old new : K) → (text : List ℕ) → Listing → Status → Type 0
+ListsAfter gives taken faults old new text listing.Read status = Prints gives taken faults old new text status
+ListsAfter gives taken faults old new text listing.Translate status = Lists gives taken faults old new text Translate status
+ListsAfter gives taken faults old new text listing.Eval status = Lists gives taken faults old new text Eval status
+ListsAfter gives taken faults old new text listing.Apply status = Lists gives taken faults old new text Apply status

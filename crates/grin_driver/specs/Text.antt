@@ -1,0 +1,46 @@
+-- Texts that are accepted, and the first rule that each other text breaks.
+use Rattle.std.specs.Prelude.{◌≡◌, ℕ, List}
+use Rattle.core_reader.specs.Tree as tree
+use Rattle.core_reader.specs.Text.{IsText, IsFirstUnread, IsUnbroken}
+use Rattle.core_reader.specs.Readable.{IsReadable}
+use Rattle.core_reader.specs.Size.{program_size}
+use Rattle.arity_check.specs.Accepted as check
+use Rattle.arity_check.specs.Accepted.{IsFirstBroken}
+use Rattle.arity_check.specs.Normal.{IsNormalForm}
+use Rattle.arity_check.specs.Program.{Program, program as program_of}
+use Rattle.first_path.specs.Simple.{not_yet_at}
+use Rattle.grin_driver.specs.declared.accept.Accepted.{Accepted}
+use Rattle.grin_driver.specs.declared.status.Status.{Status}
+use Rattle.grin_driver.specs.declared.status.Status.TheVariants.{Refused, OutOfMemory}
+
+-- Which rule a text breaks first, and where: one of the text, else one of its program.
+pub data IsRefusedBy (text : List ℕ) : (rule number : ℕ) → Type 0 where
+  Unread : (rule at : ℕ) → IsFirstUnread text rule at → IsRefusedBy text rule at
+  Unaccepted : (rule at : ℕ) (p : tree.Program) → IsUnbroken text → IsText text p → IsFirstBroken p rule at → IsRefusedBy text rule at
+
+-- The text breaks no rule, and stands for a program that has this normal form.
+pub record IsAccepted (text : List ℕ) (source : tree.Program) (program : Program) : Type 0 where
+  pub read : IsUnbroken text
+  pub stands : IsText text source
+  pub readable : IsReadable source
+  pub unbroken : check.IsUnbroken source
+  pub normal : IsNormalForm source program
+
+-- why a text is not read
+abbrev pub IsNotRead : (text : List ℕ) → Status → Type 0
+IsNotRead text (Refused rule number) = IsFirstUnread text rule number
+IsNotRead text OutOfMemory = Unit {0}
+IsNotRead text _ = ⊥
+
+-- why a text has no program
+abbrev pub IsUnaccepted : (text : List ℕ) → Status → Type 0
+IsUnaccepted text (Refused rule number) = IsRefusedBy text rule number
+IsUnaccepted text OutOfMemory = Unit {0}
+IsUnaccepted text _ = ⊥
+
+-- what is kept of an accepted text: the normal form, the size, and the place of the first function that is not built yet
+pub record IsAcceptedAs (text : List ℕ) (kept : Accepted) : Type 0 where
+  pub source : tree.Program
+  pub accepted : IsAccepted text source (program_of kept.program)
+  pub size : kept.size ≡ program_size source
+  pub unbuilt : kept.unbuilt ≡ not_yet_at source

@@ -1,0 +1,105 @@
+//! Listings of a program: its canonical text, and its stages in GRIN.
+
+ghost use Rattle.std.specs.Prelude.{◌≤◌, ℕ, List, IfOk, IfErr};
+ghost use Rattle.core_reader.specs.Tree as tree;
+ghost use Rattle.arity_check.specs.Program.{Program};
+ghost use Rattle.grin_opt.specs.declared.pass.PassName.{PassName as PassName'};
+ghost use Rattle.grin_stages.specs.Stage.{IsTooLarge};
+ghost use Rattle.grin_driver.specs.Listing.{IsListing, IsUnlisted, Lists, ListsAfter, IsCanonicalText, Prints};
+ghost use Rattle.grin_driver.specs.Text.{IsNotRead, IsAccepted};
+
+use crate::accept::{accept, unread};
+use crate::pieces::put_pieces;
+use crate::status::Status;
+use command_line::Listing;
+use core_reader::{print, read};
+use grin_io::Sink;
+use grin_opt::PassName;
+use grin_stages::{CompileRefusal, stage};
+use grin_syntax::list;
+use std::alloc::Global;
+
+/// The listing of a text's program after a pass, or why there is none.
+fn listed(alloc: Global, text: &[u8], after: PassName) -> Result<Vec<u8>, Status>
+    ensures listed { IfOk result (λ bytes. IsListing text.now after bytes.items) }
+    ensures unlisted { IfErr result (IsUnlisted text.now after) }
+{
+    let accepted = accept(alloc, text)?;
+    let program = match stage(alloc, &accepted.program, after) {
+        Ok(program) => program,
+        Err(refusal) => return Err(unstaged(&refusal)),
+    };
+    match list(alloc, &program) {
+        Ok(bytes) => Ok(bytes),
+        Err(_) => Err(Status::OutOfMemory),
+    }
+}
+
+/// The status for a program that has no later stages.
+fn unstaged(refusal: &CompileRefusal) -> Status
+    ensures { (text : List ℕ) (source : tree.Program) (p : Program) (after : PassName') → IsAccepted text source p → IsTooLarge p after refusal.now → IsUnlisted text after result }
+{
+    match refusal {
+        CompileRefusal::ExpandedTooLarge(size) => Status::Refused {
+            rule: 36,
+            number: *size,
+        },
+        CompileRefusal::Memory(_) => Status::OutOfMemory,
+    }
+}
+
+/// Lists a text's program after a pass, in pieces of 4,096 bytes. All memory is had before the first put.
+pub fn list_text<K: Sink>(alloc: Global, text: &[u8], after: PassName, out: &mut K) -> Status
+    ensures lists { Lists K.put_gives K.taken K.faults out.old out.new text.now after result }
+    ensures later { K.faults out.old ≤ K.faults out.new }
+{
+    match listed(alloc, text, after) {
+        Ok(bytes) => match put_pieces(bytes.as_slice(), out) {
+            Ok(()) => Status::Done,
+            Err(_) => Status::WriteFault,
+        },
+        Err(status) => status,
+    }
+}
+
+/// The canonical text of a text's program, or why there is none.
+fn canonical(alloc: Global, text: &[u8]) -> Result<Vec<u8>, Status>
+    ensures canonical { IfOk result (λ bytes. IsCanonicalText text.now bytes.items) }
+    ensures unprinted { IfErr result (IsNotRead text.now) }
+{
+    let core = match read(alloc, text) {
+        Ok(core) => core,
+        Err(refusal) => return Err(unread(&refusal)),
+    };
+    match print(alloc, &core) {
+        Ok(bytes) => Ok(bytes),
+        Err(_) => Err(Status::OutOfMemory),
+    }
+}
+
+/// Puts the canonical text of a text's program, in pieces of 4,096 bytes. The text need only be read, not checked.
+fn print_text<K: Sink>(alloc: Global, text: &[u8], out: &mut K) -> Status
+    ensures prints { Prints K.put_gives K.taken K.faults out.old out.new text.now result }
+    ensures later { K.faults out.old ≤ K.faults out.new }
+{
+    match canonical(alloc, text) {
+        Ok(bytes) => match put_pieces(bytes.as_slice(), out) {
+            Ok(()) => Status::Done,
+            Err(_) => Status::WriteFault,
+        },
+        Err(status) => status,
+    }
+}
+
+/// Lists a text's program after what the command line says.
+pub(crate) fn list_after<K: Sink>(alloc: Global, text: &[u8], after: Listing, out: &mut K) -> Status
+    ensures lists { ListsAfter K.put_gives K.taken K.faults out.old out.new text.now after result }
+    ensures later { K.faults out.old ≤ K.faults out.new }
+{
+    match after {
+        Listing::Read => print_text(alloc, text, out),
+        Listing::Translate => list_text(alloc, text, PassName::Translate, out),
+        Listing::Eval => list_text(alloc, text, PassName::Eval, out),
+        Listing::Apply => list_text(alloc, text, PassName::Apply, out),
+    }
+}

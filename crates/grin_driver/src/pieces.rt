@@ -1,0 +1,21 @@
+//! Long outputs, put in pieces.
+
+ghost use Rattle.std.specs.Prelude.{◌≤◌, OnOk, OnErr};
+ghost use Rattle.grin_driver.specs.Putting.{TookPieces, Broke};
+
+use grin_io::{Failed, Sink};
+
+/// The most bytes of one put.
+const PIECE: usize = 4096;
+
+/// Puts bytes in pieces of 4,096, of which the last one may be shorter, up to the first put that fails.
+pub(crate) fn put_pieces<K: Sink>(bytes: &[u8], out: &mut K) -> Result<(), Failed>
+    ensures took { OnOk result (TookPieces K.put_gives K.taken out.old out.new bytes.now) }
+    ensures broke { OnErr result (Broke K.put_gives K.taken K.faults out.old out.new bytes.now) }
+    ensures later { K.faults out.old ≤ K.faults out.new }
+{
+    'pieces: for piece in bytes.chunks(PIECE) {
+        out.put(piece)?;
+    }
+    Ok(())
+}

@@ -1,0 +1,8 @@
+// The stages of a program, and the schedule of the passes between them.
+#![tactic(auto)]
+
+mod pass;
+mod schedule;
+
+pub use pass::PassName;
+pub use schedule::optimise;

@@ -1,0 +1,64 @@
+-- The stages of a program in GRIN.
+use Rattle.std.specs.Prelude.{◌≡◌, ◌≢◌, ◌<◌, ◌≤◌, ℕ}
+use Rattle.core_reader.specs.Tree as tree
+use Rattle.core_reader.specs.Readable.{IsReadable}
+use Rattle.arity_check.specs.Accepted.{IsUnbroken}
+use Rattle.arity_check.specs.Normal.{IsNormalForm}
+use Rattle.arity_check.specs.Program.{Program}
+use Rattle.grin_syntax.specs.Tree as grin
+use Rattle.flow_system.specs.Tables.{tables}
+use Rattle.flow_system.specs.System.{system}
+use Rattle.flow_system.specs.Solution.{Solution, IsLeast}
+use Rattle.flow_system.specs.Inlining.{eval_inlined, inlined, inlined_size}
+use Rattle.grin_translate.specs.Translation.{tr}
+use Rattle.grin_opt.specs.declared.pass.PassName.{PassName}
+use Rattle.grin_opt.specs.declared.pass.PassName.TheVariants.{Translate, Eval, Apply}
+use Rattle.grin_stages.specs.declared.refusal.CompileRefusal.{CompileRefusal}
+use Rattle.grin_stages.specs.declared.refusal.CompileRefusal.TheVariants.{ExpandedTooLarge, Memory}
+
+-- the normal form of a program that was read and breaks no rule
+pub record IsChecked (p : Program) : Type 0 where
+  pub source : tree.Program
+  pub readable : IsReadable source
+  pub unbroken : IsUnbroken source
+  pub normal : IsNormalForm source p
+
+-- the least solution of the translation's flow system
+abbrev pub Analyses : Program → Solution → Type 0
+Analyses p A = IsLeast (tables (tr p)) (system (tr p)) A
+
+-- The translation; then its evaluations are inlined by the least solution, and then its applications too.
+pub data IsStage (p : Program) : PassName → grin.Program → Type 0 where
+  translated : IsStage p Translate (tr p)
+  evaluations_inlined : {A : Solution} → Analyses p A → IsStage p Eval (eval_inlined A (tr p))
+  both_inlined : {A : Solution} → Analyses p A → IsStage p Apply (inlined A (tr p))
+
+-- the size of the program once both are inlined
+pub record HasExpandedSize (p : Program) (size : ℕ) : Type 0 where
+  pub solution : Solution
+  pub least : Analyses p solution
+  pub is_size : size ≡ inlined_size solution (tr p)
+
+-- rule 36 is not broken
+pub record Fits (p : Program) : Type 0 where
+  pub size : ℕ
+  pub expanded : HasExpandedSize p size
+  pub small : size ≤ 131072
+
+-- rule 36 is broken, at this size
+abbrev pub IsLarge : Program → CompileRefusal → Type 0
+IsLarge p (ExpandedTooLarge size) = HasExpandedSize p size × (131072 < size)
+IsLarge p (Memory e) = Unit {0}
+
+-- the stage is behind the translation, and rule 36 is broken
+abbrev pub IsTooLarge : Program → PassName → CompileRefusal → Type 0
+IsTooLarge p upto (ExpandedTooLarge size) = (upto ≢ Translate) × HasExpandedSize p size × (131072 < size)
+IsTooLarge p upto (Memory e) = Unit {0}
+
+-- a program has one expanded size, so it can't both fit and be too large
+abbrev pub OneExpandedSize : Type 0
+OneExpandedSize = (p : Program) (size size' : ℕ) → HasExpandedSize p size → HasExpandedSize p size' → size ≡ size'
+
+-- each stage is one program
+abbrev pub OneStage : Type 0
+OneStage = (p : Program) (upto : PassName) (g h : grin.Program) → IsStage p upto g → IsStage p upto h → g ≡ h

@@ -1,0 +1,101 @@
+// The stages of a program, from its translation on.
+
+ghost use Rattle.std.specs.Prelude.{◌≢◌, IfOk, IfErr};
+ghost use Rattle.arity_check.specs.Program.{program};
+ghost use Rattle.grin_syntax.specs.Tree.{program_of};
+ghost use Rattle.grin_syntax.specs.Formed.{Formed};
+ghost use Rattle.grin_meaning.specs.Keeps.{Keeps};
+ghost use Rattle.grin_translate.specs.Translation.{tr};
+ghost use Rattle.grin_opt.specs.declared.pass.PassName.TheVariants.{Translate, Eval, Apply};
+ghost use Rattle.grin_stages.specs.Stage.{IsChecked, IsStage, Fits, IsTooLarge, IsLarge};
+ghost use Rattle.grin_stages.specs.Analysed.{IsAnalysisOf, IsMade};
+
+use crate::refusal::CompileRefusal;
+use apply_inline::expanded_size;
+use arity_check::normal::Checked;
+use flow_system::system::system;
+use grin_opt::{PassName, optimise};
+use grin_syntax::Grin;
+use grin_translate::translate;
+use points_to::{Flow, solve};
+use std::alloc::Global;
+use translated_form::valid_translations_are_formed;
+
+/// The largest size that a program may have once its evaluations and applications are inlined.
+const LARGEST_SIZE: u64 = 131_072;
+
+/// A translation that is not too large once it is inlined, and the least solution of its flow system.
+#[derive(Drop)]
+pub(crate) struct Analysis {
+    pub(crate) translation: Grin,
+    pub(crate) flow: Flow,
+}
+
+/// Translates and analyses a program. `ExpandedTooLarge` where it is over 131,072 in size once it is inlined.
+fn analyse(alloc: Global, p: &Checked) -> Result<Analysis, CompileRefusal>
+    requires { IsChecked (program p.now) }
+    ensures analysed { IfOk result (IsAnalysisOf (program p.now)) }
+    ensures refused { IfErr result (IsLarge (program p.now)) }
+{
+    // A law: what the analysis and the inlinings take as given holds of the translation.
+    valid_translations_are_formed();
+    let translation = translate(alloc, p)?;
+    let flow = solve(alloc, &system(alloc, &translation)?)?;
+    let size = expanded_size(&translation, &flow);
+    if size > LARGEST_SIZE {
+        return Err(CompileRefusal::ExpandedTooLarge(size));
+    }
+    Ok(Analysis { translation, flow })
+}
+
+/// The translation.
+fn translated(alloc: Global, p: &Checked) -> Result<Grin, CompileRefusal>
+    requires { IsChecked (program p.now) }
+    ensures made { IfOk result (λ g. IsMade (program p.now) Translate (program_of g)) }
+    ensures refused { IfErr result (IsTooLarge (program p.now) Translate) }
+{
+    valid_translations_are_formed();
+    let translation = translate(alloc, p)?;
+    Ok(translation)
+}
+
+/// The translation with its evaluations inlined.
+fn evaluated(alloc: Global, p: &Checked) -> Result<Grin, CompileRefusal>
+    requires { IsChecked (program p.now) }
+    ensures made { IfOk result (λ g. IsMade (program p.now) Eval (program_of g)) }
+    ensures refused { IfErr result (IsLarge (program p.now)) }
+{
+    let analysis = analyse(alloc, p)?;
+    let evaluated = eval_inline::inline(alloc, analysis.translation, &analysis.flow)?;
+    Ok(evaluated)
+}
+
+/// The translation with its evaluations and applications inlined.
+fn applied(alloc: Global, p: &Checked) -> Result<Grin, CompileRefusal>
+    requires { IsChecked (program p.now) }
+    ensures made { IfOk result (λ g. IsMade (program p.now) Apply (program_of g)) }
+    ensures refused { IfErr result (IsLarge (program p.now)) }
+{
+    let analysis = analyse(alloc, p)?;
+    let evaluated = eval_inline::inline(alloc, analysis.translation, &analysis.flow)?;
+    let applied = apply_inline::inline(alloc, evaluated, &analysis.flow)?;
+    let optimised = optimise(alloc, applied, PassName::Apply)?;
+    Ok(optimised)
+}
+
+/// The program of a stage. `ExpandedTooLarge` exactly where `upto` is behind `Translate` and the program is over 131,072 in
+/// size once it is inlined.
+pub fn stage(alloc: Global, p: &Checked, upto: PassName) -> Result<Grin, CompileRefusal>
+    requires { IsChecked (program p.now) }
+    ensures made { IfOk result (λ g. IsStage (program p.now) upto (program_of g)) }
+    ensures formed { IfOk result (λ g. Formed (program_of g)) }
+    ensures meaning { IfOk result (λ g. Keeps (tr (program p.now)) (program_of g)) }
+    ensures fits { IfOk result (λ g. upto ≢ Translate → Fits (program p.now)) }
+    ensures refused { IfErr result (IsTooLarge (program p.now) upto) }
+{
+    match upto {
+        PassName::Translate => translated(alloc, p),
+        PassName::Eval => evaluated(alloc, p),
+        PassName::Apply => applied(alloc, p),
+    }
+}

@@ -1,0 +1,5 @@
+//! Stages of small programs that were worked by hand, and the sizes of large ones.
+#![tactic(auto)]
+
+#[cfg(test)]
+mod tests;
