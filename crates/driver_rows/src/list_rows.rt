@@ -80,7 +80,6 @@ fn refused_listings(rt: HostRuntime) -> Result<(), Fail> {
     let unread = format!(in rt.alloc(); "{LISTS}main = - 1;")?;
     let rows = [
         (&large, "eval", "grinc: refused 36 at 131322\n"),
-        (&large, "apply", "grinc: refused 36 at 131322\n"),
         (&unbound, "translate", "grinc: refused 14 at 32\n"),
         (&unbound, "eval", "grinc: refused 14 at 32\n"),
         (&unread, "read", "grinc: refused 1 at 32\n"),
