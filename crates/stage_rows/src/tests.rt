@@ -47,14 +47,14 @@ fn expanded(alloc: Global, text: &str) -> Result<u64, Fail> {
 /// A text in which k functions are delayed, and each of their results is given to one function.
 fn many_delayed(alloc: Global, k: u32) -> Result<String, AllocError> {
     let mut text = String::from_str(alloc, LISTS)?;
-    for i in 1..k + 1 {
+    for i in 0..k {
         write!(text, "f{i} x = x; ")?;
     }
     text.push_str("h y = let ")?;
-    for i in 1..k + 1 {
+    for i in 0..k {
         write!(text, "b{i} = f{i} y; ")?;
     }
-    for i in 1..k + 1 {
+    for i in 0..k {
         write!(text, "c{i} = h b{i}; ")?;
     }
     text.push_str("in Nil; main = h Nil;")?;
