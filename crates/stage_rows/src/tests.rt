@@ -14,8 +14,10 @@ use grin_stages::{CompileRefusal, stage};
 use grin_syntax::list;
 use grin_translate::translate;
 use points_to::solve;
+use seq::Seq;
 use std::alloc::{AllocError, Global};
 use std::fmt::Write;
+use std::mem;
 use std::test::Fail;
 
 /// `Nil` and `Cons`, 25 bytes.
@@ -42,6 +44,22 @@ fn expanded(alloc: Global, text: &str) -> Result<u64, Fail> {
     let g = translate(alloc, &p)?;
     let flow = solve(alloc, &system(alloc, &g)?)?;
     Ok(expanded_size(&g, &flow))
+}
+
+/// The size of the largest procedure of a text's program once it is inlined: each is measured alone, by the solution of all.
+fn largest(alloc: Global, text: &str) -> Result<u64, Fail> {
+    let p = checked(alloc, text)?;
+    let mut g = translate(alloc, &p)?;
+    let flow = solve(alloc, &system(alloc, &g)?)?;
+    let procs = mem::replace(&mut g.procs, Seq::new(alloc));
+    let mut largest = 0;
+    for proc in procs.into_vec() {
+        let mut alone = Seq::new(alloc);
+        alone.push(proc)?;
+        g.procs = alone;
+        largest = expanded_size(&g, &flow).max(largest);
+    }
+    Ok(largest)
 }
 
 /// A text in which k functions are delayed, and each of their results is given to one function.
@@ -175,6 +193,7 @@ fn programs_have_a_size_once_inlined(rt: HostRuntime) -> Result<(), Fail> {
     let alloc = rt.alloc();
     let text = format!(in alloc; "{LISTS}main = Nil;")?;
     assert_eq!(rt; expanded(alloc, text.as_str())?, 37);
+    assert_eq!(rt; largest(alloc, text.as_str())?, 36);
     for (k, size) in [(1, 65), (2, 106), (3, 165), (20, 3922), (119, 129157)] {
         let text = many_delayed(alloc, k)?;
         assert_eq!(rt; expanded(alloc, text.as_str())?, size);
