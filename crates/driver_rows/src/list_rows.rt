@@ -50,6 +50,75 @@ main =
       fail
 ";
 
+/// The program that takes a list twice, with its evaluations inlined.
+const TAKES: &str = "global main = (Fmain)
+
+take v0 =
+  v1 <- fetch v0
+  v2 <- case v1 of
+    (CNil) ->
+      unit v1
+    (CCons v3 v4) ->
+      unit v1
+    (Ftake v5) ->
+      v6 <- call take v5
+      update v0 v6
+      unit v6
+  case v2 of
+    (CNil) ->
+      unit (CNil)
+    (CCons v7 v8) ->
+      store
+        v9 = (Ftake v8)
+      unit (CCons v7 v9)
+    else ->
+      fail
+
+main =
+  store
+    v0 = (CInt 65)
+    v1 = (CNil)
+    v2 = (CCons v0 v1)
+    v3 = (Ftake v2)
+  call take v3
+
+@print v0 =
+  v1 <- fetch v0
+  v2 <- case v1 of
+    (CNil) ->
+      unit v1
+    (CCons v3 v4) ->
+      unit v1
+    (Ftake v5) ->
+      v6 <- call take v5
+      update v0 v6
+      unit v6
+    (Fmain) ->
+      v7 <- call main
+      update v0 v7
+      unit v7
+  case v2 of
+    (CNil) ->
+      unit (CNil)
+    (CCons v8 v9) ->
+      v10 <- fetch v8
+      v11 <- case v10 of
+        (CInt v12) ->
+          unit v10
+      case v11 of
+        (CInt v13) ->
+          write v13
+          call @print v9
+        else ->
+          fail
+    else ->
+      fail
+";
+
+/// A program that takes a list twice. It applies no unknown function.
+const TAKES_TEXT: &str =
+    "take xs = case xs of { Nil -> Nil; Cons h t -> Cons h (take t) }; main = take (take (Cons 65 Nil));";
+
 #[test]
 fn listings(rt: HostRuntime) -> Result<(), Fail> {
     let rows = [
@@ -64,6 +133,8 @@ fn listings(rt: HostRuntime) -> Result<(), Fail> {
             "data Nil 0;\ndata Cons 2;\nmain = foo;\n",
         ),
         ("main = Nil;", "translate", EMPTY),
+        (TAKES_TEXT, "eval", TAKES),
+        (TAKES_TEXT, "apply", TAKES),
     ];
     for (text, after, out) in rows {
         let text = format!(in rt.alloc(); "{LISTS}{text}")?;

@@ -79,111 +79,16 @@ fn many_delayed(alloc: Global, k: u32) -> Result<String, AllocError> {
     Ok(text)
 }
 
-/// What all programs print with: the list is evaluated, then its head, which is written, and then the tail is printed.
-const EMPTY: &str = "global main = (Fmain)
-
-main =
-  unit (CNil)
-
-@print v0 =
-  v1 <- eval v0
-  case v1 of
-    (CNil) ->
-      unit (CNil)
-    (CCons v2 v3) ->
-      v4 <- eval v2
-      case v4 of
-        (CInt v5) ->
-          write v5
-          call @print v3
-        else ->
-          fail
-    else ->
-      fail
-";
-
-/// The program that takes a list twice, with its evaluations inlined.
-const TAKES: &str = "global main = (Fmain)
-
-take v0 =
-  v1 <- fetch v0
-  v2 <- case v1 of
-    (CNil) ->
-      unit v1
-    (CCons v3 v4) ->
-      unit v1
-    (Ftake v5) ->
-      v6 <- call take v5
-      update v0 v6
-      unit v6
-  case v2 of
-    (CNil) ->
-      unit (CNil)
-    (CCons v7 v8) ->
-      store
-        v9 = (Ftake v8)
-      unit (CCons v7 v9)
-    else ->
-      fail
-
-main =
-  store
-    v0 = (CInt 65)
-    v1 = (CNil)
-    v2 = (CCons v0 v1)
-    v3 = (Ftake v2)
-  call take v3
-
-@print v0 =
-  v1 <- fetch v0
-  v2 <- case v1 of
-    (CNil) ->
-      unit v1
-    (CCons v3 v4) ->
-      unit v1
-    (Ftake v5) ->
-      v6 <- call take v5
-      update v0 v6
-      unit v6
-    (Fmain) ->
-      v7 <- call main
-      update v0 v7
-      unit v7
-  case v2 of
-    (CNil) ->
-      unit (CNil)
-    (CCons v8 v9) ->
-      v10 <- fetch v8
-      v11 <- case v10 of
-        (CInt v12) ->
-          unit v10
-      case v11 of
-        (CInt v13) ->
-          write v13
-          call @print v9
-        else ->
-          fail
-    else ->
-      fail
-";
-
 #[test]
-fn stages_are_listed(rt: HostRuntime) -> Result<(), Fail> {
+fn stages_come_again(rt: HostRuntime) -> Result<(), Fail> {
     let alloc = rt.alloc();
-    let text = format!(in alloc; "{LISTS}main = Nil;")?;
-    assert_eq!(rt;
-        listed(alloc, text.as_str(), PassName::Translate)?.as_slice(),
-        EMPTY.as_bytes()
-    );
     let text = format!(in alloc;
-        "{LISTS}take xs = case xs of {{ Nil -> Nil; Cons h t -> Cons h (take t) }}; main = take (take (Cons 65 Nil));"
+        "{LISTS}twice f x = f (f x); id x = x; main = Cons (twice id 65) Nil;"
     )?;
-    // There is no application, and the same stage comes again.
-    for after in [PassName::Eval, PassName::Apply, PassName::Eval] {
-        assert_eq!(rt;
-            listed(alloc, text.as_str(), after)?.as_slice(),
-            TAKES.as_bytes()
-        );
+    for after in [PassName::Translate, PassName::Eval, PassName::Apply] {
+        let once = listed(alloc, text.as_str(), after)?;
+        let again = listed(alloc, text.as_str(), after)?;
+        assert_eq!(rt; once.as_slice(), again.as_slice());
     }
     Ok(())
 }
