@@ -6,6 +6,7 @@ use Rattle.grin_syntax.specs.declared.program.Val.{Val}
 use Rattle.grin_syntax.specs.declared.program.Word.{Word}
 use Rattle.grin_syntax.specs.declared.program.Word.TheVariants.{Var}
 use Rattle.grin_syntax.specs.Tree.{apply, case, Arms, Procedure, Program}
+use Rattle.grin_syntax.specs.Fresh.{variables as names}
 use Rattle.grin_meaning.specs.Values.{Datum, Node, Value, node, Env, State, World, gives, no_alternative, stops, need, and_then, with_vars, made_node, as_node, word_of, words_of, value_of}
 use Rattle.grin_meaning.specs.Run.{Calls, act, code, arms, is_part_kind, is_some_and, part_from, apply_node, apply_part}
 use Rattle.grin_meaning.specs.Follows.{Depths, other, same, free, gives_too, stops_too}
@@ -15,7 +16,8 @@ use Rattle.grin_meaning.proofs.Alike.{Agree, word_same, value_same, Sim, same_ar
 use Rattle.grin_meaning.proofs.Related.{CallsFollow}
 use Rattle.flow_system.specs.Solution.{Solution}
 use Rattle.flow_system.specs.Covers.{Lies}
-use Rattle.flow_system.specs.Inlining.{variables as names, those, value_has, is_part_tag, apply_body, part_body, apply_arms, parts_of, others_of, else_fail}
+use Rattle.eval_inline.specs.Inlining.{those}
+use Rattle.apply_inline.specs.Inlining.{value_has, is_part_tag, apply_body, part_body, apply_arms, parts_of, others_of, else_fail}
 use Rattle.eval_inline.proofs.Known.{Among, those_have, nat_eq-true}
 use Rattle.eval_inline.proofs.Inlining.{it, named, names_stand, fields_fit_named, nat_eq-false, agree_named}
 use Rattle.apply_inline.proofs.Has.{Had, value_had, and_true}

@@ -2,6 +2,7 @@
 use Rattle.std.proofs.Common.{length, ◌∙◌, ◌≡◌, ◌≢◌, ℕ, ◌<◌, ◌≤◌, ◌+◌, max, List, [], ◌∷◌, refl, sym, subst, arith}
 use Rattle.grin_syntax.specs.declared.program.Target.{Target}
 use Rattle.grin_syntax.specs.Tree.{Code, end, store, bind, Act, unit, fetch, fetch_word, update, eval, apply, call, prim, read, write, case, nested, fail, Arms, no_arm, arm, Procedure, Program}
+use Rattle.grin_syntax.specs.Fresh.{past_target, past_act, past_code, past_arms, past_procs}
 use Rattle.grin_meaning.specs.Run.{Calls, run}
 use Rattle.grin_meaning.specs.Names.{ActOk, CodeOk, ArmsOk, ProcsOk}
 use Rattle.grin_meaning.specs.Follows.{Depths, Same, same, Follows, free, gives_too, stops_too}
@@ -11,7 +12,8 @@ use Rattle.grin_meaning.proofs.Related.{CallsFollow}
 use Rattle.grin_meaning.proofs.Simulated.{BodiesLike, bodies_keep, bodies_follow, no_deeper, as_deep}
 use Rattle.flow_system.specs.Solution.{Solution}
 use Rattle.flow_system.specs.Covers.{Lies}
-use Rattle.flow_system.specs.Inlining.{evaluation, eval_bound, eval_ended, eval_act, eval_code, eval_all, eval_procs, act_room, code_room, apply_act, apply_code, apply_all, apply_procs, apply_act_room, apply_code_room, past_target, past_act, past_code, past_arms, past_procs, eval_inlined, apply_inlined}
+use Rattle.eval_inline.specs.Inlining.{evaluation, eval_bound, eval_ended, eval_act, eval_code, eval_all, eval_procs, act_room, code_room, eval_inlined}
+use Rattle.apply_inline.specs.Inlining.{apply_act, apply_code, apply_all, apply_procs, apply_act_room, apply_code_room, apply_inlined}
 use Rattle.flow_system.proofs.Covered.{covers}
 use Rattle.eval_inline.proofs.Inlining.{it, end_sim, bind_sim, procs_sim}
 use Rattle.apply_inline.proofs.Applied.{apply_sim}

@@ -14,7 +14,7 @@ use Rattle.flow_system.specs.declared.fact.Element.TheVariants.{Tag as tag}
 use Rattle.flow_system.specs.declared.fact.Place.TheVariants.{Var as var}
 use Rattle.flow_system.specs.declared.fact.Part.TheVariants.{Tags as tags, Word as word}
 use Rattle.flow_system.specs.Solution.{Solution, among, At}
-use Rattle.flow_system.specs.Inlining.{word_has}
+use Rattle.apply_inline.specs.Inlining.{word_has}
 use Rattle.points_to.specs.Held.{In, here}
 use Rattle.points_to.proofs.Member.{none_in}
 use Rattle.apply_inline.specs.Applied.{Candidates}

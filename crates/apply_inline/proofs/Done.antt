@@ -6,10 +6,12 @@ use Rattle.grin_syntax.specs.declared.program.Word.{Word}
 use Rattle.grin_syntax.specs.declared.program.Word.TheVariants.{Var}
 use Rattle.grin_syntax.specs.Tree.{Code, end, store, bind, Act, unit, fetch, fetch_word, update, eval, apply, call, prim, read, write, case, nested, fail, Arms, no_arm, arm, Procedure, Program}
 use Rattle.grin_syntax.specs.Formed.{AllOf}
+use Rattle.grin_syntax.specs.Fresh.{variables, past_procs}
 use Rattle.grin_meaning.specs.Run.{part_from}
 use Rattle.grin_meaning.specs.Ready.{EachAct, EachCode, EachArms, Any, Inlined, IsInlined}
 use Rattle.flow_system.specs.Solution.{Solution}
-use Rattle.flow_system.specs.Inlining.{variables, fields_at, with_one_more, apply_body, part_body, apply_arm, apply_arms, parts_of, others_of, else_fail, apply_act, apply_code, apply_all, apply_procs, apply_act_room, apply_code_room, past_procs, apply_inlined}
+use Rattle.eval_inline.specs.Inlining.{fields_at}
+use Rattle.apply_inline.specs.Inlining.{with_one_more, apply_body, part_body, apply_arm, apply_arms, parts_of, others_of, else_fail, apply_act, apply_code, apply_all, apply_procs, apply_act_room, apply_code_room, apply_inlined}
 use Rattle.eval_inline.specs.Without.{NotEval, HasNoEval}
 
 module _ (p : Program) (A : Solution) where

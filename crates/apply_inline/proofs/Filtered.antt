@@ -9,7 +9,8 @@ use Rattle.grin_syntax.specs.declared.program.Val.{Val}
 use Rattle.grin_syntax.specs.Tree.{Program}
 use Rattle.grin_meaning.specs.Run.{is_part_kind, is_some_and}
 use Rattle.flow_system.specs.Solution.{Solution}
-use Rattle.flow_system.specs.Inlining.{those, value_has, is_part_tag, parts_of, others_of}
+use Rattle.eval_inline.specs.Inlining.{those}
+use Rattle.apply_inline.specs.Inlining.{value_has, is_part_tag, parts_of, others_of}
 use Rattle.points_to.specs.Held.{In, here, there}
 use Rattle.points_to.proofs.Member.{none_in}
 use Rattle.apply_inline.specs.Applied.{fits, meets_part, meets_other, Candidates}

@@ -18,7 +18,7 @@ use Rattle.flow_system.specs.declared.fact.Part.TheVariants.{Tags as tags, Word 
 use Rattle.flow_system.specs.Inclusions.{value}
 use Rattle.flow_system.specs.Solution.{Solution, among, Enough, AsNodes, node_tag, node_field, words_tag, words_field, StandsFor, literal, variable, global, tag_itself, WordAmong, first, later, ValueGives, of_variable, of_node, of_field, of_words, of_word, width}
 use Rattle.flow_system.specs.Covers.{NodeIn, Lies}
-use Rattle.flow_system.specs.Inlining.{word_has, value_has}
+use Rattle.apply_inline.specs.Inlining.{word_has, value_has}
 use Rattle.flow_system.proofs.Lying.{from_some, node_lies}
 
 or_true : (x y : Bool) → x ≡ true ⊎ y ≡ true → (x || y) ≡ true

@@ -20,10 +20,10 @@ use Rattle.grin_syntax.specs.declared.program.Word.{Word}
 use Rattle.grin_syntax.specs.declared.program.Val.{Val}
 use Rattle.grin_syntax.specs.Tree.{Code, end, bind, case, fail, Arms, no_arm, arm, act_of, before_of, arm_of, code_of, all_before, arms_of, Procedure, Program}
 use Rattle.grin_syntax.proofs.TreeOf.{code_of-parts, arm_of-parts, act_of-Case, before_of-Store, before_of-Bind}
+use Rattle.grin_syntax.proofs.Pieces.{all_before_push, map_push}
 use Rattle.flow_system.specs.Solution.{Solution}
-use Rattle.flow_system.specs.Inlining.{fields_at, apply_arm, apply_arms, parts_of, others_of, else_fail, parts_room, apply_act, apply_code, apply_all, apply_procs, apply_act_room, apply_code_room, apply_arms_room}
-use Rattle.flow_system.proofs.SoFar.{before_snoc}
-use Rattle.eval_inline.proofs.Pieces.{map_push}
+use Rattle.eval_inline.specs.Inlining.{fields_at}
+use Rattle.apply_inline.specs.Inlining.{apply_arm, apply_arms, parts_of, others_of, else_fail, parts_room, apply_act, apply_code, apply_all, apply_procs, apply_act_room, apply_code_room, apply_arms_room}
 use Rattle.apply_inline.specs.Applied.{has_some, arms_before}
 use Rattle.apply_inline.proofs.Binding.{procs_room}
 
@@ -47,8 +47,8 @@ module _ (p : Program) (A : Solution) where
   pub one_more : (x : ℕ) (made from : List Stmt) (y : ℕ) (m s : Stmt) (z : ℕ) → Applies x made from y → ((c : Code) → before_of m (apply_code p A z c) ≡ apply_code p A y (before_of s c))
       → ((c : Code) → z + apply_code_room p A c ≡ y + apply_code_room p A (before_of s c)) → Applies x (made ++ m ∷ []) (from ++ s ∷ []) z
   one_more x made from y m s z u h k = record {
-    by = λ c. before_snoc made m (apply_code p A z c) ∙ ap (all_before (map before_of made)) (h c) ∙ u.by (before_of s c) ∙ ap (apply_code p A x) (sym (before_snoc from s c));
-    room = λ c. k c ∙ u.room (before_of s c) ∙ ap (λ b. x + apply_code_room p A b) (sym (before_snoc from s c));
+    by = λ c. all_before_push made m (apply_code p A z c) ∙ ap (all_before (map before_of made)) (h c) ∙ u.by (before_of s c) ∙ ap (apply_code p A x) (sym (all_before_push from s c));
+    room = λ c. k c ∙ u.room (before_of s c) ∙ ap (λ b. x + apply_code_room p A b) (sym (all_before_push from s c));
   }
 
   pub block_done : (x : ℕ) (made block : Block) (y : ℕ) → Applies x made.stmts block.stmts y → act_of made.last.value ≡ apply_act p A y (act_of block.last.value) → code_of made ≡ apply_code p A x (code_of block)

@@ -8,10 +8,12 @@ use Rattle.grin_syntax.specs.declared.program.Word.TheVariants.{Var}
 use Rattle.grin_syntax.specs.declared.program.Val.TheVariants.{NodeVar}
 use Rattle.grin_syntax.specs.declared.program.Target.{Target}
 use Rattle.grin_syntax.specs.Tree.{Code, end, store, bind, Act, unit, fetch, fetch_word, update, eval, apply, call, prim, read, write, case, nested, fail, Arms, no_arm, arm, Procedure, Program}
+use Rattle.grin_syntax.specs.Fresh.{variable, variables, past_procs}
 use Rattle.grin_meaning.specs.Run.{is_fun_kind, is_part_kind, is_some_and, part_from}
 use Rattle.flow_system.specs.Solution.{Solution}
-use Rattle.flow_system.specs.Size.{target_size, act_size, code_size, arms_size, procedure_size, total}
-use Rattle.flow_system.specs.Inlining.{variable, variables, fields_at, call_body, eval_arm, eval_arms, evaluation, eval_bound, eval_ended, eval_act, eval_code, eval_all, eval_procs, act_room, code_room, tags_of, is_part_tag, value_has, with_one_more, apply_body, part_body, apply_arm, apply_arms, parts_of, others_of, else_fail, apply_act, apply_code, apply_all, apply_procs, apply_act_room, apply_code_room, past_procs, eval_inlined, inlined_size}
+use Rattle.apply_inline.specs.Size.{target_size, act_size, code_size, arms_size, procedure_size, total}
+use Rattle.eval_inline.specs.Inlining.{fields_at, call_body, eval_arm, eval_arms, evaluation, eval_bound, eval_ended, eval_act, eval_code, eval_all, eval_procs, act_room, code_room, tags_of, eval_inlined}
+use Rattle.apply_inline.specs.Inlining.{is_part_tag, value_has, with_one_more, apply_body, part_body, apply_arm, apply_arms, parts_of, others_of, else_fail, apply_act, apply_code, apply_all, apply_procs, apply_act_room, apply_code_room, inlined_size}
 use Rattle.eval_inline.specs.Without.{NotEval}
 use Rattle.apply_inline.specs.Expanded.{called_size, eval_tag_size, eval_tags_size, given_size, part_body_size, part_tag_size, parts_size, else_size, expanded_act, expanded_code, expanded_arms, expanded_procedure}
 use Rattle.apply_inline.specs.Parts.{there_is, HaveNext}

@@ -7,7 +7,7 @@ use Rattle.grin_syntax.specs.declared.program.TagKind.TheVariants as kind
 use Rattle.grin_syntax.specs.Tree.{Program}
 use Rattle.grin_syntax.specs.Formed.{Formed, KindFormed, TagFormed, HasNext}
 use Rattle.grin_syntax.specs.Tags.{is_part, is_part_kind, part_from}
-use Rattle.eval_inline.proofs.Scope.{all_get}
+use Rattle.grin_syntax.proofs.Scopes.{all_get}
 use Rattle.apply_inline.specs.Parts.{there_is, HaveNext}
 
 some_part : (i : ℕ) (ts : List Tag) (f r : ℕ) (u : Tag) (us : List Tag) → filter (is_part f r) ts ≡ u ∷ us → there_is (part_from i ts f r) ≡ true

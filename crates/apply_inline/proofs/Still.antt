@@ -8,9 +8,12 @@ use Rattle.grin_syntax.specs.declared.program.Target.{Target}
 use Rattle.grin_syntax.specs.declared.program.Target.TheVariants.{Node as NodeTarget}
 use Rattle.grin_syntax.specs.declared.program.Shape.TheVariants.{Node as NodeShape}
 use Rattle.grin_syntax.specs.Tree.{Code, end, bind, unit, fetch, eval, case, arm, Program}
+use Rattle.grin_syntax.specs.Fresh.{variable as var, variables}
+use Rattle.grin_syntax.specs.Tags.{tag_id}
 use Rattle.grin_meaning.specs.Run.{is_fun_kind}
 use Rattle.flow_system.specs.Solution.{Solution}
-use Rattle.flow_system.specs.Inlining.{variable as var, variables, tag_id, fields_at, call_body, eval_body, eval_arm, eval_arms, evaluation, eval_bound, eval_ended, tags_of, apply_act, apply_code, apply_all, apply_act_room, apply_code_room, eval_inlined}
+use Rattle.eval_inline.specs.Inlining.{fields_at, call_body, eval_body, eval_arm, eval_arms, evaluation, eval_bound, eval_ended, tags_of, eval_inlined}
+use Rattle.apply_inline.specs.Inlining.{apply_act, apply_code, apply_all, apply_act_room, apply_code_room}
 
 module _ (p : Program) (A : Solution) where
   abbrev e : Program

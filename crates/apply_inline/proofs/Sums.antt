@@ -1,5 +1,6 @@
 -- What the loops that add sizes have added so far.
 use Rattle.std.proofs.Common.{◌≡◌, ℕ, zero, suc, ◌+◌, ◌-◌, ◌^◌, ◌<◌, ◌≤◌, Bool, true, false, cond, List, [], ◌∷◌, ◌++◌, map, take, length, get_or, Some, slice_get, sym, ap, ◌∙◌, subst, arith}
+use Rattle.std.proofs.lemmas.List.{take_all}
 use Rattle.grin_syntax.specs.declared.program.Stmt.{Stmt}
 use Rattle.grin_syntax.specs.declared.program.Stmt.TheVariants.{Store, Bind}
 use Rattle.grin_syntax.specs.declared.program.Alt.{Alt}
@@ -13,15 +14,14 @@ use Rattle.grin_syntax.specs.declared.program.Word.{Word}
 use Rattle.grin_syntax.specs.declared.program.Val.{Val}
 use Rattle.grin_syntax.specs.Tree.{Code, end, Arms, no_arm, arm, act_of, before_of, arm_of, code_of, all_before, arms_of, Procedure, Program}
 use Rattle.grin_syntax.proofs.TreeOf.{act_of-Apply, code_of-parts, arm_of-parts, before_of-Store, before_of-Bind}
+use Rattle.grin_syntax.proofs.Pieces.{take_next, all_before_push, map_push}
 use Rattle.flow_system.specs.Solution.{Solution, among}
-use Rattle.flow_system.specs.Size.{val_size, target_size, shape_size, cells_size, total}
+use Rattle.apply_inline.specs.Size.{val_size, target_size, shape_size, cells_size, total}
 use Rattle.flow_system.specs.declared.fact.Element.TheVariants.{Tag as tag}
 use Rattle.flow_system.specs.declared.fact.Place.TheVariants.{Site as site}
 use Rattle.flow_system.specs.declared.fact.Part.TheVariants.{Tags as tags}
-use Rattle.flow_system.specs.Inlining.{those, some_of, sites_of}
-use Rattle.flow_system.proofs.SoFar.{take_next, take_all, before_snoc}
+use Rattle.eval_inline.specs.Inlining.{those, some_of, sites_of}
 use Rattle.eval_inline.specs.Met.{tags_from}
-use Rattle.eval_inline.proofs.Pieces.{map_push}
 use Rattle.apply_inline.specs.Applied.{arms_before}
 use Rattle.apply_inline.specs.Expanded.{capped, eval_tag_size, eval_tags_size, evaluation_size, part_tag_size, parts_size, application_size, expanded_act, expanded_code, expanded_arms}
 use Rattle.apply_inline.proofs.Loops.{arms_before-push, arms_of_before}
@@ -34,7 +34,7 @@ pub cells_next : (cs : List Cell) (i : ℕ) (c : Cell) → i < length cs → c �
 cells_next cs i c lt is = ap cells_size (take_next cs i c lt is) ∙ cells_push (take i cs) c
 
 pub cells_done : (cs : List Cell) (i : ℕ) → length cs ≤ i → cells_size (take i cs) ≡ cells_size cs
-cells_done cs i le = ap cells_size (take_all cs i le)
+cells_done cs i le = ap cells_size (take_all i cs le)
 
 total_push : {X : Type 0} (g : X → Procedure) (f : Procedure → ℕ) (xs : List X) (x : X) → total f (map g (xs ++ x ∷ [])) ≡ total f (map g xs) + f (g x)
 total_push g f [] x = omega arith
@@ -44,7 +44,7 @@ pub total_next : {X : Type 0} (g : X → Procedure) (f : Procedure → ℕ) (xs 
 total_next g f xs i x lt is = ap (λ l. total f (map g l)) (take_next xs i x lt is) ∙ total_push g f (take i xs) x
 
 pub total_done : {X : Type 0} (g : X → Procedure) (f : Procedure → ℕ) (xs : List X) (i : ℕ) → length xs ≤ i → total f (map g (take i xs)) ≡ total f (map g xs)
-total_done g f xs i le = ap (λ l. total f (map g l)) (take_all xs i le)
+total_done g f xs i le = ap (λ l. total f (map g l)) (take_all i xs le)
 
 -- sums of capped numbers
 chain : (x n y k c m : ℕ) → capped x ≡ capped (n + y) → capped y ≡ capped (k + c) → m ≡ capped (n + k) → capped x ≡ capped (m + c)
@@ -62,7 +62,7 @@ module _ (p : Program) (A : Solution) where
       → m ≡ capped (n + k) → StmtsSize (take (i + 1) ss) m
   stmt_more ss i s n k m lt is u h e = record {
     by = λ c.
-        ap (λ l. capped (expanded_code p A (all_before (map before_of l) c))) (take_next ss i s lt is) ∙ ap (λ b. capped (expanded_code p A b)) (before_snoc (take i ss) s c)
+        ap (λ l. capped (expanded_code p A (all_before (map before_of l) c))) (take_next ss i s lt is) ∙ ap (λ b. capped (expanded_code p A b)) (all_before_push (take i ss) s c)
         ∙ chain (expanded_code p A (all_before (map before_of (take i ss)) (before_of s c))) n (expanded_code p A (before_of s c)) k (expanded_code p A c) m (u.by (before_of s c)) (h c) e;
   }
 
@@ -70,7 +70,7 @@ module _ (p : Program) (A : Solution) where
   unfolding expanded_act
   block_sized block i n k m le u h e =
       let all : capped (expanded_code p A (all_before (map before_of block.stmts) (end (act_of block.last.value)))) ≡ capped (n + expanded_act p A (act_of block.last.value))
-      = ap (λ l. capped (expanded_code p A (all_before (map before_of l) (end (act_of block.last.value))))) (sym (take_all block.stmts i le)) ∙ u.by (end (act_of block.last.value)) in
+      = ap (λ l. capped (expanded_code p A (all_before (map before_of l) (end (act_of block.last.value))))) (sym (take_all i block.stmts le)) ∙ u.by (end (act_of block.last.value)) in
       let f : m ≡ capped (expanded_code p A (all_before (map before_of block.stmts) (end (act_of block.last.value)))) = omega arith in
       f ∙ ap (λ b. capped (expanded_code p A b)) (sym (code_of-parts block))
 
@@ -113,7 +113,7 @@ module _ (p : Program) (A : Solution) where
   unfolding expanded_act
   alts_sized as' i n le u =
       let fits = u.fits in
-      let e : capped (expanded_arms p A (arms_before (map arm_of as') no_arm)) ≡ capped (n + 0) = ap (λ l. capped (expanded_arms p A (arms_before (map arm_of l) no_arm))) (sym (take_all as' i le)) ∙ u.by no_arm in
+      let e : capped (expanded_arms p A (arms_before (map arm_of as') no_arm)) ≡ capped (n + 0) = ap (λ l. capped (expanded_arms p A (arms_before (map arm_of l) no_arm))) (sym (take_all i as' le)) ∙ u.by no_arm in
       let f : n ≡ capped (expanded_arms p A (arms_before (map arm_of as') no_arm)) = omega arith in
       f ∙ ap (λ r. capped (expanded_arms p A r)) (sym (arms_of_before (map arm_of as')))
 

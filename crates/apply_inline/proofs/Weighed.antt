@@ -12,7 +12,7 @@ use Rattle.grin_syntax.specs.Tree.{Code, end, store, bind, Act, unit, fetch, fet
 use Rattle.grin_syntax.specs.Binders.{shape_vars}
 use Rattle.grin_syntax.specs.Formed.{AllOf}
 use Rattle.grin_meaning.specs.Slim.{val_weight, target_weight, cells_weight, act_weight, code_weight, arms_weight, procs_weight, act_calls, code_calls, arms_calls, procs_calls, node_words, end_words, inner_words, code_words, arms_words, procedure_words}
-use Rattle.flow_system.specs.Size.{shape_size, val_size, target_size, cells_size, act_size, code_size, arms_size, procedure_size, total, largest, largest_procedure}
+use Rattle.apply_inline.specs.Size.{shape_size, val_size, target_size, cells_size, act_size, code_size, arms_size, procedure_size, total, largest, largest_procedure}
 use Rattle.apply_inline.specs.Small.{SlimBesideItsSize}
 
 -- a value weighs at most 14 more than 48 times its size

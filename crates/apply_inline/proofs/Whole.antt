@@ -4,11 +4,13 @@ use Rattle.grin_syntax.specs.declared.program.Proc.{Proc}
 use Rattle.grin_syntax.specs.declared.program.Block.{Block}
 use Rattle.grin_syntax.specs.declared.program.Grin.{Grin}
 use Rattle.grin_syntax.specs.Tree.{Procedure, Program, code_of, procedure_of, program_of}
+use Rattle.grin_syntax.specs.Fresh.{past_procs}
+use Rattle.grin_syntax.proofs.Pieces.{map_push}
 use Rattle.grin_meaning.specs.Keeps.{Keeps}
 use Rattle.flow_system.specs.Solution.{Solution}
-use Rattle.flow_system.specs.Inlining.{apply_act, apply_act_room, apply_code, apply_code_room, apply_procs, past_procs, apply_inlined}
+use Rattle.apply_inline.specs.Inlining.{apply_act, apply_act_room, apply_code, apply_code_room, apply_procs, apply_inlined}
+use Rattle.flow_system.proofs.Starting.{formed_is_started}
 use Rattle.eval_inline.proofs.Bounds.{uses_bound}
-use Rattle.eval_inline.proofs.Pieces.{map_push}
 use Rattle.apply_inline.specs.Before.{IsEvalInlined}
 use Rattle.apply_inline.proofs.Binding.{procs_room}
 use Rattle.apply_inline.proofs.Both.{apply_inlining_law}
@@ -46,4 +48,4 @@ whole g A made without x procs read e first moved same =
     ap (λ l. record p { procs = l }) (e ∙ (λ i. apply_procs (program_of (record g { procs = without })) A (fresh i) (map procedure_of (moved i))) ∙ same_tags p (map procedure_of without) A (past_procs p.procs) p.procs)
 
 pub keeps_after : (A : Solution) (q : Program) → IsEvalInlined A q → Keeps q (apply_inlined A q)
-keeps_after A q h = subst (λ r. Keeps r (apply_inlined A r)) (sym h.inlined) (apply_inlining_law h.before A h.analysed.started (uses_bound h.before h.analysed.formed) h.analysed.solves h.never_missing)
+keeps_after A q h = subst (λ r. Keeps r (apply_inlined A r)) (sym h.inlined) (apply_inlining_law h.before A (formed_is_started h.before h.analysed.formed) (uses_bound h.before h.analysed.formed) h.analysed.solves h.never_missing)

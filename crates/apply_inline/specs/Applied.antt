@@ -9,7 +9,7 @@ use Rattle.grin_syntax.specs.declared.program.Val.TheVariants.{NodeVar, Node, Ve
 use Rattle.grin_syntax.specs.Tree.{Code, Arms, arm, Program}
 use Rattle.grin_meaning.specs.Run.{is_part_kind, is_some_and}
 use Rattle.flow_system.specs.Solution.{Solution}
-use Rattle.flow_system.specs.Inlining.{word_has, value_has}
+use Rattle.apply_inline.specs.Inlining.{word_has, value_has}
 use Rattle.points_to.specs.Held.{In}
 
 -- whether a list has an item

@@ -2,7 +2,7 @@
 use Rattle.std.specs.Prelude.{◌≡◌}
 use Rattle.grin_syntax.specs.Tree.{Program}
 use Rattle.flow_system.specs.Solution.{Solution}
-use Rattle.flow_system.specs.Inlining.{eval_inlined}
+use Rattle.eval_inline.specs.Inlining.{eval_inlined}
 use Rattle.eval_inline.specs.Analysed.{IsAnalysed}
 use Rattle.apply_inline.specs.Law.{NeverMissing}
 

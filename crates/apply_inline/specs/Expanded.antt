@@ -7,8 +7,9 @@ use Rattle.grin_syntax.specs.declared.program.Val.{Val}
 use Rattle.grin_syntax.specs.Tree.{Code, end, store, bind, Act, unit, fetch, fetch_word, update, eval, apply, call, prim, read, write, case, nested, fail, Arms, no_arm, arm, Procedure, Program}
 use Rattle.grin_meaning.specs.Run.{is_fun_kind}
 use Rattle.flow_system.specs.Solution.{Solution}
-use Rattle.flow_system.specs.Size.{shape_size, val_size, target_size, cells_size, act_size}
-use Rattle.flow_system.specs.Inlining.{tags_of, parts_of, others_of}
+use Rattle.apply_inline.specs.Size.{shape_size, val_size, target_size, cells_size, act_size}
+use Rattle.eval_inline.specs.Inlining.{tags_of}
+use Rattle.apply_inline.specs.Inlining.{parts_of, others_of}
 
 -- a number of 64 bits, the largest one for all that are larger
 abbrev pub capped : ℕ → ℕ

@@ -8,7 +8,8 @@ use Rattle.flow_system.specs.Tables.{tables}
 use Rattle.flow_system.specs.System.{system}
 use Rattle.flow_system.specs.Solution.{Solution, Solves}
 use Rattle.flow_system.specs.Covers.{Started}
-use Rattle.flow_system.specs.Inlining.{eval_inlined, inlined}
+use Rattle.eval_inline.specs.Inlining.{eval_inlined}
+use Rattle.apply_inline.specs.Inlining.{inlined}
 use Rattle.eval_inline.specs.Law.{UsesBound}
 
 -- no run of the program is missing

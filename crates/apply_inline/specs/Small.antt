@@ -1,7 +1,7 @@
 -- A program is small beside its size.
 use Rattle.grin_syntax.specs.Tree.{Program}
 use Rattle.grin_meaning.specs.Slim.{Slim}
-use Rattle.flow_system.specs.Size.{size, largest_procedure}
+use Rattle.apply_inline.specs.Size.{size, largest_procedure}
 
 abbrev pub SlimBesideItsSize : Type 0
 SlimBesideItsSize = (g : Program) → Slim (size g) (largest_procedure g) g

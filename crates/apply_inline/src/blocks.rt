@@ -1,18 +1,19 @@
 // Blocks in which each application is a case.
-#![tactic(auto, using(grin_syntax::proofs::TreeOf::tree_of), unfolding(flow_system::specs::Inlining::apply_act, flow_system::specs::Inlining::apply_act_room))]
+#![tactic(auto, using(grin_syntax::proofs::TreeOf::tree_of), unfolding(crate::specs::Inlining::apply_act, crate::specs::Inlining::apply_act_room))]
 
 ghost use Rattle.std.specs.Prelude.{◌≡◌, ℕ, ◌+◌, [], ◌∷◌, ◌++◌, map, drop, Some, slice_get, IfOk, OnOk};
 ghost use Rattle.grin_syntax.specs.declared.program.Word.TheVariants.{Var};
 ghost use Rattle.grin_syntax.specs.Tree.{Code, Arms, arm, end, case, act_of, before_of, arm_of, code_of, procedure_of, program_of};
 ghost use Rattle.grin_syntax.specs.Tags.{part_from};
-ghost use Rattle.flow_system.specs.Inlining.{variables, part_body, apply_body, apply_arm, apply_arms, parts_of, others_of, else_fail, parts_room, apply_act, apply_code, apply_procs, apply_act_room, apply_code_room};
+ghost use Rattle.grin_syntax.specs.Fresh.{variables};
+ghost use Rattle.apply_inline.specs.Inlining.{part_body, apply_body, apply_arm, apply_arms, parts_of, others_of, else_fail, parts_room, apply_act, apply_code, apply_procs, apply_act_room, apply_code_room};
 ghost use Rattle.points_to.specs.Found.{found};
 ghost use Rattle.apply_inline.specs.Applied.{arms_before};
 ghost use Rattle.apply_inline.specs.Parts.{Begin};
 
 use crate::known::Known;
 use crate::starts::part_tag;
-use eval_inline::fresh::Fresh;
+use grin_syntax::fresh::Fresh;
 use grin_syntax::{Alt, Block, Op, Proc, ProcId, Shape, Stmt, Tag, TagId, Val, VarId, Word};
 use seq::Seq;
 use std::alloc::{AllocError, Global};

@@ -4,7 +4,7 @@ ghost use Rattle.std.specs.Prelude.{◌≡◌, ◌&&◌, not, true, false, ℕ, 
 ghost use Rattle.std.specs.List.Sorted.{IsStrictlyIncreasing};
 ghost use Rattle.grin_syntax.specs.Tree.{program_of};
 ghost use Rattle.grin_meaning.specs.Run.{is_part_kind};
-ghost use Rattle.flow_system.specs.Inlining.{word_has, others_of};
+ghost use Rattle.apply_inline.specs.Inlining.{word_has, others_of};
 ghost use Rattle.points_to.specs.Found.{found};
 ghost use Rattle.points_to.specs.Held.{In};
 ghost use Rattle.apply_inline.specs.Applied.{words_fit, fits, meets_part, meets_other, has_some, Candidates};

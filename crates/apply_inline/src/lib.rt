@@ -6,7 +6,7 @@ ghost use Rattle.grin_syntax.specs.Tree.{program_of};
 ghost use Rattle.grin_syntax.specs.Formed.{Formed};
 ghost use Rattle.grin_meaning.specs.Keeps.{Keeps};
 ghost use Rattle.grin_meaning.specs.Ready.{IsInlined};
-ghost use Rattle.flow_system.specs.Inlining.{apply_inlined, inlined_size};
+ghost use Rattle.apply_inline.specs.Inlining.{apply_inlined, inlined_size};
 ghost use Rattle.points_to.specs.Found.{found};
 ghost use Rattle.eval_inline.specs.Without.{HasNoEval};
 ghost use Rattle.apply_inline.specs.Before.{IsEvalInlined};
@@ -18,8 +18,8 @@ pub mod laws;
 mod starts;
 
 use blocks::Inlining;
-use eval_inline::fresh::Fresh;
 use grin_syntax::Grin;
+use grin_syntax::fresh::Fresh;
 use known::Known;
 use points_to::Flow;
 use seq::Seq;
@@ -53,6 +53,3 @@ pub fn expanded_size(g: &Grin, flow: &Flow) -> u64
     let known = Known { program: g, flow };
     known.procs_size(g.procs.as_slice())
 }
-
-#[cfg(test)]
-mod tests;

@@ -1,7 +1,7 @@
 -- Which programs are accepted, and which broken rule of the others is named.
 use Rattle.std.specs.Prelude.{ℕ}
 use Rattle.core_reader.specs.Tree as tree
-use Rattle.core_reader.specs.Readable.{AreDifferent}
+use Rattle.core_reader.specs.Readable.{IsReadable}
 use Rattle.arity_check.specs.Order.{rank, IsBefore}
 use Rattle.arity_check.specs.Broken.{Broken}
 use Rattle.arity_check.specs.Normal.{IsNormalForm}
@@ -16,9 +16,9 @@ pub record IsFirstBroken (p : tree.Program) (k at : ℕ) : Type 0 where
   pub broken : Broken p k at
   pub first : (k' at' : ℕ) → Broken p k' at' → IsBefore (rank k at) (rank k' at')
 
--- the normal form of a program that breaks no rule, and whose names are different texts
+-- the normal form of a program that reading could give and that breaks no rule
 pub record IsValid (q : Program) : Type 0 where
   pub program : tree.Program
-  pub different : AreDifferent program.names
+  pub readable : IsReadable program
   pub unbroken : IsUnbroken program
   pub normal : IsNormalForm program q

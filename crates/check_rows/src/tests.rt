@@ -2,6 +2,7 @@
 
 use arity_check::check::check;
 use arity_check::normal::{Body, Bound, Branch, Flat, PrimOp, Var};
+use arity_check::refusal::CheckRefusal;
 use core_reader::read;
 use std::alloc::{AllocError, Global};
 use std::fmt::Write;
@@ -10,12 +11,20 @@ use std::test::Fail;
 /// `Nil` and `Cons`, 25 bytes.
 const LISTS: &str = "data Nil 0; data Cons 2; ";
 
-/// The rule that a program breaks, with its number; zeros for one that breaks none.
-fn refused(alloc: Global, text: &str) -> Result<(u8, u64), Fail> {
+/// What the check says of a program: the number of its functions, or the rule that it breaks first and that rule's number.
+#[derive(Clone, Copy, PartialEq, Eq, Debug)]
+enum Verdict {
+    Accepted(usize),
+    Refused(u8, u64),
+}
+
+/// What the check says of the program of a text. Want of memory is no verdict.
+fn judged(alloc: Global, text: &str) -> Result<Verdict, Fail> {
     let core = read(alloc, text.as_bytes())?;
     match check(alloc, core) {
-        Ok(_checked) => Ok((0, 0)),
-        Err(refusal) => Ok((refusal.rule(), refusal.number())),
+        Ok(checked) => Ok(Verdict::Accepted(checked.funs.as_slice().len())),
+        Err(CheckRefusal::Memory(error)) => Err(Fail::from(error)),
+        Err(refusal) => Ok(Verdict::Refused(refusal.rule(), refusal.number())),
     }
 }
 
@@ -40,18 +49,34 @@ fn each_rule_has_its_place(rt: HostRuntime) -> Result<(), Fail> {
         ("main = let x = add; add = 1 in x;", 23, 40),
         ("main = Cons 1 1 1 1 1 1 1 1 1 1 1 1 1;", 33, 32),
         ("data Big 13; main = Nil;", 34, 30),
-        ("main = (((Nil)));", 0, 0),
-        ("main xs = xs;", 0, 0),
     ];
     for (text, rule, number) in rows {
         let text = format!(in rt.alloc(); "{LISTS}{text}")?;
         assert_eq!(rt;
-            refused(rt.alloc(), text.as_str())?,
-            (rule, number),
+            judged(rt.alloc(), text.as_str())?,
+            Verdict::Refused(rule, number),
             "{text}"
         );
     }
-    assert_eq!(rt; refused(rt.alloc(), "main = 1;")?, (21, 0));
+    assert_eq!(rt; judged(rt.alloc(), "main = 1;")?, Verdict::Refused(21, 0));
+    Ok(())
+}
+
+#[test]
+fn programs_that_break_no_rule_are_accepted(rt: HostRuntime) -> Result<(), Fail> {
+    let rows = [
+        ("main = (((Nil)));", 1),
+        ("main xs = xs;", 1),
+        ("f x = x; g x = x; main = Nil;", 3),
+    ];
+    for (text, functions) in rows {
+        let text = format!(in rt.alloc(); "{LISTS}{text}")?;
+        assert_eq!(rt;
+            judged(rt.alloc(), text.as_str())?,
+            Verdict::Accepted(functions),
+            "{text}"
+        );
+    }
     Ok(())
 }
 
@@ -72,9 +97,19 @@ fn repeated(
     Ok(all)
 }
 
+/// So many functions, each of a name of its own, and then `main`.
+fn functions(alloc: Global, count: u32) -> Result<String, AllocError> {
+    let mut all = String::from_str(alloc, LISTS)?;
+    for number in 0..count {
+        write!(all, "f{number} = Nil; ")?;
+    }
+    all.push_str("main = Nil;")?;
+    Ok(all)
+}
+
 /// A case over so many integers, each with itself.
 fn integers(alloc: Global, before: &str, count: u32) -> Result<String, AllocError> {
-    let mut all = String::new(alloc);
+    let mut all = String::from_str(alloc, LISTS)?;
     all.push_str(before)?;
     for number in 0..count {
         write!(all, "{number} -> {number}; ")?;
@@ -85,22 +120,23 @@ fn integers(alloc: Global, before: &str, count: u32) -> Result<String, AllocErro
 
 #[test]
 fn limits_hold(rt: HostRuntime) -> Result<(), Fail> {
-    let functions = repeated(rt.alloc(), LISTS, "f = Nil; ", 4097, "main = Nil;")?;
-    assert_eq!(rt; refused(rt.alloc(), functions.as_str())?, (31, 36889));
-    let constructors = repeated(rt.alloc(), LISTS, "data C 0; ", 1023, "main = Nil;")?;
-    assert_eq!(rt; refused(rt.alloc(), constructors.as_str())?, (32, 10250));
-    let largest = integers(
-        rt.alloc(),
-        "data Nil 0; data Cons 2; f = case 1 of { ",
-        8188,
-    )?;
-    assert_eq!(rt; refused(rt.alloc(), largest.as_str())?, (0, 0));
-    let larger = integers(
-        rt.alloc(),
-        "data Nil 0; data Cons 2; f x = case x of { ",
-        8188,
-    )?;
-    assert_eq!(rt; refused(rt.alloc(), larger.as_str())?, (35, 16385));
+    let alloc = rt.alloc();
+    let most = functions(alloc, 4095)?;
+    assert_eq!(rt; judged(alloc, most.as_str())?, Verdict::Accepted(4096));
+    let more = repeated(alloc, LISTS, "f = Nil; ", 4097, "main = Nil;")?;
+    assert_eq!(rt; judged(alloc, more.as_str())?, Verdict::Refused(31, 36889));
+    let constructors = repeated(alloc, LISTS, "data C 0; ", 1023, "main = Nil;")?;
+    assert_eq!(rt;
+        judged(alloc, constructors.as_str())?,
+        Verdict::Refused(32, 10250)
+    );
+    let largest = integers(alloc, "f = case 1 of { ", 8188)?;
+    assert_eq!(rt; judged(alloc, largest.as_str())?, Verdict::Accepted(2));
+    let larger = integers(alloc, "f x = case x of { ", 8188)?;
+    assert_eq!(rt;
+        judged(alloc, larger.as_str())?,
+        Verdict::Refused(35, 16385)
+    );
     Ok(())
 }
 

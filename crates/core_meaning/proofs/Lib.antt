@@ -2,4 +2,5 @@ mod Computed
 mod Enough
 mod Longer
 mod Steady
+mod Lookups
 pub mod Valid

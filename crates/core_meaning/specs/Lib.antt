@@ -1,7 +1,10 @@
 pub mod Numbers
 pub mod Heap
+pub mod Looking
 pub mod Evaluation
 pub mod Printing
+pub mod Told
 pub mod Laws
 pub mod Examples
 pub mod WellFormed
+pub mod Lookups

@@ -6,6 +6,7 @@
 ghost use Rattle.core_meaning.specs.Laws.{LargerBoundExtends, RecursionIsFree};
 ghost use Rattle.core_meaning.specs.Examples.{Examples};
 ghost use Rattle.core_meaning.specs.WellFormed.{ValidProgramsAreWellFormed};
+ghost use Rattle.core_meaning.specs.Lookups.{NoLookupFails};
 
 /// A larger bound extends what a program puts out: the output begins with the smaller bound's, the cells, the depth and the
 /// bytes taken are no fewer, and after an end nothing changes.
@@ -26,4 +27,10 @@ pub fn examples()
 /// In a valid program names are in scope, and there are as many arguments as parameters and fields.
 pub fn valid_programs_are_well_formed()
     ensures { ValidProgramsAreWellFormed }
+{}
+
+/// In the evaluation of a valid program no lookup fails: each local is in scope, each name is in the heap, and each function is
+/// there. So a value that no alternative accepts is all that ends a program early.
+pub fn no_lookup_fails()
+    ensures { NoLookupFails }
 {}

@@ -45,7 +45,7 @@ fewer (Stops at rest) = omega arith
 fewer (Passes at n bytes pieces end rest h r) = let f = fewer r in omega arith
 fewer (Takes at n bytes k pieces end rest h r) = let f = fewer r in let g = longest_some bytes n k h in omega arith
 
-few : (text : List ℕ) (pieces : List Piece) (at : ℕ) (rest : List ℕ) → length text ≤ 1048576 → Reads 0 text pieces at rest → length pieces < 2 ^ 64
+pub few : (text : List ℕ) (pieces : List Piece) (at : ℕ) (rest : List ℕ) → length text ≤ 1048576 → Reads 0 text pieces at rest → length pieces < 2 ^ 64
 few text pieces at rest short r = let f = fewer r in let g = ends_at r in omega arith
 
 -- ---- the answers

@@ -58,7 +58,7 @@ pub record Clear (ts : List Piece) : Type 0 where
   pub shallow : Viable at_most_200 ts
   pub small : AreInRange ts
 
-one_last : (us : List Piece) (x : Piece) (vs : List Piece) → (us ++ x ∷ []) ++ vs ≡ us ++ (x ∷ vs)
+pub one_last : (us : List Piece) (x : Piece) (vs : List Piece) → (us ++ x ∷ []) ++ vs ≡ us ++ (x ∷ vs)
 one_last us x vs = append_assoc us (x ∷ []) vs
 
 front_of : (l : Room) (ts us : List Piece) (x : Piece) (m : List Piece) → Viable l ts → ts ≡ us ++ (x ∷ m) → Viable l (us ++ x ∷ [])
@@ -175,7 +175,7 @@ clear_front names pieces us vs s named small e k =
     let agrees : Agrees names us = ap (λ v. map (said v) us) (named ∙ ap names_of e) ∙ agrees_front us vs in
     record { some = viable anywhere names us s k.p agrees; shallow = viable at_most_200 names us s k.b agrees; small = in_range_front us vs (subst AreInRange e small) }
 
-begins_at : (text : List ℕ) (pieces us : List Piece) (x : Piece) (vs : List Piece) (at : ℕ) (rest : List ℕ) → Reads 0 text pieces at rest → pieces ≡ us ++ (x ∷ vs) → BeginsWith text us x x.at
+pub begins_at : (text : List ℕ) (pieces us : List Piece) (x : Piece) (vs : List Piece) (at : ℕ) (rest : List ℕ) → Reads 0 text pieces at rest → pieces ≡ us ++ (x ∷ vs) → BeginsWith text us x x.at
 begins_at text pieces us x vs at rest r e =
     let s = split (us ++ x ∷ []) vs (subst (λ v. Reads 0 text v at rest) (e ∙ sym (one_last us x vs)) r) in
     record { end = s.mid; rest = s.between; reads = s.before; place = refl }

@@ -13,6 +13,7 @@ pub mod Lexing
 pub mod Causes
 pub mod Readability
 pub mod Answers
+pub mod Unbroken
 pub mod OnlyOne
 pub mod Numerals
 pub mod Rereading

@@ -209,7 +209,7 @@ different_by true true names w d e = d
 different_by true false names w d e = new_last names w d e
 different_by false c names w d e = d
 
-different_from : (names : Texts) (ps : List Piece) → AreDifferent names → AreDifferent (fold with_piece names ps)
+pub different_from : (names : Texts) (ps : List Piece) → AreDifferent names → AreDifferent (fold with_piece names ps)
 different_from names [] d = d
 different_from names (p ∷ ps) d = different_from (with_piece names p) ps (different_by (is_numbered p) (has names p.bytes) names p.bytes d refl)
 

@@ -21,6 +21,10 @@ OneReading = (text : List ℕ) (us vs : List Piece) → IsTokens text us → IsT
 abbrev pub OneProgram : Type 0
 OneProgram = (text : List ℕ) (p q : Program) → IsText text p → IsText text q → p ≡ q
 
+-- The program of a text that breaks no rule is readable.
+abbrev pub UnbrokenIsReadable : Type 0
+UnbrokenIsReadable = (text : List ℕ) (p : Program) → IsUnbroken text → IsText text p → IsReadable p
+
 -- The text breaks no rule, and it stands for the program, the places and the numbers of the names aside.
 pub record StandsFor (text : List ℕ) (p : Program) : Type 0 where
   pub unbroken : IsUnbroken text

@@ -5,6 +5,7 @@ pub mod Tokens
 pub mod Look
 pub mod Grammar
 pub mod Text
+pub mod Different
 pub mod Readable
 pub mod Machine
 pub mod Parsed

@@ -1,5 +1,5 @@
 -- What holds of each program that was read: its names have texts of their kinds, and nothing is empty or too large.
-use Rattle.std.specs.Prelude.{◌≡◌, ◌≢◌, ℕ, ◌<◌, ◌≤◌, ◌^◌, List, [], ◌∷◌, Some, None, All, slice_get}
+use Rattle.std.specs.Prelude.{◌≡◌, ℕ, ◌<◌, ◌≤◌, ◌^◌, List, Some, None, All, slice_get}
 use Rattle.core_reader.specs.declared.syntax.Binder.{Binder}
 use Rattle.core_reader.specs.declared.syntax.Pattern.{Pattern}
 use Rattle.core_reader.specs.declared.syntax.Pattern.TheVariants as pattern
@@ -10,6 +10,7 @@ use Rattle.core_reader.specs.Tokens.{kind_of}
 use Rattle.core_reader.specs.Text.{keyword_of, IsInRange}
 use Rattle.core_reader.specs.Grammar.{IsGroup, IsSomeAlts}
 use Rattle.core_reader.specs.Size.{program_size}
+pub use Rattle.core_reader.specs.Different.{AreDifferent}
 
 -- the bytes of a name, and of a constructor
 abbrev pub IsName : List ℕ → Type 0
@@ -66,11 +67,6 @@ ReadableData names d = IsTextAt names IsConstructor d.name × (d.fields ≤ 2147
 
 abbrev pub ReadableFunction : List (List ℕ) → Function → Type 0
 ReadableFunction names f = IsNamed names f.name × All (IsBound names) f.params × ReadableExpr names f.body
-
--- each text is there once
-abbrev pub AreDifferent : List (List ℕ) → Type 0
-AreDifferent [] = Unit {0}
-AreDifferent (w ∷ ws) = All (λ v. v ≢ w) ws × AreDifferent ws
 
 pub record IsReadable (p : Program) : Type 0 where
   pub different : AreDifferent p.names

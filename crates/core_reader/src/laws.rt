@@ -5,7 +5,7 @@ ghost use Rattle.core_reader.specs.Tree.{program};
 ghost use Rattle.core_reader.specs.Readable.{IsReadable};
 ghost use Rattle.core_reader.specs.Canonical.{canonical};
 ghost use Rattle.core_reader.specs.Depth.{program_depth};
-ghost use Rattle.core_reader.specs.Laws.{OneRefusal, OneReading, OneProgram, CanonicalStands, IsSameAgain};
+ghost use Rattle.core_reader.specs.Laws.{OneRefusal, OneReading, OneProgram, UnbrokenIsReadable, CanonicalStands, IsSameAgain};
 
 use crate::printer::print;
 use crate::reader::read;
@@ -26,6 +26,11 @@ pub fn one_reading()
 /// A text stands for at most one program, with its places and its names.
 pub fn one_program()
     ensures { OneProgram }
+{}
+
+/// A program is readable where a text that breaks no rule stands for it.
+pub fn unbroken_is_readable()
+    ensures { UnbrokenIsReadable }
 {}
 
 /// The canonical text of a readable program stands for it: where the text has at most 1,048,576 bytes and at most 200

@@ -16,8 +16,6 @@ mod reader;
 mod refusal;
 pub mod size;
 pub mod syntax;
-#[cfg(test)]
-mod tests;
 mod token;
 
 pub use printer::print;

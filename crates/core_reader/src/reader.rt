@@ -3,6 +3,7 @@
 ghost use Rattle.std.specs.Prelude.{◌≡◌, OnOk, IfOk, IfErr};
 ghost use Rattle.core_reader.specs.Tree.{program};
 ghost use Rattle.core_reader.specs.Text.{IsText, IsUnbroken, IsCause};
+ghost use Rattle.core_reader.specs.Different.{AreDifferent};
 ghost use Rattle.core_reader.specs.Readable.{IsReadable};
 ghost use Rattle.core_reader.specs.Lexed.{texts_of};
 
@@ -43,11 +44,12 @@ pub fn read(alloc: Global, text: &[u8]) -> Result<Core, ReadRefusal>
 
 /// The names as texts of their own.
 fn copied(alloc: Global, names: &IndexSet<&[u8]>) -> Result<Names, AllocError>
+    requires { AreDifferent (texts_of names.now.keys) }
     ensures { IfOk result (λ copy. copy ≡ texts_of names.now.keys) }
 {
     let mut entries = Vec::new(alloc);
     for name in names.as_slice() {
         entries.push(Seq::from_slice(alloc, name)?)?;
     }
-    Ok(Names::new(entries))
+    Ok(Names::from_vec(entries))
 }

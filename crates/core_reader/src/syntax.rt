@@ -1,6 +1,7 @@
 // The syntax of Core.
 
 ghost use Rattle.std.specs.Prelude.{◌≡◌};
+ghost use Rattle.core_reader.specs.Different.{AreDifferent};
 
 use seq::Seq;
 use std::marker::Model;
@@ -66,7 +67,7 @@ pub struct Alt {
     pub body: Expr,
 }
 
-/// The names of a program, which contracts see as the list of their bytes.
+/// The names of a program, each there once, which contracts see as the list of their bytes.
 #[derive(Drop)]
 pub struct Names {
     entries: Vec<Seq<u8>>,
@@ -74,17 +75,31 @@ pub struct Names {
 
 impl Model for Names {
     ghost use Rattle.std.specs.Prelude.{List, ℕ};
+    ghost use Rattle.core_reader.specs.Different.{AreDifferent};
 
     ghost Value = { List (List ℕ) };
 
     ghost view = { λ n. n.entries.items };
+
+    ghost invariant = { λ n. AreDifferent n.entries.items };
 }
 
 impl Names {
-    pub(crate) fn new(entries: Vec<Seq<u8>>) -> Names
+    /// Names from their bytes. The number of each is its place among them.
+    pub fn from_vec(entries: Vec<Seq<u8>>) -> Names
+        requires { AreDifferent entries.items }
         ensures { result ≡ entries.items }
     {
         Names { entries }
+    }
+
+    /// The bytes of each name, as they were given.
+    pub fn into_vec(self) -> Vec<Seq<u8>>
+        ensures given { result.items ≡ self }
+        ensures different { AreDifferent result.items }
+    {
+        let Names { entries } = self;
+        entries
     }
 
     /// The bytes of each name.

@@ -120,6 +120,10 @@ fn accepted_texts(rt: HostRuntime) -> Result<(), Fail> {
             "main = Cons (add Nil 1) Nil;",
             "ok functions 1 constructors 2 size 10\n",
         ),
+        (
+            "data T 12; main = Nil;",
+            "ok functions 1 constructors 3 size 8\n",
+        ),
     ];
     for (text, out) in rows {
         let text = format!(in rt.alloc(); "{LISTS}{text}")?;

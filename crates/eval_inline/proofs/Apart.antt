@@ -10,13 +10,15 @@ use Rattle.grin_syntax.specs.declared.program.Target.{Target}
 use Rattle.grin_syntax.specs.declared.program.Target.TheVariants.{Node as NodeTarget}
 use Rattle.grin_syntax.specs.declared.program.Shape.TheVariants.{Node as NodeShape}
 use Rattle.grin_syntax.specs.Tree.{Code, end, store, bind, Act, unit, fetch, fetch_word, update, eval, apply, call, prim, read, write, case, nested, fail, Arms, no_arm, arm, Procedure, Program}
+use Rattle.grin_syntax.specs.Tags.{tag_id}
+use Rattle.grin_syntax.specs.Fresh.{variable, variables}
 use Rattle.grin_meaning.specs.Run.{is_fun_kind}
 use Rattle.flow_system.specs.declared.fact.Element.{Element}
 use Rattle.flow_system.specs.declared.fact.Element.TheVariants.{Cell, Tag as tag, Number}
 use Rattle.flow_system.specs.declared.fact.Place.TheVariants.{Site as site, Var as var}
 use Rattle.flow_system.specs.declared.fact.Part.TheVariants.{Tags as tags, Word as word}
 use Rattle.flow_system.specs.Solution.{Solution, among}
-use Rattle.flow_system.specs.Inlining.{tag_id, variable, variables, those, some_of, cells_in, site_of, sites_of, tags_of, call_body, eval_body, eval_arm, eval_arms, fields_at, arms_room, eval_bound, eval_ended, eval_act, eval_code, eval_all, eval_procs, act_room, code_room, all_room}
+use Rattle.eval_inline.specs.Inlining.{those, some_of, cells_in, site_of, sites_of, tags_of, call_body, eval_body, eval_arm, eval_arms, fields_at, arms_room, eval_bound, eval_ended, eval_act, eval_code, eval_all, eval_procs, act_room, code_room, all_room}
 
 module _ (p : Program) (A : Solution) (procs : List Procedure) where
   abbrev q : Program

@@ -7,7 +7,7 @@ use Rattle.std.proofs.lemmas.List.{get_or-map, length-map}
 use Rattle.std.proofs.lemmas.List.Kept.{AllPairs-from_increasing}
 use Rattle.std.proofs.lemmas.Option.{slice_get_cases}
 use Rattle.grin_syntax.specs.declared.program.TagId.{TagId}
-use Rattle.flow_system.specs.Inlining.{those}
+use Rattle.eval_inline.specs.Inlining.{those}
 use Rattle.points_to.specs.Wanted.{is_in}
 use Rattle.eval_inline.specs.Met.{IsFirst, none, first, NextBelow}
 

@@ -10,9 +10,10 @@ use Rattle.grin_syntax.specs.Binders.{times, numbers_of, target_vars, shape_vars
 use Rattle.grin_meaning.specs.Run.{is_fun_kind}
 use Rattle.flow_system.specs.Solution.{Solution}
 use Rattle.grin_syntax.specs.declared.program.Val.TheVariants.{NodeVar}
-use Rattle.flow_system.specs.Inlining.{variable, variables, call_body, eval_body, fields_at, eval_arm, eval_arms, arms_room, eval_bound, eval_ended, eval_act, eval_code, eval_all, eval_procs, act_room, code_room, all_room, tags_of, past_procs}
-use Rattle.eval_inline.proofs.Counted.{times_append, fresh, fresh_below, fresh_once, fresh_split}
-use Rattle.eval_inline.proofs.Bounds.{past_procs_none}
+use Rattle.grin_syntax.specs.Fresh.{variable, variables, past_procs}
+use Rattle.grin_syntax.proofs.Counted.{times_append, fresh, fresh_below, fresh_once, fresh_split}
+use Rattle.grin_syntax.proofs.Unbound.{past_procs_none}
+use Rattle.eval_inline.specs.Inlining.{call_body, eval_body, fields_at, eval_arm, eval_arms, arms_room, eval_bound, eval_ended, eval_act, eval_code, eval_all, eval_procs, act_room, code_room, all_room, tags_of}
 
 -- the fresh variables that procedures take
 abbrev pub procs_room : Program → Solution → List Procedure → ℕ

@@ -14,7 +14,7 @@ use Rattle.flow_system.specs.declared.fact.Place.TheVariants.{Site as site, Var 
 use Rattle.flow_system.specs.declared.fact.Part.TheVariants.{Tags as tags, Word as word}
 use Rattle.flow_system.specs.Solution.{Solution, among, At, StandsFor, literal, variable, global, tag_itself}
 use Rattle.flow_system.specs.Covers.{site_at, NodeIn, Lies}
-use Rattle.flow_system.specs.Inlining.{those, some_of, cells_in, sites_of, tags_of}
+use Rattle.eval_inline.specs.Inlining.{those, some_of, cells_in, sites_of, tags_of}
 use Rattle.flow_system.proofs.Lying.{from_some, place_lies}
 
 -- one of a list

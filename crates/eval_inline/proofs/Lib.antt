@@ -1,16 +1,13 @@
 pub mod Known
 pub mod Inlining
-pub mod Counted
 pub mod Bounds
 pub mod FreshOnce
-pub mod Scope
 pub mod Well
 pub mod Without
 pub mod Apart
 pub mod First
 pub mod Sites
 pub mod Pieces
-pub mod Past
 pub mod Tags
 pub mod Bodies
 pub mod Statements

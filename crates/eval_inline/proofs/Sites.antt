@@ -10,19 +10,19 @@ use Rattle.grin_syntax.specs.declared.program.GlobalCell.{GlobalCell}
 use Rattle.grin_syntax.specs.declared.program.Word as W
 use Rattle.grin_syntax.specs.declared.program.Word.TheVariants as of_word
 use Rattle.grin_syntax.specs.Tree.{Program}
+use Rattle.grin_syntax.proofs.Pieces.{map_push}
 use Rattle.flow_system.specs.declared.fact.Element.{Element}
 use Rattle.flow_system.specs.declared.fact.Element.TheVariants.{Cell, Tag as tag, Number}
 use Rattle.flow_system.specs.declared.fact.Place.TheVariants.{Site as site, Var as var}
 use Rattle.flow_system.specs.declared.fact.Part.TheVariants.{Tags as tags, Word as word}
 use Rattle.flow_system.specs.Solution.{Solution, among, At}
-use Rattle.flow_system.specs.Inlining.{some_of, cells_in, site_of, sites_of}
+use Rattle.eval_inline.specs.Inlining.{some_of, cells_in, site_of, sites_of}
 use Rattle.points_to.specs.Held.{In, here, there}
 use Rattle.points_to.specs.Wanted.{is_in}
 use Rattle.points_to.proofs.Member.{none_in, cons_in}
 use Rattle.eval_inline.specs.Met.{IsFirst, none}
 use Rattle.eval_inline.proofs.Known.{nat_eq-true, or_true, some_cell}
 use Rattle.eval_inline.proofs.First.{or_false, same_first}
-use Rattle.eval_inline.proofs.Pieces.{map_push}
 
 same_bool : (a b : Bool) → (a ≡ true → b ≡ true) → (b ≡ true → a ≡ true) → a ≡ b
 same_bool true true f g = refl

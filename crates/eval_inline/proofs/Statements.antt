@@ -18,10 +18,11 @@ use Rattle.grin_syntax.specs.declared.program.VarId.{VarId}
 use Rattle.grin_syntax.specs.declared.program.Word.{Word}
 use Rattle.grin_syntax.specs.Tree.{Code, end, bind, Act, fetch, eval, case, nested, Arms, no_arm, arm, Procedure, Program, procedure_of, act_of, before_of, arm_of, code_of, all_before, arms_of}
 use Rattle.grin_syntax.proofs.TreeOf.{before_of-Store, before_of-Bind, code_of-parts, act_of-Eval, act_of-Case, act_of-Nested}
+use Rattle.grin_syntax.specs.Fresh.{variable}
+use Rattle.grin_syntax.proofs.Pieces.{all_arms, all_arms_none, all_arms_push, all_before_push}
 use Rattle.flow_system.specs.Solution.{Solution}
-use Rattle.flow_system.specs.Inlining.{variable, tags_of, eval_arms, arms_room, eval_bound, eval_act, eval_code, eval_all, eval_procs, act_room, code_room, all_room}
+use Rattle.eval_inline.specs.Inlining.{tags_of, eval_arms, arms_room, eval_bound, eval_act, eval_code, eval_all, eval_procs, act_room, code_room, all_room}
 use Rattle.eval_inline.specs.Inlined.{Follows}
-use Rattle.eval_inline.proofs.Pieces.{all_arms, all_arms_none, all_arms_push, all_before_push}
 
 -- no block in it, and no evaluation
 abbrev pub IsPlain : Act → Type 0

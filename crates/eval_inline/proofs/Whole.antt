@@ -4,9 +4,11 @@ use Rattle.grin_syntax.specs.declared.program.Grin.{Grin}
 use Rattle.grin_syntax.specs.declared.program.Proc.{Proc}
 use Rattle.grin_syntax.specs.Tree.{Procedure, Program, program_of, procedure_of}
 use Rattle.grin_syntax.specs.Formed.{Formed}
+use Rattle.grin_syntax.specs.Fresh.{past_procs}
 use Rattle.grin_meaning.specs.Keeps.{Keeps}
 use Rattle.flow_system.specs.Solution.{Solution}
-use Rattle.flow_system.specs.Inlining.{past_procs, eval_procs, eval_inlined}
+use Rattle.eval_inline.specs.Inlining.{eval_procs, eval_inlined}
+use Rattle.flow_system.proofs.Starting.{formed_is_started}
 use Rattle.eval_inline.specs.Analysed.{IsAnalysed}
 use Rattle.eval_inline.specs.Without.{HasNoEval}
 use Rattle.eval_inline.proofs.Apart.{procs_apart}
@@ -26,7 +28,7 @@ inlined_is g A others start next made from n e s =
 
 module _ (p h : Program) (A : Solution) (is : h ≡ eval_inlined A p) where
   pub inlined_keeps : IsAnalysed A p → Keeps p h
-  inlined_keeps a = subst (Keeps p) (sym is) (inlining_law p A a.started (uses_bound p a.formed) a.solves)
+  inlined_keeps a = subst (Keeps p) (sym is) (inlining_law p A (formed_is_started p a.formed) (uses_bound p a.formed) a.solves)
 
   pub inlined_formed : Formed p → Formed h
   inlined_formed f = subst Formed (sym is) (inlining_formed p A f)

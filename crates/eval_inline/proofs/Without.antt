@@ -8,10 +8,11 @@ use Rattle.grin_syntax.specs.declared.program.Val.TheVariants.{NodeVar}
 use Rattle.grin_syntax.specs.declared.program.Target.{Target}
 use Rattle.grin_syntax.specs.Tree.{Code, end, store, bind, Act, unit, fetch, fetch_word, update, eval, apply, call, prim, read, write, case, nested, fail, Arms, no_arm, arm, Procedure, Program}
 use Rattle.grin_syntax.specs.Formed.{AllOf}
+use Rattle.grin_syntax.specs.Fresh.{variable, past_procs}
 use Rattle.grin_meaning.specs.Ready.{EachAct, EachCode, EachArms, Any}
 use Rattle.grin_meaning.specs.Run.{is_fun_kind}
 use Rattle.flow_system.specs.Solution.{Solution}
-use Rattle.flow_system.specs.Inlining.{variable, call_body, eval_body, eval_arm, eval_arms, fields_at, eval_bound, eval_ended, eval_act, eval_code, eval_all, eval_procs, act_room, code_room, tags_of, past_procs, eval_inlined}
+use Rattle.eval_inline.specs.Inlining.{call_body, eval_body, eval_arm, eval_arms, fields_at, eval_bound, eval_ended, eval_act, eval_code, eval_all, eval_procs, act_room, code_room, tags_of, eval_inlined}
 use Rattle.eval_inline.specs.Without.{NotEval, HasNoEval}
 
 abbrev ActFree : Act → Type 0

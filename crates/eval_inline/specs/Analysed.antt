@@ -4,10 +4,8 @@ use Rattle.grin_syntax.specs.Formed.{Formed}
 use Rattle.flow_system.specs.Tables.{tables}
 use Rattle.flow_system.specs.System.{system}
 use Rattle.flow_system.specs.Solution.{Solution, Solves}
-use Rattle.flow_system.specs.Covers.{Started}
 
--- a well-formed program, which may be started, and a solution of its flow system
+-- a well-formed program, and a solution of its flow system
 pub record IsAnalysed (A : Solution) (p : Program) : Type 0 where
   pub formed : Formed p
-  pub started : Started p
   pub solves : Solves (tables p) (system p) A

@@ -4,7 +4,7 @@ use Rattle.grin_syntax.specs.declared.program.Target.{Target}
 use Rattle.grin_syntax.specs.declared.program.Stmt.{Stmt}
 use Rattle.grin_syntax.specs.Tree.{Code, end, bind, Act, Program, before_of, all_before}
 use Rattle.flow_system.specs.Solution.{Solution}
-use Rattle.flow_system.specs.Inlining.{eval_bound, eval_ended, eval_act}
+use Rattle.eval_inline.specs.Inlining.{eval_bound, eval_ended, eval_act}
 
 -- the statements that are there, and then an operation, do what the statements before them did, and then this one with fresh variables from x on
 pub record Follows (p : Program) (A : Solution) (x : ℕ) (o : Act) (before after : List Stmt) (made : Act) : Type 0 where

@@ -1,13 +1,14 @@
 -- Inlining of evaluations keeps what a program does.
 use Rattle.std.specs.Prelude.{◌<◌}
 use Rattle.grin_syntax.specs.Tree.{Program}
+use Rattle.grin_syntax.specs.Fresh.{past_procs}
 use Rattle.grin_meaning.specs.Keeps.{Keeps}
 use Rattle.grin_meaning.specs.Names.{ProcsOk}
 use Rattle.flow_system.specs.Tables.{tables}
 use Rattle.flow_system.specs.System.{system}
 use Rattle.flow_system.specs.Solution.{Solution, Solves}
 use Rattle.flow_system.specs.Covers.{Started}
-use Rattle.flow_system.specs.Inlining.{past_procs, eval_inlined}
+use Rattle.eval_inline.specs.Inlining.{eval_inlined}
 
 -- every variable that is used is bound somewhere, so the variables past those that are bound are fresh
 abbrev pub UsesBound : Program → Type 0

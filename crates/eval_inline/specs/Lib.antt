@@ -1,5 +1,6 @@
 pub mod Analysed
 pub mod Inlined
+pub mod Inlining
 pub mod Law
 pub mod Met
 pub mod Without

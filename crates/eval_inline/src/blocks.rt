@@ -6,12 +6,12 @@ ghost use Rattle.grin_syntax.specs.declared.program.Word.TheVariants.{Var};
 ghost use Rattle.grin_syntax.specs.declared.program.Val.TheVariants.{NodeVar};
 ghost use Rattle.grin_syntax.specs.declared.program.Target.TheVariants.{Nothing, Node as NodeTarget};
 ghost use Rattle.grin_syntax.specs.Tree.{Code, Arms, arm, end, bind, case, call, update, unit, act_of, before_of, arm_of, code_of, all_before, program_of};
-ghost use Rattle.flow_system.specs.Inlining.{tags_of, eval_arm, eval_arms, arms_room, fields_at, eval_code, code_room, act_room};
+ghost use Rattle.eval_inline.specs.Inlining.{tags_of, eval_arm, eval_arms, arms_room, fields_at, eval_code, code_room, act_room};
 ghost use Rattle.points_to.specs.Found.{found};
 ghost use Rattle.eval_inline.specs.Inlined.{Follows};
 
-use crate::fresh::Fresh;
 use crate::met::next_tag;
+use grin_syntax::fresh::Fresh;
 use grin_syntax::{
     Alt, Block, Grin, Op, ProcId, Shape, Stmt, TagId, TagKind, Target, Val, VarId, Word,
 };

@@ -5,18 +5,17 @@ ghost use Rattle.std.specs.Prelude.{◌≡◌, IfOk};
 ghost use Rattle.grin_syntax.specs.Tree.{program_of};
 ghost use Rattle.grin_syntax.specs.Formed.{Formed};
 ghost use Rattle.grin_meaning.specs.Keeps.{Keeps};
-ghost use Rattle.flow_system.specs.Inlining.{eval_inlined};
+ghost use Rattle.eval_inline.specs.Inlining.{eval_inlined};
 ghost use Rattle.points_to.specs.Found.{found};
 ghost use Rattle.eval_inline.specs.Analysed.{IsAnalysed};
 ghost use Rattle.eval_inline.specs.Law.{EvalInliningKeeps};
 ghost use Rattle.eval_inline.specs.Without.{HasNoEval};
 
 mod blocks;
-pub mod fresh;
 pub mod met;
 
 use blocks::Inlining;
-use fresh::Fresh;
+use grin_syntax::fresh::Fresh;
 use grin_syntax::{Grin, Proc};
 use points_to::Flow;
 use seq::Seq;
@@ -49,6 +48,3 @@ pub fn inline(alloc: Global, mut g: Grin, flow: &Flow) -> Result<Grin, AllocErro
     g.procs = made;
     Ok(g)
 }
-
-#[cfg(test)]
-mod tests;

@@ -7,7 +7,7 @@ use Rattle.rv32_machine.specs.Memory.{Stretch}
 use Rattle.rv32_steps.proofs.Moves.{Leads, goes}
 use Rattle.rv32_steps.proofs.Fetch.{Stand, front, back}
 use Rattle.rv32_steps.proofs.Words.{AreWords}
-use Rattle.rv32_steps.proofs.Blocks.{block, block_regs, Apart}
+use Rattle.first_path.proofs.Blocks.{block, block_regs, Apart}
 use Rattle.first_path.specs.Values.{bound_values, result_of, heap_of}
 use Rattle.first_path.specs.Image.{heap_start, address, zeros, node_words, heap_words, load_word, store_words, loop_head, print_loop, code_of}
 use Rattle.first_path.proofs.Stores.{parts_join, put_words, put_seam, standing, store_all, AllWords-set}

@@ -15,10 +15,11 @@ use Rattle.arity_check.specs.Broken.{TooManyConstructors, CoreTooLarge}
 use Rattle.arity_check.specs.Normal.{IsConstructor}
 use Rattle.arity_check.specs.Program.{Program, Function, Term, App, Let, Case}
 use Rattle.core_meaning.specs.Evaluation.{nil, cons}
+use Rattle.core_meaning.specs.Told.{end_of}
 use Rattle.core_meaning.proofs.Valid.{valid_is_well_formed, different_places}
 use Rattle.first_path.specs.Plain.{AllOf, IsVar, IsValueForm, IsGroup, IsPlainTerm, IsPlain, bindings}
 use Rattle.first_path.specs.Values.{heap_of}
-use Rattle.first_path.specs.Carried.{HasNumber, end_of, image_of, IsSmall}
+use Rattle.first_path.specs.Carried.{HasNumber, image_of, IsSmall}
 use Rattle.first_path.specs.Stored.{HasAddress, IsStored, IsStoredTerm}
 use Rattle.first_path.specs.Built.{IsBuiltFrom, IsCarriedBy}
 use Rattle.first_path.proofs.Few.{term_few}
@@ -67,7 +68,7 @@ module _ (cs : List arity.Con) (few : length cs ≤ 1024) where
 module _ (source : tree.Program) (q : Program) (b : IsBuiltFrom source q) where
   pub plain_of : IsPlain q
   plain_of =
-      let d = different_places source.names b.different in
+      let d = different_places source.names b.readable.different in
       is_plain source q d b.unbroken b.normal (valid_is_well_formed source q b.normal b.unbroken d) b.built
 
   pub few_constructors : length q.cons ≤ 1024
@@ -82,7 +83,7 @@ module _ (source : tree.Program) (q : Program) (b : IsBuiltFrom source q) where
   -- the function's body has at most twice as many bindings as the program has tokens
   pub few_bindings : bindings plain_of.fun.body ≤ 2 * program_size source
   few_bindings =
-      let d = different_places source.names b.different in
+      let d = different_places source.names b.readable.different in
       let all = all_built source source.functions b.built in
       let a = only source q d b.unbroken b.normal source.functions q.funs refl refl all b.normal.funs b.normal.main in
       let few = term_few source a.is_function.body in

@@ -1,12 +1,13 @@
 -- The image of a plain program carries it.
-use Rattle.std.proofs.Common.{◌≡◌, ℕ, zero, suc, ◌+◌, ◌-◌, ◌*◌, ◌<◌, ◌≤◌, Bool, true, false, nat_lt, List, [], ◌∷◌, ◌++◌, length, replicate, refl, sym, ap, ◌∙◌, subst, arith}
+use Rattle.std.proofs.Common.{◌≡◌, ℕ, zero, suc, ◌+◌, ◌-◌, ◌*◌, ◌<◌, ◌≤◌, Bool, true, false, nat_lt, List, [], ◌∷◌, ◌++◌, length, replicate, refl, sym, ap, ◌∙◌, subst, arith, inl}
 use Rattle.std.proofs.lemmas.Grind.{common_steps}
 use Rattle.std.proofs.lemmas.Bool.Decides.{nat_tests}
 use Rattle.std.proofs.lemmas.Option.{slice_get_within}
 use Rattle.arity_check.specs.Program.{Program, Term}
 use Rattle.core_meaning.specs.Evaluation.{nil, cons}
 use Rattle.core_meaning.specs.Printing as core
-use Rattle.core_meaning.specs.Printing.{Done, Unaccepted, printed}
+use Rattle.core_meaning.specs.Printing.{Done, Unaccepted}
+use Rattle.core_meaning.specs.Told.{end_of, of_core}
 use Rattle.headline.specs.Carries.{exits, Told, Seen, Matches, Reaches, Finishes, Comes, Carries, KeepsPace}
 use Rattle.rv32_machine.specs.Memory.{Stretch, stretch_of}
 use Rattle.rv32_machine.specs.Steps.{State, start_of}
@@ -17,11 +18,11 @@ use Rattle.rv32_steps.specs.Code.{code_bytes, Stand}
 use Rattle.rv32_steps.proofs.Moves.{at}
 use Rattle.rv32_steps.proofs.Fetch.{all_stand, image_length}
 use Rattle.rv32_steps.proofs.Words.{words_bytes}
-use Rattle.rv32_steps.proofs.Blocks.{Apart}
+use Rattle.first_path.proofs.Blocks.{Apart}
 use Rattle.first_path.specs.Plain.{AllOf, IsPlain, bindings}
 use Rattle.first_path.specs.Values.{Walked, walk, bound_values, result_of, heap_of}
 use Rattle.first_path.specs.Image.{heap_start, zeros, heap_words, code_of}
-use Rattle.first_path.specs.Carried.{end_of, told, finish_of, seen, image_of, IsSmall}
+use Rattle.first_path.specs.Carried.{finish_of, seen, image_of, IsSmall, Never}
 use Rattle.first_path.proofs.Meaning.{plain_program_shows}
 use Rattle.first_path.proofs.Stores.{standing}
 use Rattle.first_path.proofs.Turns.{IsHeapValue, Loop, looping, heap_length}
@@ -67,24 +68,27 @@ end_append : (xs : List ℕ) → xs ≡ xs ++ []
 end_append xs = grind (arith, common_steps)
 
 reached_told : (e : core.End) (out i : List ℕ) (r : Run) (t : Told) → t.out ≡ out → t.end ≡ end_of e → Reached e out r → Reaches t (seen_of i r)
-reached_told core.Going out i r t o e h = record { output = (h.0, h.1 ∙ ap (λ l. l ++ h.0) (sym o)); ended = subst (λ x. Matches x t (seen_of i r)) (sym e) tt }
-reached_told Done out i r t o e h = record { output = ([], h.0 ∙ sym o ∙ end_append t.out); ended = subst (λ x. Matches x t (seen_of i r)) (sym e) (h.0 ∙ sym o, exit_is 0 r.end h.1) }
-reached_told Unaccepted out i r t o e h = record { output = ([], h.0 ∙ sym o ∙ end_append t.out); ended = subst (λ x. Matches x t (seen_of i r)) (sym e) (h.0 ∙ sym o, exit_is 3 r.end h.1) }
+reached_told core.Going out i r t o e h = inl ((h.0, h.1 ∙ ap (λ l. l ++ h.0) (sym o)), subst (λ x. Matches x t (seen_of i r)) (sym e) tt)
+reached_told Done out i r t o e h = inl (([], h.0 ∙ sym o ∙ end_append t.out), subst (λ x. Matches x t (seen_of i r)) (sym e) (h.0 ∙ sym o, exit_is 0 r.end h.1))
+reached_told Unaccepted out i r t o e h = inl (([], h.0 ∙ sym o ∙ end_append t.out), subst (λ x. Matches x t (seen_of i r)) (sym e) (h.0 ∙ sym o, exit_is 3 r.end h.1))
 
-finish_told : (w : Walked) (i : List ℕ) (r : Run) (t : Told) (e : machine.End) → t.out ≡ w.out → t.end ≡ end_of w.end → used i r ≡ t.used → FinishIs w r.out e → Finishes t (seen_of i r) (finish_of e)
-finish_told w i r t (Going s) o e u f = tt
-finish_told w i r t (Stopped kind s) o e u f = f
-finish_told w i r t (Exited zero s) o e u f = (f.0 ∙ sym o, u, e ∙ ap end_of f.1)
-finish_told w i r t (Exited (suc zero) s) o e u f = f
-finish_told w i r t (Exited (suc (suc zero)) s) o e u f = f
-finish_told w i r t (Exited (suc (suc (suc zero))) s) o e u f = (f.0 ∙ sym o, u, e ∙ ap end_of f.1)
-finish_told w i r t (Exited (suc (suc (suc (suc n)))) s) o e u f = f
+finish_told : (w : Walked) (i : List ℕ) (r : Run) (told : ℕ → Told) (n : ℕ) (e : machine.End) → (told n).out ≡ w.out → (told n).end ≡ end_of w.end → used i r ≡ (told n).used → FinishIs w r.out e
+    → Finishes Never Never told n (seen_of i r) (finish_of e)
+finish_told w i r told n (Going s) o e u f = tt
+finish_told w i r told n (Stopped kind s) o e u f = f
+finish_told w i r told n (Exited zero s) o e u f = (f.0 ∙ sym o, u, e ∙ ap end_of f.1)
+finish_told w i r told n (Exited (suc zero) s) o e u f = f
+finish_told w i r told n (Exited (suc (suc zero)) s) o e u f = f
+finish_told w i r told n (Exited (suc (suc (suc zero))) s) o e u f = (f.0 ∙ sym o, u, e ∙ ap end_of f.1)
+finish_told w i r told n (Exited (suc (suc (suc (suc zero)))) s) o e u f = absurd f
+finish_told w i r told n (Exited (suc (suc (suc (suc (suc zero))))) s) o e u f = absurd f
+finish_told w i r told n (Exited (suc (suc (suc (suc (suc (suc k)))))) s) o e u f = f
 
-came_told : (w : Walked) (i : List ℕ) (r : Run) (t : Told) → t.out ≡ w.out → t.end ≡ end_of w.end → t.used ≡ 0 → Came w i r → Comes t (seen_of i r)
-came_told w i r t o e u c =
+came_told : (w : Walked) (i : List ℕ) (r : Run) (told : ℕ → Told) (n : ℕ) → (told n).out ≡ w.out → (told n).end ≡ end_of w.end → (told n).used ≡ 0 → Came w i r → Comes Never Never told n (seen_of i r)
+came_told w i r told n o e u c =
     let same : length r.left ≡ length i = ap length c.left in
     let none : used i r ≡ 0 = omega arith in
-    record { output = (c.output.0, o ∙ c.output.1); used = omega arith; finish = finish_told w i r t r.end o e (none ∙ sym u) c.finish }
+    record { output = (c.output.0, o ∙ c.output.1); used = omega arith; finish = finish_told w i r told n r.end o e (none ∙ sym u) c.finish }
 
 module _ (p : Program) (plain : IsPlain p) (ok : IsSmall p plain) where
   abbrev body : Term
@@ -185,7 +189,7 @@ module _ (p : Program) (plain : IsPlain p) (ok : IsSmall p plain) where
   none_low : 0 < length (heap_of body)
   none_low = omega arith
 
-  reaches_at : (i : List ℕ) (n m : ℕ) → start_length words + (10 * n + 9) ≤ m → Reaches (told p i n) (seen (image_of (nil p) (cons p) body) i m)
+  reaches_at : (i : List ℕ) (n m : ℕ) → start_length words + (10 * n + 9) ≤ m → Reaches (of_core p i n) (seen (image_of (nil p) (cons p) body) i m)
   reaches_at i n m le =
       let k : ℕ = n - 1 in
       let x : ℕ = m - (start_length words + (10 * k + 9)) in
@@ -193,9 +197,9 @@ module _ (p : Program) (plain : IsPlain p) (ok : IsSmall p plain) where
       let here : run m i (start_of (image_of (nil p) (cons p) body)) ≡ run (10 * k + 9 + x) i at_loop = ap (λ j. run j i (start_of (image_of (nil p) (cons p) body))) (sym count) ∙ starts (10 * k + 9 + x) i in
       let shows = plain_program_shows p plain i n in
       let r = reaches code_stretch rest loop_start (nil p) (cons p) p.cons (heap_of body) loop k x 0 begun_at.regs' i none_low begun_at.ready in
-      subst (λ q. Reaches (told p i n) (seen_of i q)) (sym here) (reached_told (walked k).end (walked k).out i _ (told p i n) shows.out (ap end_of shows.end) r)
+      subst (λ q. Reaches (of_core p i n) (seen_of i q)) (sym here) (reached_told (walked k).end (walked k).out i _ (of_core p i n) shows.out (ap end_of shows.end) r)
 
-  comes_late : (i : List ℕ) (m : ℕ) → start_length words ≤ m → (n : ℕ) × Comes (told p i n) (seen (image_of (nil p) (cons p) body) i m)
+  comes_late : (i : List ℕ) (m : ℕ) → start_length words ≤ m → (n : ℕ) × Comes Never Never (of_core p i) n (seen (image_of (nil p) (cons p) body) i m)
   comes_late i m le =
       let x : ℕ = m - start_length words in
       let count : start_length words + x ≡ m = omega arith in
@@ -203,11 +207,11 @@ module _ (p : Program) (plain : IsPlain p) (ok : IsSmall p plain) where
       let c = comes code_stretch rest loop_start (nil p) (cons p) p.cons (heap_of body) loop x x 0 begun_at.regs' i (omega arith) none_low begun_at.ready in
       let shows = plain_program_shows p plain i (suc c.0) in
       let one_less : suc c.0 - 1 ≡ c.0 = omega arith in
-      let out : (told p i (suc c.0)).out ≡ (walked c.0).out = shows.out ∙ ap (λ k. (walked k).out) one_less in
-      let end : (told p i (suc c.0)).end ≡ end_of (walked c.0).end = ap end_of (shows.end ∙ ap (λ k. (walked k).end) one_less) in
-      (suc c.0, subst (λ q. Comes (told p i (suc c.0)) (seen_of i q)) (sym here) (came_told (walked c.0) i _ (told p i (suc c.0)) out end shows.used c.1))
+      let out : (of_core p i (suc c.0)).out ≡ (walked c.0).out = shows.out ∙ ap (λ k. (walked k).out) one_less in
+      let end : (of_core p i (suc c.0)).end ≡ end_of (walked c.0).end = ap end_of (shows.end ∙ ap (λ k. (walked k).end) one_less) in
+      (suc c.0, subst (λ q. Comes Never Never (of_core p i) (suc c.0) (seen_of i q)) (sym here) (came_told (walked c.0) i _ (of_core p i) (suc c.0) out end shows.used c.1))
 
-  comes_early : (i : List ℕ) (m : ℕ) → m ≤ start_length words → Comes (told p i 0) (seen (image_of (nil p) (cons p) body) i m)
+  comes_early : (i : List ℕ) (m : ℕ) → m ≤ start_length words → Comes Never Never (of_core p i) 0 (seen (image_of (nil p) (cons p) body) i m)
   comes_early i m le =
       let x : ℕ = start_length words - m in
       let count : start_length words + 0 ≡ m + x = omega arith in
@@ -216,20 +220,20 @@ module _ (p : Program) (plain : IsPlain p) (ok : IsSmall p plain) where
       let at_end : Came nothing i (run (start_length words + 0) i (start_of (image_of (nil p) (cons p) body))) =
       subst (Came nothing i) (sym (starts 0 i ∙ run_none i at_loop)) (record { output = ([], refl); left = refl; finish = tt }) in
       let earlier = early nothing m x i (start_of (image_of (nil p) (cons p) body)) (subst (λ j. Came nothing i (run j i (start_of (image_of (nil p) (cons p) body)))) count at_end) in
-      came_told nothing i _ (told p i 0) shows.out (ap end_of shows.end) shows.used earlier
+      came_told nothing i _ (of_core p i) 0 shows.out (ap end_of shows.end) shows.used earlier
 
-  pub carried : Carries (told p) (seen (image_of (nil p) (cons p) body))
+  pub carried : Carries Never Never (of_core p) (seen (image_of (nil p) (cons p) body))
   carried = record {
-    reaches = λ i n. (start_length words + (10 * n + 9), reaches_at i n (start_length words + (10 * n + 9)) (omega arith));
-    comes = λ i m. go i m (nat_lt m (start_length words)) refl;
+    reaches = λ i bytes n. (start_length words + (10 * n + 9), reaches_at i n (start_length words + (10 * n + 9)) (omega arith));
+    comes = λ i bytes m. go i m (nat_lt m (start_length words)) refl;
   }
     where
-      go : (i : List ℕ) (m : ℕ) (b : Bool) → nat_lt m (start_length words) ≡ b → (n : ℕ) × Comes (told p i n) (seen (image_of (nil p) (cons p) body) i m)
+      go : (i : List ℕ) (m : ℕ) (b : Bool) → nat_lt m (start_length words) ≡ b → (n : ℕ) × Comes Never Never (of_core p i) n (seen (image_of (nil p) (cons p) body) i m)
       go i m true e = (0, comes_early i m (let lt : m < start_length words = grind (arith, nat_tests) in omega arith))
       go i m false e = comes_late i m (grind (arith, nat_tests))
 
-  pub paced : (size : ℕ) → bindings body ≤ 2 * size → KeepsPace (2048 * (size + 8)) (told p) (seen (image_of (nil p) (cons p) body))
-  paced size few i n m le =
+  pub paced : (size : ℕ) → bindings body ≤ 2 * size → KeepsPace (2048 * (size + 8)) (of_core p) (seen (image_of (nil p) (cons p) body))
+  paced size few i bytes n m le =
       let a = heap_length (bound_values body) in
       let b = bound_length body in
       let w : ℕ = 2048 * (size + 8) in

@@ -9,6 +9,8 @@ pub mod Ranges
 pub mod Begun
 pub mod Walks
 pub mod Meaning
+pub mod Instructions
+pub mod Blocks
 pub mod Stores
 pub mod Turns
 pub mod Few

@@ -10,7 +10,7 @@ use Rattle.rv32_machine.specs.Steps.{State}
 use Rattle.rv32_steps.proofs.Moves.{at, Leads, goes, stays}
 use Rattle.rv32_steps.proofs.Fetch.{Stand, front, back}
 use Rattle.rv32_steps.proofs.Words.{word_segment, AreWords}
-use Rattle.rv32_steps.proofs.Blocks.{block, block_regs, block_words, Apart, slot, IsSlot}
+use Rattle.first_path.proofs.Blocks.{block, block_regs, block_words, Apart, slot, IsSlot}
 use Rattle.first_path.specs.Image.{heap_start, upper_part, lower_part, store_word, store_words}
 
 -- the two parts of a word give it back

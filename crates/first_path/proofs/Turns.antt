@@ -16,10 +16,10 @@ use Rattle.rv32_machine.specs.Steps.{State, set_reg}
 use Rattle.rv32_machine.specs.Runs.{Exited, stands, after, run}
 use Rattle.rv32_steps.proofs.Moves.{Leads, goes, ends as stops_at}
 use Rattle.rv32_steps.proofs.Fetch.{Holds, Stand, front, back}
-use Rattle.rv32_steps.proofs.Words.{word_segment, AreWords, lw, words_bytes, words_length}
-use Rattle.rv32_steps.proofs.Blocks.{Apart}
+use Rattle.rv32_steps.proofs.Words.{word_segment, AreWords, words_bytes, words_length, read_low_byte}
+use Rattle.first_path.proofs.Blocks.{Apart}
 use Rattle.rv32_steps.proofs.Control.{taken, not_taken, jal}
-use Rattle.rv32_steps.proofs.Instructions.{addi, write, leave}
+use Rattle.first_path.proofs.Instructions.{addi, lw, write, leave}
 use Rattle.first_path.specs.Plain.{AllOf, HasFields}
 use Rattle.first_path.specs.Carried.{IsNumber}
 use Rattle.first_path.specs.Values.{Turn, ends, fails, puts, byte_turn, list_turn}
@@ -54,14 +54,6 @@ word_of_cell (u ∷ vs) (suc a) j v e lt =
     ap (λ n. get_or (heap_words (u ∷ vs)) n 0) z
     ∙ get_or-append-add (node_words u) (heap_words vs) (13 * a + j) 0
     ∙ word_of_cell vs a j v e lt
-
--- the first byte of a word
-first_byte : (ws : List ℕ) (k : ℕ) → k < length ws → take 1 (drop (4 * k) (words_bytes ws)) ≡ (get_or ws k 0 % 256) ∷ []
-first_byte [] k lt = absurd (omega arith)
-first_byte (w ∷ ws) zero lt = refl
-first_byte (w ∷ ws) (suc k) lt =
-    let z : 4 * suc k ≡ suc (suc (suc (suc (4 * k)))) = omega arith in
-    ap (λ n. take 1 (drop n (words_bytes (w ∷ ws)))) z ∙ first_byte ws k (omega arith)
 
 low_of_pattern : (k : ℤ) → IsNumber k → pattern k % 256 ≡ low_byte k
 low_of_pattern (pos n) h = refl
@@ -240,7 +232,7 @@ module _ (c : Stretch) (rest : List Stretch) (start nil cons : ℕ) (cs : List a
         let place : address h + 4 - heap_start ≡ 4 * (13 * h + 1) = omega arith in
         let byte : take 1 (drop (address h + 4 - heap_start) (words_bytes ws)) ≡ low_byte k ∷ [] =
         ap (λ n. take 1 (drop n (words_bytes ws))) place
-        ∙ first_byte ws (13 * h + 1) (omega (arith, len))
+        ∙ read_low_byte ws (13 * h + 1) (omega (arith, len))
         ∙ ap (λ x. x % 256 ∷ []) (word_of_cell vs h 1 w there (omega arith) ∙ ap (λ w. get_or (node_words w) 1 0) is)
         ∙ ap (λ b. b ∷ []) (low_of_pattern k number) in
         let whole = goes (goes (goes (goes (goes head_read on) point) put) tail) back_to in (

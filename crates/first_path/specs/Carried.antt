@@ -1,12 +1,11 @@
--- What a program tells and what is seen of an image, and the image of a plain program.
+-- What is seen of an image, and the image of a plain program.
 use Rattle.std.specs.Prelude.{ℕ, ◌+◌, ◌*◌, ◌^◌, ◌<◌, ◌≤◌, ℤ, pos, negsuc, true, false, List, [], ◌∷◌, length}
 use Rattle.arity_check.specs.Program.{Program, Term}
 use Rattle.core_meaning.specs.Heap.{Value, Int, Con, Part}
 use Rattle.core_meaning.specs.Evaluation.{nil, cons}
-use Rattle.core_meaning.specs.Printing as core
-use Rattle.core_meaning.specs.Printing.{Done, Unaccepted, printed}
+use Rattle.core_meaning.specs.Told.{of_core}
 use Rattle.elf32.specs.Image.{Image}
-use Rattle.headline.specs.Carries.{End, going, done, no_alternative, Meaning, Finish, runs, exits, traps, Machine, Carries, KeepsPace}
+use Rattle.headline.specs.Carries.{Told, Finish, runs, exits, traps, Machine, Carries, KeepsPace}
 use Rattle.rv32_machine.specs.Steps.{start_of}
 use Rattle.rv32_machine.specs.Runs as machine
 use Rattle.rv32_machine.specs.Runs.{Going, Exited, Stopped, run, used}
@@ -14,15 +13,6 @@ use Rattle.rv32_steps.specs.Code.{code_bytes}
 use Rattle.first_path.specs.Plain.{AllOf, IsPlain, bindings}
 use Rattle.first_path.specs.Values.{heap_of}
 use Rattle.first_path.specs.Image.{heap_start, heap_words, code_of}
-
-abbrev pub end_of : core.End → End
-end_of core.Going = going
-end_of Done = done
-end_of Unaccepted = no_alternative
-
--- what call-by-need evaluation tells of a program
-abbrev pub told : Program → Meaning
-told p i n = let r = printed p i n in record { out = r.out; end = end_of r.end; cells = r.cells; depth = r.depth; used = r.used }
 
 abbrev pub finish_of : machine.End → Finish
 finish_of (Going s) = runs
@@ -64,8 +54,12 @@ pub record IsSmall (p : Program) (plain : IsPlain p) : Type 0 where
   pub constructors : length p.cons ≤ 1024
   pub bindings : bindings plain.fun.body ≤ 32768
 
+-- a plain program is given all the room that it needs
+abbrev pub Never : Told → Type 0
+Never t = ⊥
+
 -- the image of a plain program carries it, and keeps pace with it
 abbrev pub PlainProgramsAreCarried : Type 0
 PlainProgramsAreCarried =
     (p : Program) (plain : IsPlain p) → IsSmall p plain → (size : ℕ) → bindings plain.fun.body ≤ 2 * size
-    → let b = image_of (nil p) (cons p) plain.fun.body in Carries (told p) (seen b) × KeepsPace (2048 * (size + 8)) (told p) (seen b)
+    → let b = image_of (nil p) (cons p) plain.fun.body in Carries Never Never (of_core p) (seen b) × KeepsPace (2048 * (size + 8)) (of_core p) (seen b)

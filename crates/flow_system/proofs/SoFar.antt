@@ -2,6 +2,7 @@
 use Rattle.std.proofs.Common.{◌≡◌, ℕ, zero, suc, ◌+◌, ◌<◌, ◌≤◌, Bool, true, false, ◌||◌, List, [], ◌∷◌, ◌++◌, map, take, length, get_or, append_assoc, refl, sym, ap, ◌∙◌, subst, arith}
 use Rattle.std.specs.Prelude.{slice_get}
 use Rattle.std.specs.Option.{option_map}
+use Rattle.std.proofs.lemmas.List.{take_all}
 use Rattle.grin_syntax.specs.declared.program.Stmt.{Stmt}
 use Rattle.grin_syntax.specs.declared.program.Alt.{Alt}
 use Rattle.grin_syntax.specs.declared.program.Val.{Val}
@@ -13,25 +14,13 @@ use Rattle.grin_syntax.specs.declared.program.Target.{Target}
 use Rattle.grin_syntax.specs.declared.program.Op.{Op}
 use Rattle.grin_syntax.specs.declared.program.Stmt.TheVariants.{Store, Bind}
 use Rattle.grin_syntax.proofs.TreeOf.{before_of-Store, before_of-Bind, code_of-parts, arm_of-parts, act_of-Case}
-use Rattle.std.proofs.Math.Seq.{take-suc}
+use Rattle.grin_syntax.proofs.Pieces.{take_next, all_before_push}
 use Rattle.grin_syntax.specs.declared.program.Cell.{Cell}
 use Rattle.grin_syntax.specs.declared.program.Proc.{Proc}
 use Rattle.grin_syntax.specs.declared.program.GlobalCell.{GlobalCell}
 use Rattle.grin_syntax.specs.Tree.{Program, Procedure, procedure_of}
 use Rattle.flow_system.specs.Inclusions.{Inclusion, Sink, to, into, result}
 use Rattle.flow_system.specs.System.{act_evals, code_evals, arms_eval, procs_eval, cells_flow, shape_flows, act_flows, code_flows, arms_flow, globals_flow, procs_flow}
-
-pub take_next : {X : Type 0} (xs : List X) (i : ℕ) (x : X) → i < length xs → x ≡ get_or xs i x → take (i + 1) xs ≡ take i xs ++ x ∷ []
-take_next xs i x h e =
-    let f : take (suc i) xs ≡ take i xs ++ get_or xs i x ∷ [] = take-suc xs i x h in
-    let q : suc i ≡ i + 1 = omega arith in
-    subst (λ n. take n xs ≡ take i xs ++ x ∷ []) q (f ∙ ap (λ y. take i xs ++ y ∷ []) (sym e))
-
-pub take_all : {X : Type 0} (xs : List X) (i : ℕ) → length xs ≤ i → take i xs ≡ xs
-take_all [] zero h = refl
-take_all [] (suc i) h = refl
-take_all (x ∷ xs) zero h = absurd (omega arith)
-take_all (x ∷ xs) (suc i) h = ap (λ l. x ∷ l) (take_all xs i (omega arith))
 
 pub record EvalsSoFar (ss : List Stmt) (found : Bool) : Type 0 where
   pub by : (c : Code) → code_evals (all_before (map before_of ss) c) ≡ (found || code_evals c)
@@ -53,16 +42,12 @@ or_false : (a : Bool) → (a || false) ≡ a
 or_false true = refl
 or_false false = refl
 
-pub before_snoc : (ss : List Stmt) (s : Stmt) (c : Code) → all_before (map before_of (ss ++ s ∷ [])) c ≡ all_before (map before_of ss) (before_of s c)
-before_snoc [] s c = refl
-before_snoc (x ∷ ss) s c = ap (before_of x) (before_snoc ss s c)
-
 pub arms_snoc : (as' : List Alt) (a : Alt) (rest : List (Shape × Code)) → map arm_of (as' ++ a ∷ []) ++ rest ≡ map arm_of as' ++ (arm_of a ∷ rest)
 arms_snoc [] a rest = refl
 arms_snoc (x ∷ as') a rest = ap (λ l. arm_of x ∷ l) (arms_snoc as' a rest)
 
 pub statement_more : (ss : List Stmt) (s : Stmt) (found here : Bool) → EvalsSoFar ss found → ((c : Code) → code_evals (before_of s c) ≡ (here || code_evals c)) → EvalsSoFar (ss ++ s ∷ []) (found || here)
-statement_more ss s found here f h = record { by = λ c. ap code_evals (before_snoc ss s c) ∙ f.by (before_of s c) ∙ ap (λ b. found || b) (h c) ∙ or_assoc found here (code_evals c) }
+statement_more ss s found here f h = record { by = λ c. ap code_evals (all_before_push ss s c) ∙ f.by (before_of s c) ∙ ap (λ b. found || b) (h c) ∙ or_assoc found here (code_evals c) }
 
 pub alternative_more : (as' : List Alt) (a : Alt) (found here : Bool) → ArmsEvalSoFar as' found → here ≡ code_evals (code_of a.body) → ArmsEvalSoFar (as' ++ a ∷ []) (found || here)
 unfolding act_evals
@@ -92,7 +77,7 @@ pub alternative_next : (as' : List Alt) (i : ℕ) (a : Alt) (found here both : B
 alternative_next as' i a found here both lt e b f h = rw (take_next as' i a lt e, b) (alternative_more (take i as') a found here f h)
 
 pub block_done : (b : Block) (i : ℕ) (found here both : Bool) → length b.stmts ≤ i → EvalsSoFar (take i b.stmts) found → here ≡ act_evals (act_of b.last.value) → both ≡ (found || here) → both ≡ code_evals (code_of b)
-block_done b i found here both le f h e = e ∙ block_evals b found here (subst (λ ss. EvalsSoFar ss found) (take_all b.stmts i le) f) h
+block_done b i found here both le f h e = e ∙ block_evals b found here (subst (λ ss. EvalsSoFar ss found) (take_all i b.stmts le) f) h
 
 append_nil : {X : Type 0} (l : List X) → l ++ [] ≡ l
 append_nil [] = refl
@@ -101,7 +86,7 @@ append_nil (x ∷ l) = ap (λ k. x ∷ k) (append_nil l)
 pub alternatives_done : (as' : List Alt) (i : ℕ) (found : Bool) → length as' ≤ i → ArmsEvalSoFar (take i as') found → found ≡ arms_eval (arms_of (map arm_of as'))
 unfolding act_evals
 alternatives_done as' i found le f =
-    let g : ArmsEvalSoFar as' found = subst (λ l. ArmsEvalSoFar l found) (take_all as' i le) f in
+    let g : ArmsEvalSoFar as' found = subst (λ l. ArmsEvalSoFar l found) (take_all i as' le) f in
     sym (or_false found) ∙ sym (g.by []) ∙ ap (λ l. arms_eval (arms_of l)) (append_nil (map arm_of as'))
 
 -- procedures
@@ -122,7 +107,7 @@ proc_next ps i q found here both lt e b f h = rw (take_next ps i q lt e, b) (rec
 
 pub procs_done : (ps : List Proc) (i : ℕ) (found : Bool) → length ps ≤ i → ProcsEvalSoFar (take i ps) found → found ≡ procs_eval (map procedure_of ps)
 procs_done ps i found le f =
-    let g : ProcsEvalSoFar ps found = subst (λ l. ProcsEvalSoFar l found) (take_all ps i le) f in
+    let g : ProcsEvalSoFar ps found = subst (λ l. ProcsEvalSoFar l found) (take_all i ps le) f in
     sym (or_false found) ∙ sym (g.by []) ∙ ap procs_eval (append_nil (map procedure_of ps))
 
 -- inclusions, from those that were there
@@ -146,12 +131,12 @@ no_cells_flow p old = record { by = λ rest. refl }
 
 pub flows_next : (p : Program) (k : Sink) (old new newer : List Inclusion) (ss : List Stmt) (i : ℕ) (s : Stmt) → i < length ss → s ≡ get_or ss i s → FlowsSoFar p k old new (take i ss)
     → ((c : Code) → new ++ code_flows p k (before_of s c) ≡ newer ++ code_flows p k c) → FlowsSoFar p k old newer (take (i + 1) ss)
-flows_next p k old new newer ss i s lt e f h = rw (take_next ss i s lt e) (record { by = λ c. ap (λ b. old ++ code_flows p k b) (before_snoc (take i ss) s c) ∙ f.by (before_of s c) ∙ h c })
+flows_next p k old new newer ss i s lt e f h = rw (take_next ss i s lt e) (record { by = λ c. ap (λ b. old ++ code_flows p k b) (all_before_push (take i ss) s c) ∙ f.by (before_of s c) ∙ h c })
 
 pub flows_done : (p : Program) (k : Sink) (old new last : List Inclusion) (b : Block) (i : ℕ) → length b.stmts ≤ i → FlowsSoFar p k old new (take i b.stmts) → last ≡ new ++ act_flows p k (act_of b.last.value) → last ≡ old ++ code_flows p k (code_of b)
 unfolding act_flows
 flows_done p k old new last b i le f h =
-    let g : FlowsSoFar p k old new b.stmts = subst (FlowsSoFar p k old new) (take_all b.stmts i le) f in
+    let g : FlowsSoFar p k old new b.stmts = subst (FlowsSoFar p k old new) (take_all i b.stmts le) f in
     h ∙ sym (g.by (end (act_of b.last.value))) ∙ ap (λ c. old ++ code_flows p k c) (sym (code_of-parts b))
 
 pub arms_flow_next : (p : Program) (k : Sink) (v : Val) (old new one newer : List Inclusion) (as' : List Alt) (i : ℕ) (a : Alt) → i < length as' → a ≡ get_or as' i a → ArmsFlowSoFar p k v old new (take i as')
@@ -166,12 +151,12 @@ arms_flow_next p k v old new one newer as' i a lt e f h h' = rw (take_next as' i
 pub arms_flow_done : (p : Program) (k : Sink) (v : Val) (old new : List Inclusion) (as' : List Alt) (i : ℕ) → length as' ≤ i → ArmsFlowSoFar p k v old new (take i as') → new ≡ old ++ arms_flow p k v (arms_of (map arm_of as'))
 unfolding act_flows
 arms_flow_done p k v old new as' i le f =
-    let g : ArmsFlowSoFar p k v old new as' = subst (ArmsFlowSoFar p k v old new) (take_all as' i le) f in
+    let g : ArmsFlowSoFar p k v old new as' = subst (ArmsFlowSoFar p k v old new) (take_all i as' le) f in
     sym (append_nil new) ∙ sym (g.by []) ∙ ap (λ l. old ++ arms_flow p k v (arms_of l)) (append_nil (map arm_of as'))
 
 pub cells_done : (p : Program) (old new : List Inclusion) (cs : List Cell) (i : ℕ) → length cs ≤ i → CellsFlowSoFar p old new (take i cs) → new ≡ old ++ cells_flow p cs
 cells_done p old new cs i le f =
-    let g : CellsFlowSoFar p old new cs = subst (CellsFlowSoFar p old new) (take_all cs i le) f in
+    let g : CellsFlowSoFar p old new cs = subst (CellsFlowSoFar p old new) (take_all i cs le) f in
     sym (append_nil new) ∙ sym (g.by []) ∙ ap (λ l. old ++ cells_flow p l) (append_nil cs)
 
 pub store_flows : (p : Program) (k : Sink) (old new : List Inclusion) (s : Stmt) (cs : List Cell) → s ≡ Store cs → new ≡ old ++ cells_flow p cs → (c : Code) → old ++ code_flows p k (before_of s c) ≡ new ++ code_flows p k c
@@ -192,7 +177,7 @@ pub record ProcsFlowSoFar (p : Program) (old new : List Inclusion) (ps : List Pr
 
 pub globals_done : (p : Program) (old new : List Inclusion) (cs : List GlobalCell) (i : ℕ) → length cs ≤ i → GlobalsFlowSoFar p old new (take i cs) → new ≡ old ++ globals_flow p cs
 globals_done p old new cs i le f =
-    let g : GlobalsFlowSoFar p old new cs = subst (GlobalsFlowSoFar p old new) (take_all cs i le) f in
+    let g : GlobalsFlowSoFar p old new cs = subst (GlobalsFlowSoFar p old new) (take_all i cs le) f in
     sym (append_nil new) ∙ sym (g.by []) ∙ ap (λ l. old ++ globals_flow p l) (append_nil cs)
 
 pub procs_flow_next : (p : Program) (old new newer : List Inclusion) (ps : List Proc) (i : ℕ) (q : Proc) → i < length ps → q ≡ get_or ps i q → ProcsFlowSoFar p old new (take i ps) i
@@ -206,7 +191,7 @@ procs_flow_next p old new newer ps i q lt e f h =
 
 pub procs_flow_done : (p : Program) (old new : List Inclusion) (ps : List Proc) (i n : ℕ) → length ps ≤ i → ProcsFlowSoFar p old new (take i ps) n → new ≡ old ++ procs_flow p 0 (map procedure_of ps)
 procs_flow_done p old new ps i n le f =
-    let g : ProcsFlowSoFar p old new ps n = subst (λ l. ProcsFlowSoFar p old new l n) (take_all ps i le) f in
+    let g : ProcsFlowSoFar p old new ps n = subst (λ l. ProcsFlowSoFar p old new l n) (take_all i ps le) f in
     sym (append_nil new) ∙ sym (g.by []) ∙ ap (λ l. old ++ procs_flow p 0 l) (append_nil (map procedure_of ps))
 
 -- the parameters of a procedure, through both maps

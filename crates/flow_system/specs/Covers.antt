@@ -2,6 +2,7 @@
 use Rattle.std.specs.Prelude.{◌≡◌, ℕ, suc, List, [], ◌∷◌, length, Option, Some, IfSome, slice_get}
 use Rattle.grin_syntax.specs.declared.program.GlobalCell.{GlobalCell}
 use Rattle.grin_syntax.specs.Tree.{Program}
+use Rattle.grin_syntax.specs.Formed.{Formed}
 use Rattle.grin_meaning.specs.Values.{Datum, number, tag as tag', cell, Node, Value, node, words, HeapCell, State, and_then, fields_of}
 use Rattle.grin_meaning.specs.Run.{run}
 use Rattle.grin_meaning.specs.Keeps.{world_of}
@@ -50,6 +51,9 @@ pub record Lies (p : Program) (A : Solution) (s : State) : Type 0 where
 pub record Started (p : Program) : Type 0 where
   pub no_fields : (i : ℕ) → IfSome (slice_get p.globals i) (λ c. fields_of p c.tag.0 ≡ Some 0)
   pub argument_there : IfSome p.argument (λ i. (c : GlobalCell) × (slice_get p.globals i ≡ Some c))
+
+abbrev pub FormedProgramsAreStarted : Type 0
+FormedProgramsAreStarted = (p : Program) → Formed p → Started p
 
 -- every state that a run of the program passes through lies in the solution, and so does the heap at its end
 pub record Covers (p : Program) (A : Solution) : Type 0 where

@@ -3,7 +3,5 @@ pub mod Tables
 pub mod System
 pub mod Solution
 pub mod Covers
-pub mod Size
-pub mod Inlining
 pub mod Shown
 pub mod Demands

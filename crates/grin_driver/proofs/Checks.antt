@@ -1,15 +1,12 @@
 -- What a sink took of the line of a text that was checked.
-use Rattle.std.proofs.Common.{◌≡◌, ℕ, ◌<◌, Bool, true, false, List, [], ◌++◌, length, map, take, drop, Option, Some, sym, subst, append-nil, append_assoc, codes, decimal}
-use Rattle.std.specs.Prelude.{IfSome}
-use Rattle.std.proofs.lemmas.List.{take-append-drop, length-map}
+use Rattle.std.proofs.Common.{◌≡◌, ℕ, ◌<◌, List, ◌++◌, length, map, sym, subst, append_assoc, codes, decimal}
+use Rattle.std.proofs.lemmas.List.{length-map}
 use Rattle.arity_check.specs.Program.{function, program}
-use Rattle.grin_io.specs.Causes.{Rose}
-use Rattle.rv32_machine.specs.Runs.{none, more, TookAll}
+use Rattle.grin_io.specs.Changes.{SinkChange}
 use Rattle.grin_driver.specs.declared.accept.Accepted.{Accepted}
 use Rattle.grin_driver.specs.declared.status.Status.{Status}
 use Rattle.grin_driver.specs.declared.status.Status.TheVariants.{Done, Refused, OutOfMemory, WriteFault}
 use Rattle.grin_driver.specs.Text.{IsAcceptedAs}
-use Rattle.grin_driver.specs.Putting.{Broke}
 use Rattle.grin_driver.specs.Checking.{summary, OfSummary, Checks}
 use Rattle.grin_driver.proofs.Texts.{refused_long, accepted_short}
 
@@ -25,23 +22,6 @@ line_is functions constructors size first second third whole e f g h =
         → whole ≡ a ++ (x ++ (b ++ (y ++ (c ++ (z ++ d)))))
     joined a x b y c z d first second third whole e f g h = simp (h, g, f, e, append_assoc)
 
--- a put that was taken, and one that failed
-module _ {K : Type 0} (gives : K → List ℕ → Bool → K → Type 0) (taken : K → Option (List ℕ)) (faults : K → ℕ) (old new : K) (piece : List ℕ) where
-  pub put_all : gives old piece true new → IfSome (taken old) (λ before. taken new ≡ Some (before ++ piece)) → TookAll gives taken old new piece
-  put_all gave takes = record {
-    content = λ before e. subst (λ o. IfSome o (λ before. taken new ≡ Some (before ++ piece))) e takes;
-    puts = more none gave;
-  }
-
-  pub put_part : Rose (faults old) (faults new) → gives old piece false new → IfSome (taken old) (λ before. (k : ℕ) × (taken new ≡ Some (before ++ take k piece))) → Broke gives taken faults old new piece
-  put_part rose gave takes = record {
-    rose = rose;
-    part = λ before e.
-        let h = subst (λ o. IfSome o (λ before. (k : ℕ) × (taken new ≡ Some (before ++ take k piece)))) e takes in
-        (take h.0 piece, (drop h.0 piece, take-append-drop h.0 piece, h.1));
-    puts = record { bytes = []; piece = piece; rest = []; last = old; due_is = append-nil piece; puts = none; refused = gave };
-  }
-
 -- what holds of the line that was put holds of the line of the text
 pub of_summary : (text : List ℕ) (kept : Accepted) (Holds : List ℕ → Type 0) → IsAcceptedAs text kept
     → Holds (summary (length kept.program.funs) (length kept.program.cons) kept.size) → OfSummary text Holds
@@ -52,9 +32,9 @@ of_summary text kept Holds h holds =
 
 -- ---- texts that are too long
 
-module _ {K : Type 0} (gives : K → List ℕ → Bool → K → Type 0) (taken : K → Option (List ℕ)) (faults : K → ℕ) (old new : K) where
+module _ {K : Type 0} (o : SinkChange K) where
   pub checks_long : (front text : List ℕ) → 1048576 < length front → 1048576 < length text → (status : Status)
-      → Checks gives taken faults old new front status → Checks gives taken faults old new text status
+      → Checks o front status → Checks o text status
   checks_long front text short long (Refused k at) h = (refused_long front text short long k at h.0, h.1)
   checks_long front text short long OutOfMemory h = h
   checks_long front text short long Done h = accepted_short front h.0 h.1.0 short h.1.1

@@ -1,12 +1,13 @@
 -- The runs of executables.
-use Rattle.std.proofs.Common.{◌≡◌, ℕ, ◌<◌, Bool, false, List, length, Option, refl, subst, arith}
+use Rattle.std.proofs.Common.{◌≡◌, ℕ, ◌<◌, false, List, length, refl, subst, arith}
 use Rattle.elf32.specs.Image.{Image}
 use Rattle.elf32.specs.Rules.{Breaks, KeepsBelow, rule}
 use Rattle.elf32.specs.declared.refusal.ElfRefusal.{ElfRefusal}
 use Rattle.elf32.specs.declared.refusal.ElfRefusal.TheVariants.{ImageTooLong, Memory}
+use Rattle.grin_io.specs.Changes.{Told, SourceChange, SinkChange, Broke, Raised}
 use Rattle.grin_io.specs.declared.outside.Fault.{Fault}
 use Rattle.rv32_machine.specs.Steps.{Stand, IsAt, start_of, state_of}
-use Rattle.rv32_machine.specs.Runs.{run, Told, TookPart, Broke, Raised}
+use Rattle.rv32_machine.specs.Runs.{pieces}
 use Rattle.grin_driver.specs.declared.status.Status.{Status}
 use Rattle.grin_driver.specs.declared.status.Status.TheVariants.{Refused, OutOfMemory}
 use Rattle.grin_driver.specs.Execution.{IsUnloadable, number_of, Fails, Execution}
@@ -32,20 +33,16 @@ unloadable_long front bytes short long k at u = go u.refusal u.broken u.smallest
 
 -- ---- the statuses
 
-module _ {I K : Type 0} (left : I → Option (List ℕ)) (read_faults : I → ℕ) (from from' : I) (gives : K → List ℕ → Bool → K → Type 0) (taken : K → Option (List ℕ)) (faults : K → ℕ) (old new : K) where
+module _ {I K : Type 0} (i : SourceChange I) (o : SinkChange K) where
   pub failed : (program : Image) (m : Stand) (steps : ℕ) (fault : Fault) → IsAt m (start_of program) false false
-      → Raised fault (read_faults from) (read_faults from') (faults old) (faults new)
-      → Told (left from) (λ i. TookPart taken old new (run steps i (state_of m)).out)
-      → Told (left from) (λ i. Broke fault gives old new (run steps i (state_of m)).out)
-      → Fails left read_faults from from' gives taken faults old new program steps fault
-  failed program m steps fault begins raised part puts = record {
+      → Raised fault i o → Told (i.left i.old) (λ bytes. Broke fault o (pieces steps bytes (state_of m))) → Fails i o program steps fault
+  failed program m steps fault begins raised puts = record {
     raised = raised;
-    part = λ i e. subst (λ s. TookPart taken old new (run steps i s).out) begins.0 (part i e);
-    puts = λ i e. subst (λ s. Broke fault gives old new (run steps i s).out) begins.0 (puts i e);
+    puts = λ bytes e. subst (λ s. Broke fault o (pieces steps bytes s)) begins.0 (puts bytes e);
   }
 
   pub execution_long : (front bytes : List ℕ) (steps : ℕ) → 1342177280 < length front → 1342177280 < length bytes → (status : Status)
-      → Execution left read_faults from from' gives taken faults old new front steps status → Execution left read_faults from from' gives taken faults old new bytes steps status
+      → Execution i o front steps status → Execution i o bytes steps status
   execution_long front bytes steps short long (Refused k at) h = (unloadable_long front bytes short long k at h.0, h.1)
   execution_long front bytes steps short long OutOfMemory h = h
   execution_long front bytes steps short long _ h = absurd (h.1.unbroken ImageTooLong (omega arith) short)

@@ -1,13 +1,17 @@
 -- The bytes of a file, piece by piece.
-use Rattle.std.proofs.Common.{◌≡◌, ℕ, ◌+◌, ◌-◌, ◌<◌, ◌≤◌, Bool, true, false, List, [], ◌++◌, length, take, drop, nat_lt, Option, Some, None, refl, sym, ap, ◌∙◌, subst, arith, length-drop}
+use Rattle.std.proofs.Common.{◌≡◌, ℕ, ◌+◌, ◌-◌, ◌<◌, ◌≤◌, min, Bool, true, false, List, [], ◌++◌, length, take, drop, nat_lt, Option, Some, None, refl, sym, ap, ◌∙◌, subst, arith, length-drop}
 use Rattle.std.specs.Prelude.{IfSome, IsSome, unwrap_or}
 use Rattle.std.proofs.Math.Seq.{take-add, take-append_seam}
-use Rattle.std.proofs.lemmas.List.{length-take-le, take_all}
+use Rattle.std.proofs.lemmas.List.{length-take, length-take-le, take_all}
 use mathlib.Core.Logic.{◌⊎◌, inl, inr}
 use Rattle.std.proofs.lemmas.Bool.{ltb-true, ltb-false}
 use Rattle.std.proofs.lemmas.Option.{same_Some}
+use Rattle.grin_io.specs.Causes.{Rose}
 use Rattle.grin_io.specs.Content.{Files, Fills, file_named, rest_of, moved_on}
-use Rattle.grin_driver.specs.Reading.{IsBehind, Goes, Reading, ReadsOn, IsRead}
+use Rattle.grin_io.specs.Changes.{ShelfChange, of_shelf}
+use Rattle.grin_driver.specs.declared.status.Status.{Status}
+use Rattle.grin_driver.specs.declared.status.Status.TheVariants.{OutOfMemory, ReadFault}
+use Rattle.grin_driver.specs.Reading.{IsBehind, Goes, Reading, ReadsOn, IsRead, open_behind, Stay, IsUnread}
 use Rattle.grin_driver.specs.Answer.{OfFile}
 
 -- the bytes at a buffer's front
@@ -116,23 +120,66 @@ reading_on first before now file text text' more reading on = λ old e.
     let s = on r.0 r.1 file r.3 in
     (s.0, s.1, s.2 ∙ r.2, s.3)
 
-pub read_full : (most : ℕ) (first now : Option Files) (file text : List ℕ) → Reading first now file text → length text ≡ most → IsRead most first file text
-read_full most first now file text reading full = record {
-  front = λ old e.
-      let r = reading old e in
-      (r.3.bytes, subst (λ n. file_named file n ≡ Some r.3.bytes) r.2 r.3.named, r.3.front ∙ ap (λ n. take n r.3.bytes) full);
-  short = omega (arith, full);
-}
+-- the files, with the one that is open
+behind_is : (files new : Files) (file text : List ℕ) → new.named ≡ files.named → IsBehind new file text → new ≡ open_behind files file (length text)
+behind_is files new file text named behind = λ i. record { named = named i; opened = behind.opened i }
 
-pub read_ended : (most : ℕ) (first before now : Option Files) (file text text' : List ℕ) (more : Bool) → Reading first before file text → ReadsOn before now text text' more → more ≡ false → length text' ≤ most → IsRead most first file text'
-read_ended most first before now file text text' more reading goes ended short = record {
-  front = λ old e.
-      let r = reading old e in
-      let on : ReadsOn before now text text' false = subst (λ b. ReadsOn before now text text' b) ended goes in
-      let s = on r.0 r.1 file r.3 in
-      (text', subst (λ n. file_named file n ≡ Some text') (s.2 ∙ r.2) s.4, sym (take_all most text' short));
-  short = short;
-}
+module _ {F : Type 0} (content : F → Option Files) (faults : F → ℕ) (old new : F) (most : ℕ) (file text : List ℕ) where
+  pub read_full : Reading (content old) (content new) file text → length text ≡ most → IsRead (of_shelf content faults old new) most file text
+  read_full reading full = record {
+    front = λ files e.
+        let r = reading files e in (
+          r.3.bytes,
+          subst (λ n. file_named file n ≡ Some r.3.bytes) r.2 r.3.named,
+          r.3.front ∙ ap (λ n. take n r.3.bytes) full,
+          r.1 ∙ ap Some (behind_is files r.0 file text r.2 r.3),
+        );
+    short = omega (arith, full);
+  }
+
+  pub read_ended : (before : Option Files) (text' : List ℕ) (more : Bool) → Reading (content old) before file text' → ReadsOn before (content new) text' text more → more ≡ false → length text ≤ most → IsRead (of_shelf content faults old new) most file text
+  read_ended before text' more reading goes ended short = record {
+    front = λ files e.
+        let r = reading files e in
+        let on : ReadsOn before (content new) text' text false = subst (λ b. ReadsOn before (content new) text' text b) ended goes in
+        let s = on r.0 r.1 file r.3 in (
+          text,
+          subst (λ n. file_named file n ≡ Some text) (s.2 ∙ r.2) s.4,
+          sym (take_all most text short),
+          s.1 ∙ ap Some (behind_is files s.0 file text (s.2 ∙ r.2) s.3),
+        );
+    short = short;
+  }
+
+-- ---- files that stay
+
+pub stay_same : (before now : Option Files) → IfSome before (λ old. now ≡ Some old) → Stay before now
+stay_same None now h old e = cc
+stay_same (Some files) now h old e = let same : files ≡ old = same_Some files old e in (files, h, ap (λ f. f.named) same)
+
+pub stay_moved : (before now : Option Files) (opened : Files → Option (List ℕ × ℕ)) → IfSome before (λ old. now ≡ Some (record { named = old.named; opened = opened old })) → Stay before now
+stay_moved None now opened h old e = cc
+stay_moved (Some files) now opened h old e =
+    let same : files ≡ old = same_Some files old e in (record { named = files.named; opened = opened files }, h, ap (λ f. f.named) same)
+
+pub stay_behind : (before now : Option Files) (file text : List ℕ) → Reading before now file text → Stay before now
+stay_behind before now file text reading old e = let r = reading old e in (r.0, r.1, r.2)
+
+stay_join : (first before now : Option Files) → Stay first before → Stay before now → Stay first now
+stay_join first before now s t old e =
+    let r = s old e in
+    let q = t r.0 r.1 in
+    (q.0, q.1, q.2 ∙ r.2)
+
+rises : (a b c : ℕ) → a ≤ b → Rose b c → Rose a c
+rises a b c later rose = omega (arith, later, rose)
+
+-- files that stayed, and were then not read on
+pub unread_on : {F : Type 0} (content : F → Option Files) (faults : F → ℕ) (old mid new : F) (status : Status) → Stay (content old) (content mid) → faults old ≤ faults mid
+    → IsUnread (of_shelf content faults mid new) status → IsUnread (of_shelf content faults old new) status
+unread_on content faults old mid new ReadFault stay later h = (rises (faults old) (faults mid) (faults new) later h.0, stay_join (content old) (content mid) (content new) stay h.1)
+unread_on content faults old mid new OutOfMemory stay later h = stay_join (content old) (content mid) (content new) stay h
+unread_on content faults old mid new _ stay later h = absurd h
 
 -- ---- what was read of a file
 
@@ -144,10 +191,10 @@ le_or_lt a b = go (nat_lt b a) refl
     go false e = inl (ltb-false b a e)
 
 -- what holds of the bytes that were read holds of the file, if it does so where the file has more than the most that are read
-pub of_file : (most : ℕ) (content : Option Files) (file front : List ℕ) (outcome : List ℕ → Type 0)
+pub of_file : {F : Type 0} (f : ShelfChange F) (most : ℕ) (file front : List ℕ) (outcome : List ℕ → Type 0)
     → ((bytes : List ℕ) → length front ≡ most → most < length bytes → outcome front → outcome bytes)
-    → IsRead most content file front → outcome front → OfFile content file outcome
-of_file most content file front outcome longer read h = go content refl
+    → IsRead f most file front → outcome front → OfFile f most file outcome
+of_file f most file front outcome longer read h = go (f.content f.old) refl
   where
     by : (bytes : List ℕ) → front ≡ take most bytes → (length bytes ≤ most) ⊎ (most < length bytes) → outcome bytes
     by bytes is (inl short) = subst outcome (is ∙ take_all most bytes short) h
@@ -155,11 +202,19 @@ of_file most content file front outcome longer read h = go content refl
         let within : most ≤ length bytes = omega (arith, long) in
         longer bytes (ap length is ∙ length-take-le most bytes within) long h
 
-    go : (c : Option Files) → content ≡ c → OfFile content file outcome
+    place_is : (bytes : List ℕ) → front ≡ take most bytes → length front ≡ min (length bytes) most
+    place_is bytes is = omega (arith, ap length is, length-take most bytes)
+
+    go : (c : Option Files) → f.content f.old ≡ c → OfFile f most file outcome
     go None is = (front, (λ files e. let c : None ≡ Some files = sym is ∙ e in absurd cc), h)
     go (Some files) is =
         let r = read.front files is in (
           r.0,
-          (λ files' e. let c : Some files ≡ Some files' = sym is ∙ e in subst (λ f. file_named file f.named ≡ Some r.0) (same_Some files files' c) r.1),
+          (λ files' e.
+              let c : Some files ≡ Some files' = sym is ∙ e in
+              let same : files ≡ files' = same_Some files files' c in (
+                subst (λ q. file_named file q.named ≡ Some r.0) same r.1,
+                r.3 ∙ ap (λ q. Some (open_behind q file (length front))) same ∙ ap (λ n. Some (open_behind files' file n)) (place_is r.0 r.2),
+              )),
           by r.0 r.2 (le_or_lt (length r.0) most),
         )

@@ -1,23 +1,17 @@
 -- Listings of texts.
-use Rattle.std.proofs.Common.{ℕ, ◌<◌, Bool, List, length, Option}
+use Rattle.std.proofs.Common.{ℕ, ◌<◌, List, length}
 use mathlib.Core.Logic.{inl, inr}
-use Rattle.core_reader.specs.Tree as tree
 use Rattle.core_reader.specs.Text.{TextTooLong}
-use Rattle.arity_check.specs.Program.{Program}
 use Rattle.command_line.specs.declared.command.Listing.{Listing}
 use Rattle.command_line.specs.declared.command.Listing.TheVariants as listing
 use Rattle.grin_opt.specs.declared.pass.PassName.{PassName}
 use Rattle.grin_opt.specs.declared.pass.PassName.TheVariants.{Translate, Eval, Apply}
-use Rattle.grin_stages.specs.Stage.{IsChecked}
+use Rattle.grin_io.specs.Changes.{SinkChange}
 use Rattle.grin_driver.specs.declared.status.Status.{Status}
 use Rattle.grin_driver.specs.declared.status.Status.TheVariants.{Done, Refused, OutOfMemory, WriteFault}
-use Rattle.grin_driver.specs.Text.{IsAccepted, IsUnaccepted}
+use Rattle.grin_driver.specs.Text.{IsUnaccepted}
 use Rattle.grin_driver.specs.Listing.{IsNotListed, IsUnlisted, Lists, ListsAfter, Prints}
 use Rattle.grin_driver.proofs.Texts.{refused_long, unread_long, accepted_short}
-
--- the normal form of an accepted text is that of a program that was read
-pub accepted_is_checked : (text : List ℕ) (source : tree.Program) (p : Program) → IsAccepted text source p → IsChecked p
-accepted_is_checked text source p a = record { source = source; readable = a.readable; unbroken = a.unbroken; normal = a.normal }
 
 -- a text that is not accepted is not listed
 pub not_listed : (text : List ℕ) (after : PassName) (status : Status) → IsUnaccepted text status → IsUnlisted text after status
@@ -27,26 +21,26 @@ not_listed text after _ h = absurd h
 
 -- ---- texts that are too long
 
-module _ {K : Type 0} (gives : K → List ℕ → Bool → K → Type 0) (taken : K → Option (List ℕ)) (faults : K → ℕ) (old new : K) (front text : List ℕ) (short : 1048576 < length front) (long : 1048576 < length text) where
+module _ {K : Type 0} (o : SinkChange K) (front text : List ℕ) (short : 1048576 < length front) (long : 1048576 < length text) where
   not_listed_long : (after : PassName) (k at : ℕ) → IsNotListed front after k at → IsNotListed text after k at
   not_listed_long after k at (inl h) = inl (refused_long front text short long k at h)
   not_listed_long after k at (inr h) = accepted_short front h.2.source h.2.program short h.2.accepted
 
-  pub lists_long : (after : PassName) (status : Status) → Lists gives taken faults old new front after status → Lists gives taken faults old new text after status
+  pub lists_long : (after : PassName) (status : Status) → Lists o front after status → Lists o text after status
   lists_long after (Refused k at) h = (not_listed_long after k at h.0, h.1)
   lists_long after OutOfMemory h = h
   lists_long after Done h = accepted_short front h.1.source h.1.program short h.1.accepted
   lists_long after WriteFault h = accepted_short front h.1.source h.1.program short h.1.accepted
   lists_long after _ h = absurd h
 
-  pub prints_long : (status : Status) → Prints gives taken faults old new front status → Prints gives taken faults old new text status
+  pub prints_long : (status : Status) → Prints o front status → Prints o text status
   prints_long (Refused k at) h = (unread_long front text short long k at h.0, h.1)
   prints_long OutOfMemory h = h
   prints_long Done h = absurd (h.1.unbroken 5 1048576 (TextTooLong short))
   prints_long WriteFault h = absurd (h.1.unbroken 5 1048576 (TextTooLong short))
   prints_long _ h = absurd h
 
-  pub lists_after_long : (after : Listing) (status : Status) → ListsAfter gives taken faults old new front after status → ListsAfter gives taken faults old new text after status
+  pub lists_after_long : (after : Listing) (status : Status) → ListsAfter o front after status → ListsAfter o text after status
   lists_after_long listing.Read status h = prints_long status h
   lists_after_long listing.Translate status h = lists_long Translate status h
   lists_after_long listing.Eval status h = lists_long Eval status h

@@ -1,14 +1,15 @@
 -- What each status says of an executable that is run.
-use Rattle.std.specs.Prelude.{◌≡◌, ℕ, zero, suc, Bool, List, Option, Some}
+use Rattle.std.specs.Prelude.{◌≡◌, ℕ, zero, suc, List, Some}
 use Rattle.elf32.specs.Image.{Image}
 use Rattle.elf32.specs.Rules as elf
 use Rattle.elf32.specs.Rules.{Breaks, KeepsBelow, Loads}
 use Rattle.elf32.specs.declared.refusal.ElfRefusal.{ElfRefusal}
 use Rattle.elf32.specs.declared.refusal.ElfRefusal.TheVariants.{SegmentOutside, SegmentsOverlap}
+use Rattle.grin_io.specs.Changes.{Told, SourceChange, SinkChange, TookAll, Broke, Raised}
 use Rattle.grin_io.specs.declared.outside.Fault.{Fault}
 use Rattle.grin_io.specs.declared.outside.Fault.TheVariants.{Read, Write}
 use Rattle.rv32_machine.specs.Steps.{start_of}
-use Rattle.rv32_machine.specs.Runs.{End, Going, Exited as exited, Stopped, run, Told, TookAll, TookPart, Broke, Raised}
+use Rattle.rv32_machine.specs.Runs.{End, Going, Exited as exited, Stopped, run, pieces}
 use Rattle.rv32_machine.specs.declared.machine.Stop.{Stop}
 use Rattle.rv32_machine.specs.declared.machine.Stop.TheVariants.{Steps, Exit, Trap}
 use Rattle.grin_driver.specs.declared.status.Status.{Status}
@@ -47,21 +48,20 @@ stop_at (Going s) = Steps
 stop_at (exited code s) = Exit code
 stop_at (Stopped kind s) = Trap kind s.pc
 
--- A program runs from a source, which is left as `from'`, to a sink, which is left as `new`.
-module _ {I K : Type 0} (left : I → Option (List ℕ)) (read_faults : I → ℕ) (from from' : I) (gives : K → List ℕ → Bool → K → Type 0) (taken : K → Option (List ℕ)) (faults : K → ℕ) (old new : K) where
-  -- the run stopped so: the sink took just what the run writes, and what the run left of the input is left
+-- A program runs from a source to a sink.
+module _ {I K : Type 0} (i : SourceChange I) (o : SinkChange K) where
+  -- the run stopped so: the sink took just the pieces that the run puts, and what the run left of the input is left
   pub record Stops (program : Image) (steps : ℕ) (stop : Stop) : Type 0 where
-    pub stands : Told (left from) (λ i. (stop_at (run steps i (start_of program)).end ≡ stop) × (left from' ≡ Some (run steps i (start_of program)).left))
-    pub took : Told (left from) (λ i. TookAll gives taken old new (run steps i (start_of program)).out)
+    pub stands : Told (i.left i.old) (λ bytes. let r = run steps bytes (start_of program) in (stop_at r.end ≡ stop) × (i.left i.new ≡ Some r.left))
+    pub took : Told (i.left i.old) (λ bytes. TookAll o (pieces steps bytes (start_of program)))
 
-  -- a call of the source or the sink failed, which was the last one; what the sink took are bytes that were due
+  -- a call of the source or the sink failed, which was the last one; the pieces that were put were due
   pub record Fails (program : Image) (steps : ℕ) (fault : Fault) : Type 0 where
-    pub raised : Raised fault (read_faults from) (read_faults from') (faults old) (faults new)
-    pub part : Told (left from) (λ i. TookPart taken old new (run steps i (start_of program)).out)
-    pub puts : Told (left from) (λ i. Broke fault gives old new (run steps i (start_of program)).out)
+    pub raised : Raised fault i o
+    pub puts : Told (i.left i.old) (λ bytes. Broke fault o (pieces steps bytes (start_of program)))
 
   abbrev pub IsUntouched : Type 0
-  IsUntouched = (from' ≡ from) × (new ≡ old)
+  IsUntouched = (i.new ≡ i.old) × (o.new ≡ o.old)
 
   -- The status of a program: a fault, or the machine's answer.
   abbrev pub Executes : (program : Image) → (steps : ℕ) → Status → Type 0

@@ -1,5 +1,5 @@
 -- What each status says of a text that is listed.
-use Rattle.std.specs.Prelude.{◌≡◌, ◌≢◌, ◌⊎◌, ◌<◌, ℕ, Bool, List, Option}
+use Rattle.std.specs.Prelude.{◌≡◌, ◌≢◌, ◌⊎◌, ◌<◌, ℕ, List}
 use Rattle.core_reader.specs.Tree as tree
 use Rattle.core_reader.specs.Text.{IsText, IsFirstUnread, IsUnbroken}
 use Rattle.core_reader.specs.Canonical.{canonical}
@@ -11,10 +11,11 @@ use Rattle.grin_opt.specs.declared.pass.PassName.TheVariants.{Translate, Eval, A
 use Rattle.command_line.specs.declared.command.Listing.{Listing}
 use Rattle.command_line.specs.declared.command.Listing.TheVariants as listing
 use Rattle.grin_stages.specs.Stage.{IsStage, Fits, HasExpandedSize}
+use Rattle.grin_io.specs.Changes.{SinkChange, TookAll, BrokeOff}
 use Rattle.grin_driver.specs.declared.status.Status.{Status}
 use Rattle.grin_driver.specs.declared.status.Status.TheVariants.{Done, Refused, OutOfMemory, WriteFault}
 use Rattle.grin_driver.specs.Text.{IsRefusedBy, IsAccepted}
-use Rattle.grin_driver.specs.Putting.{TookPieces, Broke}
+use Rattle.grin_driver.specs.Putting.{OfPieces}
 
 -- ---- a stage
 
@@ -46,13 +47,13 @@ IsUnlisted text after (Refused rule number) = IsNotListed text after rule number
 IsUnlisted text after OutOfMemory = Unit {0}
 IsUnlisted text after _ = ⊥
 
--- The status of a text that is listed, and what the sink took: the listing in pieces, and nothing at a refusal or for want of memory.
-abbrev pub Lists : {K : Type 0} → (gives : K → List ℕ → Bool → K → Type 0) → (taken : K → Option (List ℕ)) → (faults : K → ℕ) → (old new : K) → (text : List ℕ) → (after : PassName) → Status → Type 0
-Lists gives taken faults old new text after Done = (bytes : List ℕ) × IsListing text after bytes × TookPieces gives taken old new bytes
-Lists gives taken faults old new text after WriteFault = (bytes : List ℕ) × IsListing text after bytes × Broke gives taken faults old new bytes
-Lists gives taken faults old new text after (Refused rule number) = IsNotListed text after rule number × (new ≡ old)
-Lists gives taken faults old new text after OutOfMemory = new ≡ old
-Lists gives taken faults old new text after _ = ⊥
+-- The status of a text that is listed, and what became of the sink: puts of the listing's pieces, and none at a refusal or for want of memory.
+abbrev pub Lists : {K : Type 0} → SinkChange K → (text : List ℕ) → (after : PassName) → Status → Type 0
+Lists o text after Done = (bytes : List ℕ) × IsListing text after bytes × OfPieces bytes (TookAll o)
+Lists o text after WriteFault = (bytes : List ℕ) × IsListing text after bytes × OfPieces bytes (BrokeOff o)
+Lists o text after (Refused rule number) = IsNotListed text after rule number × (o.new ≡ o.old)
+Lists o text after OutOfMemory = o.new ≡ o.old
+Lists o text after _ = ⊥
 
 -- ---- the canonical text
 
@@ -63,17 +64,17 @@ pub record IsCanonicalText (text bytes : List ℕ) : Type 0 where
   pub stands : IsText text source
   pub is_canonical : bytes ≡ canonical source
 
--- The status of a text whose canonical text is put, and what the sink took: that text in pieces, and nothing at a refusal or for want of memory.
-abbrev pub Prints : {K : Type 0} → (gives : K → List ℕ → Bool → K → Type 0) → (taken : K → Option (List ℕ)) → (faults : K → ℕ) → (old new : K) → (text : List ℕ) → Status → Type 0
-Prints gives taken faults old new text Done = (bytes : List ℕ) × IsCanonicalText text bytes × TookPieces gives taken old new bytes
-Prints gives taken faults old new text WriteFault = (bytes : List ℕ) × IsCanonicalText text bytes × Broke gives taken faults old new bytes
-Prints gives taken faults old new text (Refused rule number) = IsFirstUnread text rule number × (new ≡ old)
-Prints gives taken faults old new text OutOfMemory = new ≡ old
-Prints gives taken faults old new text _ = ⊥
+-- The status of a text whose canonical text is put, and what became of the sink: puts of that text's pieces, and none at a refusal or for want of memory.
+abbrev pub Prints : {K : Type 0} → SinkChange K → (text : List ℕ) → Status → Type 0
+Prints o text Done = (bytes : List ℕ) × IsCanonicalText text bytes × OfPieces bytes (TookAll o)
+Prints o text WriteFault = (bytes : List ℕ) × IsCanonicalText text bytes × OfPieces bytes (BrokeOff o)
+Prints o text (Refused rule number) = IsFirstUnread text rule number × (o.new ≡ o.old)
+Prints o text OutOfMemory = o.new ≡ o.old
+Prints o text _ = ⊥
 
 -- what a listing is made after, and its status
-abbrev pub ListsAfter : {K : Type 0} → (gives : K → List ℕ → Bool → K → Type 0) → (taken : K → Option (List ℕ)) → (faults : K → ℕ) → (old new : K) → (text : List ℕ) → Listing → Status → Type 0
-ListsAfter gives taken faults old new text listing.Read status = Prints gives taken faults old new text status
-ListsAfter gives taken faults old new text listing.Translate status = Lists gives taken faults old new text Translate status
-ListsAfter gives taken faults old new text listing.Eval status = Lists gives taken faults old new text Eval status
-ListsAfter gives taken faults old new text listing.Apply status = Lists gives taken faults old new text Apply status
+abbrev pub ListsAfter : {K : Type 0} → SinkChange K → (text : List ℕ) → Listing → Status → Type 0
+ListsAfter o text listing.Read status = Prints o text status
+ListsAfter o text listing.Translate status = Lists o text Translate status
+ListsAfter o text listing.Eval status = Lists o text Eval status
+ListsAfter o text listing.Apply status = Lists o text Apply status

@@ -1,20 +1,22 @@
 -- What each status says of a text that is run.
-use Rattle.std.specs.Prelude.{◌≡◌, ℕ, ◌+◌, ◌*◌, ◌≤◌, ◌⊎◌, Bool, List, [], Option, Some, None}
+use Rattle.std.specs.Prelude.{◌≡◌, ℕ, ◌+◌, ◌*◌, ◌≤◌, ◌⊎◌, List, [], Some, None}
 use Rattle.core_reader.specs.Tree as tree
 use Rattle.core_reader.specs.Size.{program_size}
 use Rattle.arity_check.specs.Program.{Program}
+use Rattle.core_meaning.specs.Told.{of_core}
 use Rattle.elf32.specs.Image.{Image}
 use Rattle.headline.specs.Carries.{End, going, done, no_alternative, Begins, Finish, runs, exits, traps}
-use Rattle.rv32_machine.specs.Runs.{TookAll}
+use Rattle.grin_io.specs.Changes.{SinkChange, TookAll, BrokeOff}
+use Rattle.rv32_machine.specs.Steps.{start_of}
+use Rattle.rv32_machine.specs.Runs.{pieces}
 use Rattle.rv32_machine.specs.declared.machine.Stop.{Stop}
 use Rattle.rv32_machine.specs.declared.machine.Stop.TheVariants.{Steps, Exit, Trap}
 use Rattle.first_path.specs.Simple.{not_yet_at}
-use Rattle.first_path.specs.Carried.{told, seen}
+use Rattle.first_path.specs.Carried.{seen}
 use Rattle.first_path.specs.Built.{IsCarriedBy}
 use Rattle.grin_driver.specs.declared.status.Status.{Status}
 use Rattle.grin_driver.specs.declared.status.Status.TheVariants.{Done, Refused, NoAlternative, StepLimit, OutOfMemory, WriteFault}
 use Rattle.grin_driver.specs.Text.{IsRefusedBy, IsAccepted}
-use Rattle.grin_driver.specs.Putting.{Broke}
 
 -- a function of the text's program is not built yet; the first such one has its name at this place
 pub record IsUnbuilt (text : List ℕ) (at : ℕ) : Type 0 where
@@ -37,19 +39,19 @@ pub record IsImageOf (text : List ℕ) (image : Image) : Type 0 where
 
 -- ---- the run of an image on an input of no bytes
 
--- it has finished so within the steps, and the sink took just what it wrote
-pub record Ran {K : Type 0} (gives : K → List ℕ → Bool → K → Type 0) (taken : K → Option (List ℕ)) (old new : K) (image : Image) (steps : ℕ) (finish : Finish) : Type 0 where
+-- it has finished so within the steps, and the sink took just the pieces that it put
+pub record Ran {K : Type 0} (o : SinkChange K) (image : Image) (steps : ℕ) (finish : Finish) : Type 0 where
   pub finished : (seen image [] steps).finish ≡ finish
-  pub took : TookAll gives taken old new (seen image [] steps).out
+  pub took : TookAll o (pieces steps [] (start_of image))
 
 -- the status names the end of the run
-abbrev pub RunsTo : {K : Type 0} → (gives : K → List ℕ → Bool → K → Type 0) → (taken : K → Option (List ℕ)) → (faults : K → ℕ) → (old new : K) → Image → (steps : ℕ) → Status → Type 0
-RunsTo gives taken faults old new image steps Done = Ran gives taken old new image steps (exits 0)
-RunsTo gives taken faults old new image steps NoAlternative = Ran gives taken old new image steps (exits 3)
-RunsTo gives taken faults old new image steps StepLimit = Ran gives taken old new image steps runs
-RunsTo gives taken faults old new image steps WriteFault = Broke gives taken faults old new (seen image [] steps).out
-RunsTo gives taken faults old new image steps OutOfMemory = new ≡ old
-RunsTo gives taken faults old new image steps _ = ⊥
+abbrev pub RunsTo : {K : Type 0} → SinkChange K → Image → (steps : ℕ) → Status → Type 0
+RunsTo o image steps Done = Ran o image steps (exits 0)
+RunsTo o image steps NoAlternative = Ran o image steps (exits 3)
+RunsTo o image steps StepLimit = Ran o image steps runs
+RunsTo o image steps WriteFault = BrokeOff o (pieces steps [] (start_of image))
+RunsTo o image steps OutOfMemory = o.new ≡ o.old
+RunsTo o image steps _ = ⊥
 
 -- what an answer of the machine's run says of its finish
 abbrev pub finish_by : Stop → Finish
@@ -72,11 +74,11 @@ IsFine finish = (finish ≡ runs) ⊎ ((finish ≡ exits 0) ⊎ (finish ≡ exit
 
 -- within some units it ends so, having put out these bytes
 abbrev pub Ends : Program → End → (out : List ℕ) → Type 0
-Ends p end out = (input : List ℕ) → (units : ℕ) × ((told p input units).end ≡ end) × (out ≡ (told p input units).out)
+Ends p end out = (input : List ℕ) → (units : ℕ) × ((of_core p input units).end ≡ end) × (out ≡ (of_core p input units).out)
 
 -- within some units it puts out these bytes, and maybe more behind them
 abbrev pub Puts : Program → (out : List ℕ) → Type 0
-Puts p out = (input : List ℕ) → (units : ℕ) × Begins out (told p input units).out
+Puts p out = (input : List ℕ) → (units : ℕ) × Begins out (of_core p input units).out
 
 -- as many instructions are enough for each unit, and for the start
 abbrev pub work : tree.Program → ℕ
@@ -85,7 +87,7 @@ work source = 2048 * (program_size source + 8)
 -- it puts out these bytes; and within as many units as the steps are enough for it goes on, and puts out no more than these
 pub record Pauses (work steps : ℕ) (p : Program) (out : List ℕ) : Type 0 where
   pub part : Puts p out
-  pub paced : (units : ℕ) → work * (units + 1) ≤ steps → (input : List ℕ) → ((told p input units).end ≡ going) × Begins (told p input units).out out
+  pub paced : (units : ℕ) → work * (units + 1) ≤ steps → (input : List ℕ) → ((of_core p input units).end ≡ going) × Begins (of_core p input units).out out
 
 abbrev pub Says : (source : tree.Program) → Program → (steps : ℕ) → (out : List ℕ) → Status → Type 0
 Says source p steps out Done = Ends p done out
@@ -97,17 +99,17 @@ Says source p steps out _ = ⊥
 -- ---- the statuses of a text
 
 -- There is an image that carries the text's program; the status is the end of its run, and what the program tells.
-pub record Runs {K : Type 0} (gives : K → List ℕ → Bool → K → Type 0) (taken : K → Option (List ℕ)) (faults : K → ℕ) (old new : K) (text : List ℕ) (steps : ℕ) (status : Status) : Type 0 where
+pub record Runs {K : Type 0} (o : SinkChange K) (text : List ℕ) (steps : ℕ) (status : Status) : Type 0 where
   pub image : Image
   pub from : IsImageOf text image
-  pub ran : RunsTo gives taken faults old new image steps status
+  pub ran : RunsTo o image steps status
   pub says : Says from.source from.program steps (seen image [] steps).out status
 
--- The status of a text, and what the sink took: nothing at a refusal or for want of memory.
-abbrev pub Outcome : {K : Type 0} → (gives : K → List ℕ → Bool → K → Type 0) → (taken : K → Option (List ℕ)) → (faults : K → ℕ) → (old new : K) → (text : List ℕ) → (steps : ℕ) → Status → Type 0
-Outcome gives taken faults old new text steps (Refused rule number) = IsNotRun text rule number × (new ≡ old)
-Outcome gives taken faults old new text steps OutOfMemory = new ≡ old
-Outcome gives taken faults old new text steps status = Runs gives taken faults old new text steps status
+-- The status of a text, and what became of the sink: nothing at a refusal or for want of memory.
+abbrev pub Outcome : {K : Type 0} → SinkChange K → (text : List ℕ) → (steps : ℕ) → Status → Type 0
+Outcome o text steps (Refused rule number) = IsNotRun text rule number × (o.new ≡ o.old)
+Outcome o text steps OutOfMemory = o.new ≡ o.old
+Outcome o text steps status = Runs o text steps status
 
 -- why no image was made of a text
 abbrev pub IsUnmade : (text : List ℕ) → Status → Type 0

@@ -1,21 +1,11 @@
--- What a sink took where a put failed.
-use Rattle.std.specs.Prelude.{◌≡◌, ℕ, ◌<◌, min, List, [], ◌++◌, length, Bool, true, Option, Some}
-use Rattle.grin_io.specs.Causes.{Rose}
-use Rattle.rv32_machine.specs.Runs as machine
-use Rattle.rv32_machine.specs.Runs.{Told, TookPart}
+-- Outputs that are put in pieces.
+use Rattle.std.specs.Prelude.{◌≡◌, ℕ, ◌<◌, min, List, [], ◌∷◌, ◌++◌, length}
 
--- a put failed, which was the last thing that was asked of the sink, and what it took are bytes that were due
-pub record Broke {K : Type 0} (gives : K → List ℕ → Bool → K → Type 0) (taken : K → Option (List ℕ)) (faults : K → ℕ) (old new : K) (due : List ℕ) : Type 0 where
-  pub rose : Rose (faults old) (faults new)
-  pub part : TookPart taken old new due
-  pub puts : machine.Refused gives old new due
+-- bytes are cut in these pieces of so many, of which the last one may be shorter; of no bytes there is no piece
+pub data IsCut (size : ℕ) : List ℕ → List (List ℕ) → Type 0 where
+  no_piece : IsCut size [] []
+  next_piece : {piece rest : List ℕ} {pieces : List (List ℕ)} → 0 < length piece → length piece ≡ min size (length (piece ++ rest)) → IsCut size rest pieces → IsCut size (piece ++ rest) (piece ∷ pieces)
 
--- whole puts of these bytes in pieces of 4,096, the last one of what is left
-pub data PutsPieces {K : Type 0} (gives : K → List ℕ → Bool → K → Type 0) : K → List ℕ → K → Type 0 where
-  no_piece : {k : K} → PutsPieces gives k [] k
-  next_piece : {old mid new : K} {piece rest : List ℕ} → 0 < length piece → length piece ≡ min 4096 (length (piece ++ rest)) → gives old piece true mid → PutsPieces gives mid rest new → PutsPieces gives old (piece ++ rest) new
-
--- a sink took just these bytes, in pieces
-pub record TookPieces {K : Type 0} (gives : K → List ℕ → Bool → K → Type 0) (taken : K → Option (List ℕ)) (old new : K) (bytes : List ℕ) : Type 0 where
-  pub content : Told (taken old) (λ before. taken new ≡ Some (before ++ bytes))
-  pub puts : PutsPieces gives old bytes new
+-- this holds of the bytes' pieces of 4,096
+abbrev pub OfPieces : List ℕ → (List (List ℕ) → Type 0) → Type 0
+OfPieces bytes Holds = (pieces : List (List ℕ)) × IsCut 4096 bytes pieces × Holds pieces

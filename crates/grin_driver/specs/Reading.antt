@@ -2,6 +2,7 @@
 use Rattle.std.specs.Prelude.{◌≡◌, ℕ, ◌<◌, ◌≤◌, Bool, true, false, List, length, take, Option, Some}
 use Rattle.grin_io.specs.Causes.{Rose}
 use Rattle.grin_io.specs.Content.{Files, file_named}
+use Rattle.grin_io.specs.Changes.{Told, ShelfChange}
 use Rattle.grin_driver.specs.declared.status.Status.{Status}
 use Rattle.grin_driver.specs.declared.status.Status.TheVariants.{OutOfMemory, ReadFault}
 
@@ -28,13 +29,21 @@ ReadsOn before now text text' more =
     (old : Files) → before ≡ Some old → (file : List ℕ) → IsBehind old file text
     → (new : Files) × (now ≡ Some new) × (new.named ≡ old.named) × IsBehind new file text' × Goes new file text text' more
 
--- all bytes of the file, or as many as the most that are read
-pub record IsRead (most : ℕ) (before : Option Files) (file text : List ℕ) : Type 0 where
-  pub front : (old : Files) → before ≡ Some old → (bytes : List ℕ) × (file_named file old.named ≡ Some bytes) × (text ≡ take most bytes)
+-- the files, with this one open behind so many bytes
+abbrev pub open_behind : Files → (file : List ℕ) → ℕ → Files
+open_behind files file place = record { named = files.named; opened = Some (file, place) }
+
+-- all bytes of the file were read, or as many as the most that are read, and no further ones
+pub record IsRead {F : Type 0} (f : ShelfChange F) (most : ℕ) (file text : List ℕ) : Type 0 where
+  pub front : Told (f.content f.old) (λ files. (bytes : List ℕ) × (file_named file files.named ≡ Some bytes) × (text ≡ take most bytes) × (f.content f.new ≡ Some (open_behind files file (length text))))
   pub short : length text ≤ most
 
+-- the files stay, whichever is open
+abbrev pub Stay : (before now : Option Files) → Type 0
+Stay before now = Told before (λ old. (new : Files) × (now ≡ Some new) × (new.named ≡ old.named))
+
 -- why a file was not read
-abbrev pub IsUnread : (faults faults' : ℕ) → Status → Type 0
-IsUnread faults faults' ReadFault = Rose faults faults'
-IsUnread faults faults' OutOfMemory = Unit {0}
-IsUnread faults faults' _ = ⊥
+abbrev pub IsUnread : {F : Type 0} → ShelfChange F → Status → Type 0
+IsUnread f ReadFault = Rose (f.faults f.old) (f.faults f.new) × Stay (f.content f.old) (f.content f.new)
+IsUnread f OutOfMemory = Stay (f.content f.old) (f.content f.new)
+IsUnread f _ = ⊥

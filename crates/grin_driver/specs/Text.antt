@@ -2,7 +2,6 @@
 use Rattle.std.specs.Prelude.{◌≡◌, ℕ, List}
 use Rattle.core_reader.specs.Tree as tree
 use Rattle.core_reader.specs.Text.{IsText, IsFirstUnread, IsUnbroken}
-use Rattle.core_reader.specs.Readable.{IsReadable}
 use Rattle.core_reader.specs.Size.{program_size}
 use Rattle.arity_check.specs.Accepted as check
 use Rattle.arity_check.specs.Accepted.{IsFirstBroken}
@@ -22,7 +21,6 @@ pub data IsRefusedBy (text : List ℕ) : (rule number : ℕ) → Type 0 where
 pub record IsAccepted (text : List ℕ) (source : tree.Program) (program : Program) : Type 0 where
   pub read : IsUnbroken text
   pub stands : IsText text source
-  pub readable : IsReadable source
   pub unbroken : check.IsUnbroken source
   pub normal : IsNormalForm source program
 

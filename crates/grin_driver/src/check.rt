@@ -1,6 +1,7 @@
 //! The check of a text, and the line of its program.
 
 ghost use Rattle.std.specs.Prelude.{◌≡◌, ◌≤◌, length};
+ghost use Rattle.grin_io.specs.Changes.{of_sink};
 ghost use Rattle.grin_driver.specs.Checking.{Checks, summary};
 
 use crate::accept::{Accepted, accept};
@@ -24,7 +25,7 @@ fn summary(accepted: &Accepted) -> Note
 
 /// Checks a text, and puts the line of its program in one put.
 pub(crate) fn check_text<K: Sink>(alloc: Global, text: &[u8], out: &mut K) -> Status
-    ensures checks { Checks K.put_gives K.taken K.faults out.old out.new text.now result }
+    ensures checks { Checks (of_sink K.put_gives K.taken K.faults out.old out.new) text.now result }
     ensures later { K.faults out.old ≤ K.faults out.new }
 {
     match accept(alloc, text) {

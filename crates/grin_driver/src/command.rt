@@ -1,12 +1,13 @@
 //! The command line as a whole.
 
 ghost use Rattle.std.specs.Prelude.{◌≡◌, ◌≤◌, Some, IfSome};
+ghost use Rattle.grin_io.specs.Changes.{of_shelf, of_source, of_sink};
 ghost use Rattle.command_line.specs.Commands.{command_of, asked_by};
 ghost use Rattle.grin_driver.specs.Outcome.{Outcome};
 ghost use Rattle.grin_driver.specs.Checking.{Checks};
 ghost use Rattle.grin_driver.specs.Listing.{ListsAfter};
 ghost use Rattle.grin_driver.specs.Execution.{Execution};
-ghost use Rattle.grin_driver.specs.Answer.{OfOperand, Answers, operand_of, default_steps};
+ghost use Rattle.grin_driver.specs.Answer.{OfOperand, Answers, operand_of, default_steps, most_of_text, most_of_image};
 ghost use Rattle.grin_driver.specs.Telling.{IsTold};
 
 use crate::check::check_text;
@@ -37,7 +38,7 @@ fn run_file<F: Shelf, I: Source, K: Sink>(
     out: &mut K,
 ) -> Status
     requires { F.permitted file.now }
-    ensures answer { OfOperand (F.content shelf.old) (F.faults shelf.old) (F.faults shelf.new) (out.new ≡ out.old) file.now (λ text status. Outcome K.put_gives K.taken K.faults out.old out.new text default_steps status) result }
+    ensures answer { OfOperand (of_shelf F.content F.faults shelf.old shelf.new) most_of_text (out.new ≡ out.old) file.now (λ text status. Outcome (of_sink K.put_gives K.taken K.faults out.old out.new) text default_steps status) result }
     ensures later { (F.faults shelf.old ≤ F.faults shelf.new) × (K.faults out.old ≤ K.faults out.new) }
     ensures input { input.new ≡ input.old }
 {
@@ -50,7 +51,7 @@ fn run_file<F: Shelf, I: Source, K: Sink>(
 /// Checks the text of a file, and puts the line of its program.
 fn check_file<F: Shelf, K: Sink>(alloc: Global, file: &str, shelf: &mut F, out: &mut K) -> Status
     requires { F.permitted file.now }
-    ensures answer { OfOperand (F.content shelf.old) (F.faults shelf.old) (F.faults shelf.new) (out.new ≡ out.old) file.now (λ text status. Checks K.put_gives K.taken K.faults out.old out.new text status) result }
+    ensures answer { OfOperand (of_shelf F.content F.faults shelf.old shelf.new) most_of_text (out.new ≡ out.old) file.now (λ text status. Checks (of_sink K.put_gives K.taken K.faults out.old out.new) text status) result }
     ensures later { (F.faults shelf.old ≤ F.faults shelf.new) × (K.faults out.old ≤ K.faults out.new) }
 {
     match read_file(alloc, shelf, file, MOST_OF_TEXT) {
@@ -68,7 +69,7 @@ fn list_file<F: Shelf, K: Sink>(
     out: &mut K,
 ) -> Status
     requires { F.permitted file.now }
-    ensures answer { OfOperand (F.content shelf.old) (F.faults shelf.old) (F.faults shelf.new) (out.new ≡ out.old) file.now (λ text status. ListsAfter K.put_gives K.taken K.faults out.old out.new text after status) result }
+    ensures answer { OfOperand (of_shelf F.content F.faults shelf.old shelf.new) most_of_text (out.new ≡ out.old) file.now (λ text status. ListsAfter (of_sink K.put_gives K.taken K.faults out.old out.new) text after status) result }
     ensures later { (F.faults shelf.old ≤ F.faults shelf.new) × (K.faults out.old ≤ K.faults out.new) }
 {
     match read_file(alloc, shelf, file, MOST_OF_TEXT) {
@@ -87,7 +88,7 @@ fn exec_file<F: Shelf, I: Source, K: Sink>(
     out: &mut K,
 ) -> Status
     requires { F.permitted file.now }
-    ensures answer { OfOperand (F.content shelf.old) (F.faults shelf.old) (F.faults shelf.new) ((input.new ≡ input.old) × (out.new ≡ out.old)) file.now (λ bytes status. Execution I.left I.faults input.old input.new K.put_gives K.taken K.faults out.old out.new bytes steps status) result }
+    ensures answer { OfOperand (of_shelf F.content F.faults shelf.old shelf.new) most_of_image ((input.new ≡ input.old) × (out.new ≡ out.old)) file.now (λ bytes status. Execution (of_source I.left I.faults input.old input.new) (of_sink K.put_gives K.taken K.faults out.old out.new) bytes steps status) result }
     ensures later { (F.faults shelf.old ≤ F.faults shelf.new) × ((I.faults input.old ≤ I.faults input.new) × (K.faults out.old ≤ K.faults out.new)) }
 {
     match read_file(alloc, shelf, file, MOST_OF_IMAGE) {
@@ -105,7 +106,7 @@ fn run_command<F: Shelf, I: Source, K: Sink>(
     out: &mut K,
 ) -> Status
     requires { F.permitted (operand_of (asked_by command.now)) }
-    ensures answer { Answers F.content F.faults shelf.old shelf.new I.left I.faults input.old input.new K.put_gives K.taken K.faults out.old out.new (Some (asked_by command.now)) result }
+    ensures answer { Answers (of_shelf F.content F.faults shelf.old shelf.new) (of_source I.left I.faults input.old input.new) (of_sink K.put_gives K.taken K.faults out.old out.new) (Some (asked_by command.now)) result }
     ensures later { (F.faults shelf.old ≤ F.faults shelf.new) × ((I.faults input.old ≤ I.faults input.new) × (K.faults out.old ≤ K.faults out.new)) }
 {
     match command {
@@ -125,7 +126,7 @@ fn run_line<F: Shelf, I: Source, K: Sink>(
     out: &mut K,
 ) -> Status
     requires { IfSome (command_of line.now) (λ command. F.permitted (operand_of command)) }
-    ensures answer { Answers F.content F.faults shelf.old shelf.new I.left I.faults input.old input.new K.put_gives K.taken K.faults out.old out.new (command_of line.now) result }
+    ensures answer { Answers (of_shelf F.content F.faults shelf.old shelf.new) (of_source I.left I.faults input.old input.new) (of_sink K.put_gives K.taken K.faults out.old out.new) (command_of line.now) result }
     ensures later { (F.faults shelf.old ≤ F.faults shelf.new) × ((I.faults input.old ≤ I.faults input.new) × (K.faults out.old ≤ K.faults out.new)) }
 {
     match line.command() {
@@ -148,8 +149,8 @@ pub fn grinc_main<F: Shelf, I: Source, K: Sink, E: Sink>(
     err: &mut E,
 ) -> Status
     requires permitted { IfSome (command_of line.now) (λ command. F.permitted (operand_of command)) }
-    ensures answer { Answers F.content F.faults shelf.old shelf.new I.left I.faults input.old input.new K.put_gives K.taken K.faults out.old out.new (command_of line.now) result }
-    ensures told { IsTold E.put_gives E.taken E.faults err.old err.new result }
+    ensures answer { Answers (of_shelf F.content F.faults shelf.old shelf.new) (of_source I.left I.faults input.old input.new) (of_sink K.put_gives K.taken K.faults out.old out.new) (command_of line.now) result }
+    ensures told { IsTold (of_sink E.put_gives E.taken E.faults err.old err.new) result }
     ensures later { (F.faults shelf.old ≤ F.faults shelf.new) × ((I.faults input.old ≤ I.faults input.new) × (K.faults out.old ≤ K.faults out.new)) }
 {
     let status = run_line(alloc, line, shelf, input, out);

@@ -2,6 +2,7 @@
 
 ghost use Rattle.std.specs.Prelude.{◌≡◌, ℕ, ◌≤◌, List};
 ghost use Rattle.elf32.specs.Rules.{Refuses};
+ghost use Rattle.grin_io.specs.Changes.{of_source, of_sink};
 ghost use Rattle.grin_driver.specs.Execution.{Executes, Execution, IsUnloaded, status_of};
 
 use crate::status::{Status, refused};
@@ -48,7 +49,7 @@ fn execute<I: Source, K: Sink>(
     input: &mut I,
     out: &mut K,
 ) -> Status
-    ensures executes { Executes I.left I.faults input.old input.new K.put_gives K.taken K.faults out.old out.new program.now steps result }
+    ensures executes { Executes (of_source I.left I.faults input.old input.new) (of_sink K.put_gives K.taken K.faults out.old out.new) program.now steps result }
     ensures input_later { I.faults input.old ≤ I.faults input.new }
     ensures out_later { K.faults out.old ≤ K.faults out.new }
 {
@@ -70,7 +71,7 @@ pub(crate) fn exec_image<I: Source, K: Sink>(
     input: &mut I,
     out: &mut K,
 ) -> Status
-    ensures executes { Execution I.left I.faults input.old input.new K.put_gives K.taken K.faults out.old out.new bytes.now steps result }
+    ensures executes { Execution (of_source I.left I.faults input.old input.new) (of_sink K.put_gives K.taken K.faults out.old out.new) bytes.now steps result }
     ensures input_later { I.faults input.old ≤ I.faults input.new }
     ensures out_later { K.faults out.old ≤ K.faults out.new }
 {

@@ -3,6 +3,7 @@
 ghost use Rattle.std.specs.Prelude.{◌≤◌, ℕ, List, IfOk, IfErr};
 ghost use Rattle.core_reader.specs.Tree as tree;
 ghost use Rattle.arity_check.specs.Program.{Program};
+ghost use Rattle.grin_io.specs.Changes.{of_sink};
 ghost use Rattle.grin_opt.specs.declared.pass.PassName.{PassName as PassName'};
 ghost use Rattle.grin_stages.specs.Stage.{IsTooLarge};
 ghost use Rattle.grin_driver.specs.Listing.{IsListing, IsUnlisted, Lists, ListsAfter, IsCanonicalText, Prints};
@@ -50,7 +51,7 @@ fn unstaged(refusal: &CompileRefusal) -> Status
 
 /// Lists a text's program after a pass, in pieces of 4,096 bytes. All memory is had before the first put.
 pub fn list_text<K: Sink>(alloc: Global, text: &[u8], after: PassName, out: &mut K) -> Status
-    ensures lists { Lists K.put_gives K.taken K.faults out.old out.new text.now after result }
+    ensures lists { Lists (of_sink K.put_gives K.taken K.faults out.old out.new) text.now after result }
     ensures later { K.faults out.old ≤ K.faults out.new }
 {
     match listed(alloc, text, after) {
@@ -79,7 +80,7 @@ fn canonical(alloc: Global, text: &[u8]) -> Result<Vec<u8>, Status>
 
 /// Puts the canonical text of a text's program, in pieces of 4,096 bytes. The text need only be read, not checked.
 fn print_text<K: Sink>(alloc: Global, text: &[u8], out: &mut K) -> Status
-    ensures prints { Prints K.put_gives K.taken K.faults out.old out.new text.now result }
+    ensures prints { Prints (of_sink K.put_gives K.taken K.faults out.old out.new) text.now result }
     ensures later { K.faults out.old ≤ K.faults out.new }
 {
     match canonical(alloc, text) {
@@ -93,7 +94,7 @@ fn print_text<K: Sink>(alloc: Global, text: &[u8], out: &mut K) -> Status
 
 /// Lists a text's program after what the command line says.
 pub(crate) fn list_after<K: Sink>(alloc: Global, text: &[u8], after: Listing, out: &mut K) -> Status
-    ensures lists { ListsAfter K.put_gives K.taken K.faults out.old out.new text.now after result }
+    ensures lists { ListsAfter (of_sink K.put_gives K.taken K.faults out.old out.new) text.now after result }
     ensures later { K.faults out.old ≤ K.faults out.new }
 {
     match after {

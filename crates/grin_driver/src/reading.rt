@@ -1,6 +1,7 @@
 //! Files, read up to a given number of bytes.
 
 ghost use Rattle.std.specs.Prelude.{◌≡◌, ◌<◌, ◌≤◌, true, IfOk, IfErr, length};
+ghost use Rattle.grin_io.specs.Changes.{of_shelf};
 ghost use Rattle.grin_driver.specs.Reading.{Reading, ReadsOn, IsRead, IsUnread};
 
 use crate::status::Status;
@@ -18,7 +19,7 @@ fn read_piece<F: Shelf>(shelf: &mut F, most: usize, bytes: &mut Vec<u8>) -> Resu
     ensures on { IfOk result (ReadsOn (F.content shelf.old) (F.content shelf.new) bytes.old.items bytes.new.items) }
     ensures grew { IfOk result (λ more. more ≡ true → length bytes.old.items < length bytes.new.items) }
     ensures room { length bytes.new.items ≤ most }
-    ensures unread { IfErr result (IsUnread (F.faults shelf.old) (F.faults shelf.new)) }
+    ensures unread { IfErr result (IsUnread (of_shelf F.content F.faults shelf.old shelf.new)) }
     ensures later { F.faults shelf.old ≤ F.faults shelf.new }
 {
     let mut buffer = [0; PIECE];
@@ -43,8 +44,8 @@ pub(crate) fn read_file<F: Shelf>(
     most: usize,
 ) -> Result<Vec<u8>, Status>
     requires { F.permitted name.now }
-    ensures read { IfOk result (λ bytes. IsRead most (F.content shelf.old) name.now bytes.items) }
-    ensures unread { IfErr result (IsUnread (F.faults shelf.old) (F.faults shelf.new)) }
+    ensures read { IfOk result (λ bytes. IsRead (of_shelf F.content F.faults shelf.old shelf.new) most name.now bytes.items) }
+    ensures unread { IfErr result (IsUnread (of_shelf F.content F.faults shelf.old shelf.new)) }
     ensures later { F.faults shelf.old ≤ F.faults shelf.new }
 {
     let Ok(()) = shelf.open(name) else {

@@ -1,6 +1,7 @@
 //! The run of a text: accepted, built as an image, and run.
 
 ghost use Rattle.std.specs.Prelude.{◌≡◌, ℕ, ◌≤◌, [], IfOk, IfErr};
+ghost use Rattle.grin_io.specs.Changes.{of_sink};
 ghost use Rattle.first_path.specs.Carried.{seen};
 ghost use Rattle.grin_driver.specs.Outcome.{Outcome, RunsTo, IsFine, IsNamedBy, finish_by, IsImageOf, IsUnmade};
 
@@ -43,7 +44,7 @@ fn ended(stop: &Stop) -> Status
 /// Runs an image on an input of no bytes.
 fn run_image<K: Sink>(alloc: Global, image: &Loaded, steps: u64, out: &mut K) -> Status
     requires { (m : ℕ) → IsFine (seen image.now [] m).finish }
-    ensures ran { RunsTo K.put_gives K.taken K.faults out.old out.new image.now steps result }
+    ensures ran { RunsTo (of_sink K.put_gives K.taken K.faults out.old out.new) image.now steps result }
     ensures later { K.faults out.old ≤ K.faults out.new }
 {
     let Ok(mut machine) = Machine::load(alloc, image) else {
@@ -66,7 +67,7 @@ pub fn run_text<I: Source, K: Sink>(
     input: &mut I,
     out: &mut K,
 ) -> Status
-    ensures outcome { Outcome K.put_gives K.taken K.faults out.old out.new text.now steps result }
+    ensures outcome { Outcome (of_sink K.put_gives K.taken K.faults out.old out.new) text.now steps result }
     ensures later { K.faults out.old ≤ K.faults out.new }
     ensures input { input.new ≡ input.old }
 {

@@ -1,6 +1,7 @@
 //! How a command ends, and what is told of it.
 
 ghost use Rattle.std.specs.Prelude.{◌≡◌, ◌+◌, ◌≤◌, ◌++◌, length};
+ghost use Rattle.grin_io.specs.Changes.{of_sink};
 ghost use Rattle.grin_driver.specs.Statuses.{code_of, line_of, kind_text};
 ghost use Rattle.grin_driver.specs.declared.status.Status.TheVariants.{Refused, Exited, Trapped};
 ghost use Rattle.grin_driver.specs.Telling.{IsTold};
@@ -55,7 +56,7 @@ impl Status {
 
     /// Puts the line of the status on the error output, as one put; nothing at `Done`. A fault changes nothing else.
     pub(crate) fn tell<E: Sink>(&self, err: &mut E)
-        ensures { IsTold E.put_gives E.taken E.faults err.old err.new self.now }
+        ensures { IsTold (of_sink E.put_gives E.taken E.faults err.old err.new) self.now }
     {
         match self {
             Status::Done => {}

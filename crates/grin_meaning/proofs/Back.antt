@@ -2,7 +2,7 @@
 use Rattle.std.proofs.Common.{ℕ, zero, suc, List, [], ◌∷◌, ◌++◌, length, Bool, true, false, cond, Option, Some, None, slice_get}
 use Rattle.grin_syntax.specs.Tree.{Code, end, store, bind, Act, unit, fetch, fetch_word, update, eval, apply, call, prim, read, write, case, nested, fail, Arms, no_arm, arm, Program}
 use Rattle.grin_meaning.specs.Values.{Datum, number, words, Node, Value, Env, State, World, Answer, gives, stops, then_do, need, and_then, Binding, with_vars, one_each, Fit, fits, fits_not, unclear, fit_of, as_node, made_node, word_of, words_of, value_of, node_of, bindings_of}
-use Rattle.grin_meaning.specs.Run.{Calls, act, code, arms, calls, choose, byte_or_end, after_read, spend, spent, passing, places, cells_of, with_cells, place_of, number_of, on_numbers, eval_cell, updated, apply_node, apply_part, is_fun_kind, is_part_kind, is_evaluated, part_from}
+use Rattle.grin_meaning.specs.Run.{Calls, act_by, code_by, arms_by, code, calls, calls_by, looking, looking_at, choose, byte_or_end, after_read, spend, spent, passing, places, cells_of, with_cells, place_of, number_of, on_numbers, eval_cell, updated, apply_node, apply_part, is_fun_kind, is_part_kind, is_evaluated, part_from}
 use Rattle.grin_meaning.specs.Keeps.{world_of}
 use Rattle.grin_meaning.specs.Follows.{Every}
 
@@ -40,6 +40,14 @@ module _ (P : State → Type 0) where
   choose_back fits_not w k x h hx = hx
   choose_back unclear w k x h hx = λ e. e
 
+  pub looking_back : (looks b : Bool) (w : World) (a : Answer) → Back w a → Back w (looking looks b w a)
+  looking_back false b w a h = h
+  looking_back true b w a h = cond_back b w a _ h (λ e. e)
+
+  pub given_back : (looks : Bool) (f : Value → Bool) (w : World) (a : Answer) → Back w a → Back w (looking_at looks f a)
+  given_back false f w a h = h
+  given_back true f w a h = then_back a w _ h (λ v w'. cond_back (f v) w' _ _ (λ e. e) (λ e. e))
+
   pub record CallsBack (c : Calls) : Type 0 where
     pub by : (f : ℕ) (xs : List Datum) (d : ℕ) (w : World) → Back w (c f xs d w)
 
@@ -66,42 +74,51 @@ module _ (P : State → Type 0) where
     read_back [] w = λ e. e
     read_back (k ∷ rest) w = λ e. e
 
-    mutual
-      unfolding act
+    module _ (looks : Bool) where
+      mutual
+        unfolding act_by
 
-      pub act_back : (env : Env) (d : ℕ) (o : Act) (w : World) → Back w (act p c env d o w)
-      act_back env d (unit v) w = need_back (value_of p env v) w _ (λ x e. e)
-      act_back env d (fetch a) w = need_back (and_then (word_of p env a) place_of) w _ (λ i. need_back (slice_get w.cells i) w _ (λ x e. e))
-      act_back env d (fetch_word a k) w = need_back (and_then (word_of p env a) place_of) w _ (λ i. need_back (slice_get w.cells i) w _ (λ x e. e))
-      act_back env d (update a v) w = need_back (and_then (word_of p env a) place_of) w _ (λ i. need_back (slice_get w.cells i) w _ (λ x. need_back (node_of p env v) w _ (λ n e. e)))
-      act_back env d (eval a) w = need_back (and_then (word_of p env a) place_of) w _ (λ i. eval_back d i w)
-      act_back env d (apply v a) w = need_back (node_of p env v) w _ (λ n. need_back (word_of p env a) w _ (λ x. apply_back d n x w))
-      act_back env d (call f ws) w = need_back (words_of p env ws) w _ (λ xs. cb.by f.0 xs d w)
-      act_back env d (prim f a b) w = need_back (word_of p env a) w _ (λ x. need_back (word_of p env b) w _ (λ y. need_back (on_numbers f x y) w _ (λ v e. e)))
-      act_back env d read w = read_back w.input w
-      act_back env d (write a) w = need_back (and_then (word_of p env a) number_of) w _ (λ k e. e)
-      act_back env d (case v as') w = need_back (value_of p env v) w _ (λ x. arms_back env d x as' w)
-      act_back env d (nested b) w = code_back env d b w
-      act_back env d fail w = λ e. e
+        pub act_back : (env : Env) (d : ℕ) (o : Act) (w : World) → Back w (act_by p c looks env d o w)
+        act_back env d (unit v) w = need_back (value_of p env v) w _ (λ x. looking_back looks _ w _ (λ e. e))
+        act_back env d (fetch a) w = need_back (and_then (word_of p env a) place_of) w _ (λ i. need_back (slice_get w.cells i) w _ (λ x e. e))
+        act_back env d (fetch_word a k) w = need_back (and_then (word_of p env a) place_of) w _ (λ i. need_back (slice_get w.cells i) w _ (λ x e. e))
+        act_back env d (update a v) w = need_back (and_then (word_of p env a) place_of) w _ (λ i. need_back (slice_get w.cells i) w _ (λ x. need_back (node_of p env v) w _ (λ n. looking_back looks _ w _ (λ e. e))))
+        act_back env d (eval a) w = need_back (and_then (word_of p env a) place_of) w _ (λ i. eval_back d i w)
+        act_back env d (apply v a) w = need_back (node_of p env v) w _ (λ n. need_back (word_of p env a) w _ (λ x. apply_back d n x w))
+        act_back env d (call f ws) w = need_back (words_of p env ws) w _ (λ xs. cb.by f.0 xs d w)
+        act_back env d (prim f a b) w = need_back (word_of p env a) w _ (λ x. need_back (word_of p env b) w _ (λ y. need_back (on_numbers f x y) w _ (λ v e. e)))
+        act_back env d read w = read_back w.input w
+        act_back env d (write a) w = need_back (and_then (word_of p env a) number_of) w _ (λ k e. e)
+        act_back env d (case v as') w = need_back (value_of p env v) w _ (λ x. arms_back env d x as' w)
+        act_back env d (nested b) w = code_by_back env d b w
+        act_back env d fail w = λ e. e
 
-      pub code_back : (env : Env) (d : ℕ) (b : Code) (w : World) → Back w (code p c env d b w)
-      code_back env d (end o) w = act_back env d o w
-      code_back env d (store cs b) w = need_back (cells_of p (with_vars (places (length w.cells) cs) env) cs) w _ (λ hs e. every_front w.seen _ (code_back (with_vars (places (length w.cells) cs) env) d b (passing (with_vars (places (length w.cells) cs) env) (with_cells hs w)) e))
-      code_back env d (bind t o b) w = then_back (act p c env (suc d) o w) w _ (act_back env (suc d) o w)
-          (λ v w'. need_back (bindings_of p t v) w' _ (λ bs e. every_front w'.seen _ (code_back (with_vars bs env) d b (passing (with_vars bs env) w') e)))
+        pub code_by_back : (env : Env) (d : ℕ) (b : Code) (w : World) → Back w (code_by p c looks env d b w)
+        code_by_back env d (end o) w = act_back env d o w
+        code_by_back env d (store cs b) w = need_back (cells_of p (with_vars (places (length w.cells) cs) env) cs) w _ (λ hs. looking_back looks _ w _ (λ e.
+            every_front w.seen _ (code_by_back (with_vars (places (length w.cells) cs) env) d b (passing (with_vars (places (length w.cells) cs) env) (with_cells hs w)) e)))
+        code_by_back env d (bind t o b) w = then_back (act_by p c looks env (suc d) o w) w _ (act_back env (suc d) o w) (λ v w'. looking_back looks _ w' _
+            (need_back (bindings_of p t v) w' _ (λ bs e. every_front w'.seen _ (code_by_back (with_vars bs env) d b (passing (with_vars bs env) w') e))))
 
-      pub arms_back : (env : Env) (d : ℕ) (v : Value) (as' : Arms) (w : World) → Back w (arms p c env d v as' w)
-      arms_back env d v no_arm w = λ e. e
-      arms_back env d v (arm s b as') w = choose_back (fit_of p s v) w _ _ (λ bs e. every_front w.seen _ (code_back (with_vars bs env) d b (passing (with_vars bs env) w) e)) (arms_back env d v as' w)
+        pub arms_back : (env : Env) (d : ℕ) (v : Value) (as' : Arms) (w : World) → Back w (arms_by p c looks env d v as' w)
+        arms_back env d v no_arm w = λ e. e
+        arms_back env d v (arm s b as') w = choose_back (fit_of p s v) w _ _ (λ bs e. every_front w.seen _ (code_by_back (with_vars bs env) d b (passing (with_vars bs env) w) e)) (arms_back env d v as' w)
+
+    pub code_back : (env : Env) (d : ℕ) (b : Code) (w : World) → Back w (code p c env d b w)
+    code_back = code_by_back false
 
   spend_back : (l : ℕ) (w : World) (k : ℕ → Answer) → ((m : ℕ) → Back w (k m)) → Back w (spend l w k)
   spend_back zero w k h = λ e. e
   spend_back (suc m) w k h = h m
 
+  pub calls_by_back : (p : Program) (looks : Bool) (n : ℕ) → CallsBack (calls_by p looks n)
+  unfolding calls_by
+  calls_by_back p looks zero = record { by = λ f xs d w e. e }
+  calls_by_back p looks (suc n) = record {
+    by = λ f xs d w. spend_back w.left w _ (λ m. need_back (slice_get p.procs f) w _ (λ q. need_back (one_each q.params xs) w _ (λ bs. given_back looks _ w _ (λ e.
+        every_front w.seen _ (code_by_back p (calls_by p looks n) (calls_by_back p looks n) looks (with_vars bs (λ y. None)) d q.body (passing (with_vars bs (λ y. None)) (spent f d m w)) e)))));
+  }
+
   pub calls_back : (p : Program) (n : ℕ) → CallsBack (calls p n)
   unfolding calls
-  calls_back p zero = record { by = λ f xs d w e. e }
-  calls_back p (suc n) = record {
-    by = λ f xs d w. spend_back w.left w _ (λ m. need_back (slice_get p.procs f) w _ (λ q. need_back (one_each q.params xs) w _ (λ bs e.
-        every_front w.seen _ (code_back p (calls p n) (calls_back p n) (with_vars bs (λ y. None)) d q.body (passing (with_vars bs (λ y. None)) (spent f d m w)) e))));
-  }
+  calls_back p n = calls_by_back p false n

@@ -1,17 +1,10 @@
 -- Programs whose procedures have the same parameters, and bodies that follow each other, keep each other.
-use Rattle.std.proofs.Common.{◌≡◌, ℕ, suc, List, [], ◌∷◌, map, Some, refl, ap, ◌∙◌}
-use Rattle.grin_syntax.specs.declared.program.Cell.{Cell}
-use Rattle.grin_syntax.specs.declared.program.Val.{Val}
-use Rattle.grin_syntax.specs.declared.program.Val.TheVariants.{NodeVar, Node, Vector, One}
-use Rattle.grin_syntax.specs.declared.program.Word.{Word}
-use Rattle.grin_syntax.specs.declared.program.Word.TheVariants.{Var}
-use Rattle.grin_syntax.specs.Tree.{Code, end, store, bind, Act, unit, fetch, fetch_word, update, eval, apply, call, prim, read, write, case, nested, fail, Arms, no_arm, arm, Procedure, Program}
+use Rattle.std.proofs.Common.{◌≡◌, ℕ, suc, List, [], ◌∷◌, Some, refl, ap, ◌∙◌}
+use Rattle.grin_syntax.specs.Tree.{Procedure, Program}
 use Rattle.grin_meaning.specs.Values.{Datum, State, one_each, Binding, with_vars}
 use Rattle.grin_meaning.specs.Run.{Calls, run}
-use Rattle.grin_meaning.specs.Rewritten.{rewritten, rewritten_procedure}
 use Rattle.grin_meaning.specs.Keeps.{world_of, Keeps}
 use Rattle.grin_meaning.specs.Follows.{Depths, Same, same, Follows, Every}
-use Rattle.grin_meaning.specs.Names.{WordOk, WordsOk, ValOk, CellsOk, ActOk, CodeOk, ArmsOk, ProcsOk}
 use Rattle.grin_meaning.proofs.Back.{CallsBack}
 use Rattle.grin_meaning.proofs.Alike.{same_args, same_result, Plain, setting, Agree, CodeLike}
 use Rattle.grin_meaning.proofs.Related.{CallsFollow}
@@ -46,71 +39,3 @@ module _ (P : State → Type 0) (K : Depths) (Ok : ℕ → Type 0) (g : Program)
 
     pub bodies_keep : ((i : List ℕ) (n : ℕ) → Every P (world_of (run g i n)).seen) → Keeps g (record g { procs = procs })
     bodies_keep = related_keep P K same_args same_result g procs (λ c c' cb cf. bodies (plain c c' cb cf) 0 g.procs procs (each c c' cb cf)) same
-
--- One rewriting of all bodies, by what each rewritten block does wherever the calls follow.
-module _ (P : State → Type 0) (K : Depths) (Ok : ℕ → Type 0) (f : Code → Code) (g : Program)
-    (each : (b : Code) → CodeOk Ok b → (c c' : Calls) (cb : CallsBack P c) (cf : CallsFollow P K same_args same_result c c') → CodeLike (plain P K Ok g (map (rewritten_procedure f) g.procs) c c' cb cf) b (f b)) where
-  all_like : (c c' : Calls) (cb : CallsBack P c) (cf : CallsFollow P K same_args same_result c c') (qs : List Procedure) → ProcsOk Ok qs
-      → BodiesLike P K Ok g (map (rewritten_procedure f) g.procs) (plain P K Ok g (map (rewritten_procedure f) g.procs) c c' cb cf) qs (map (rewritten_procedure f) qs)
-  all_like c c' cb cf [] ok = tt
-  all_like c c' cb cf (q ∷ qs) ok = (refl, each q.body ok.0 c c' cb cf, all_like c c' cb cf qs ok.1)
-
-  pub simulation_keeps : ProcsOk Ok g.procs → ((i : List ℕ) (n : ℕ) → Every P (world_of (run g i n)).seen) → Keeps g (rewritten f g)
-  simulation_keeps ok = bodies_keep P K Ok g (map (rewritten_procedure f) g.procs) (λ c c' cb cf. all_like c c' cb cf g.procs ok)
-
--- where nothing is asked of the states and the variables
-pub every_any : (ss : List State) → Every (λ s. Unit {0}) ss
-every_any [] = tt
-every_any (s ∷ ss) = (tt, every_any ss)
-
-abbrev pub Any : ℕ → Type 0
-Any x = Unit {0}
-
-any_word : (a : Word) → WordOk Any a
-any_word (Var x) = tt
-any_word _ = tt
-
-any_words : (ws : List Word) → WordsOk Any ws
-any_words [] = tt
-any_words (a ∷ ws) = (any_word a, any_words ws)
-
-pub any_val : (v : Val) → ValOk Any v
-any_val (NodeVar x) = tt
-any_val (Node t ws) = any_words ws
-any_val (Vector ws) = any_words ws
-any_val (One a) = any_word a
-
-pub any_cells : (cs : List Cell) → CellsOk Any cs
-any_cells [] = tt
-any_cells (c ∷ cs) = (any_val c.val, any_cells cs)
-
-mutual
-  unfolding ActOk
-
-  pub any_act : (o : Act) → ActOk Any o
-  any_act (unit v) = any_val v
-  any_act (fetch a) = any_word a
-  any_act (fetch_word a i) = any_word a
-  any_act (update a v) = (any_word a, any_val v)
-  any_act (eval a) = any_word a
-  any_act (apply v a) = (any_val v, any_word a)
-  any_act (call f ws) = any_words ws
-  any_act (prim f a b) = (any_word a, any_word b)
-  any_act read = tt
-  any_act (write a) = any_word a
-  any_act (case v as') = (any_val v, any_arms as')
-  any_act (nested b) = any_code b
-  any_act fail = tt
-
-  pub any_code : (b : Code) → CodeOk Any b
-  any_code (end o) = any_act o
-  any_code (store cs b) = (any_cells cs, any_code b)
-  any_code (bind t o b) = (any_act o, any_code b)
-
-  pub any_arms : (as' : Arms) → ArmsOk Any as'
-  any_arms no_arm = tt
-  any_arms (arm s b as') = (any_code b, any_arms as')
-
-pub any_procs : (qs : List Procedure) → ProcsOk Any qs
-any_procs [] = tt
-any_procs (q ∷ qs) = (any_code q.body, any_procs qs)

@@ -1,4 +1,5 @@
 pub mod Values
+pub mod Checks
 pub mod Run
 pub mod Keeps
 pub mod Rewritten
@@ -7,4 +8,8 @@ pub mod Names
 pub mod Slim
 pub mod Reached
 pub mod Ready
+pub mod Told
+pub mod Looking
+pub mod Full
+pub mod Spliced
 pub mod Laws

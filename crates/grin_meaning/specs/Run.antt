@@ -1,10 +1,12 @@
--- What operations, blocks and programs do.
-use Rattle.std.specs.Prelude.{ℕ, suc, zero, ℤ, pos, negsuc, Bool, false, cond, max, List, [], ◌∷◌, ◌++◌, map, length, not, Option, Some, None, slice_get, slice_set}
+-- What operations, blocks and programs do, in a run and in a run that looks at more (Looking).
+use Rattle.std.specs.Prelude.{ℕ, suc, zero, ℤ, pos, negsuc, Bool, true, false, cond, max, List, [], ◌∷◌, ◌++◌, map, length, not, Option, Some, None, slice_get, slice_set}
 use Rattle.grin_syntax.specs.declared.program.Tag.{Tag}
 use Rattle.grin_syntax.specs.declared.program.PrimOp.{PrimOp}
 use Rattle.grin_syntax.specs.declared.program.PrimOp.TheVariants.{Add, Sub, Mul, Quot, Rem, Eq, Lt}
 use Rattle.grin_syntax.specs.declared.program.Cell.{Cell}
 pub use Rattle.grin_syntax.specs.Tags.{is_part_kind, is_fun_kind, is_proc, is_part, part_from}
+pub use Rattle.grin_meaning.specs.Checks.{is_some_and}
+use Rattle.grin_meaning.specs.Checks.{is_given, fills, all_fill, is_bound_well}
 use Rattle.grin_syntax.specs.Tree.{Code, end, store, bind, Act, unit, fetch, fetch_word, update, eval, apply, call, prim, read, write, case, nested, fail, Arms, no_arm, arm, Program}
 use Rattle.numbers.specs.Numbers.{sum, difference, product, quotient, remainder, equal, less, low_byte}
 use Rattle.grin_meaning.specs.Values.{Datum, number, tag, cell, Node, Value, node, words, Env, HeapCell, World, no_alternative, out_of_units, missing, Answer, gives, stops, then_do, need, and_then, each, Binding, with_vars, one_each, fit_of, Fit, fits, fits_not, unclear, as_node, made_node, word_of, words_of, value_of, node_of, bindings_of}
@@ -85,9 +87,15 @@ choose (fits bs) w k other = k bs
 choose fits_not w k other = other
 choose unclear w k other = stops missing w
 
-abbrev pub is_some_and : {A : Type 0} → Option A → (A → Bool) → Bool
-is_some_and None f = false
-is_some_and (Some a) f = f a
+-- a looking run looks at b here: where that is false, something is missing
+abbrev pub looking : Bool → Bool → World → Answer → Answer
+looking false b w a = a
+looking true b w a = cond b a (stops missing w)
+
+-- and here at the value that is given
+abbrev pub looking_at : Bool → (Value → Bool) → Answer → Answer
+looking_at false f a = a
+looking_at true f a = then_do a (λ v w. cond (f v) (gives v w) (stops missing w))
 
 abbrev pub spend : ℕ → World → (ℕ → Answer) → Answer
 spend zero w k = stops out_of_units w
@@ -130,41 +138,69 @@ module _ (p : Program) where
         (need t.proc w (λ f. apply_part d n x f.0 t.missing w))
         (stops no_alternative w))
 
-    unfoldable mutual
-      -- an operation at nesting d
-      pub act : Env → ℕ → Act → World → Answer
-      act env d (unit v) w = need (value_of p env v) w (λ x. gives x w)
-      act env d (fetch a) w = need (and_then (word_of p env a) place_of) w (λ i. need (slice_get w.cells i) w (λ c. gives (node c.node) w))
-      act env d (fetch_word a k) w = need (and_then (word_of p env a) place_of) w (λ i. need (slice_get w.cells i) w (λ c. gives (words (node_word c.node k ∷ [])) w))
-      act env d (update a v) w = need (and_then (word_of p env a) place_of) w (λ i. need (slice_get w.cells i) w (λ c. need (node_of p env v) w (λ n. gives (words []) (with_node i n c w))))
-      act env d (eval a) w = need (and_then (word_of p env a) place_of) w (λ i. eval_cell d i w)
-      act env d (apply v a) w = need (node_of p env v) w (λ n. need (word_of p env a) w (λ x. apply_node d n x w))
-      act env d (call f as') w = need (words_of p env as') w (λ xs. calls f.0 xs d w)
-      act env d (prim f a b) w = need (word_of p env a) w (λ x. need (word_of p env b) w (λ y. need (on_numbers f x y) w (λ v. gives v w)))
-      act env d read w = gives (words (number (byte_or_end w.input) ∷ [])) (after_read w.input w)
-      act env d (write a) w = need (and_then (word_of p env a) number_of) w (λ k. gives (words []) (written k w))
-      act env d (case v as') w = need (value_of p env v) w (λ x. arms env d x as' w)
-      act env d (nested b) w = code env d b w
-      act env d fail w = stops no_alternative w
+    module _ (looks : Bool) where
+      unfoldable mutual
+        -- an operation at nesting d
+        pub act_by : Env → ℕ → Act → World → Answer
+        act_by env d (unit v) w = need (value_of p env v) w (λ x.
+            looking looks (fills p env v) w (gives x w))
+        act_by env d (fetch a) w = need (and_then (word_of p env a) place_of) w (λ i.
+            need (slice_get w.cells i) w (λ c. gives (node c.node) w))
+        act_by env d (fetch_word a k) w = need (and_then (word_of p env a) place_of) w (λ i.
+            need (slice_get w.cells i) w (λ c. gives (words (node_word c.node k ∷ [])) w))
+        act_by env d (update a v) w = need (and_then (word_of p env a) place_of) w (λ i.
+            need (slice_get w.cells i) w (λ c. need (node_of p env v) w (λ n.
+            looking looks (fills p env v) w (gives (words []) (with_node i n c w)))))
+        act_by env d (eval a) w = need (and_then (word_of p env a) place_of) w (λ i. eval_cell d i w)
+        act_by env d (apply v a) w = need (node_of p env v) w (λ n. need (word_of p env a) w (λ x. apply_node d n x w))
+        act_by env d (call f as') w = need (words_of p env as') w (λ xs. calls f.0 xs d w)
+        act_by env d (prim f a b) w = need (word_of p env a) w (λ x. need (word_of p env b) w (λ y.
+            need (on_numbers f x y) w (λ v. gives v w)))
+        act_by env d read w = gives (words (number (byte_or_end w.input) ∷ [])) (after_read w.input w)
+        act_by env d (write a) w = need (and_then (word_of p env a) number_of) w (λ k. gives (words []) (written k w))
+        act_by env d (case v as') w = need (value_of p env v) w (λ x. arms_by env d x as' w)
+        act_by env d (nested b) w = code_by env d b w
+        act_by env d fail w = stops no_alternative w
 
-      -- a block at nesting d: what a statement binds is evaluated one level deeper
-      pub code : Env → ℕ → Code → World → Answer
-      code env d (end o) w = act env d o w
-      code env d (store cs b) w =
-          let bs = places (length w.cells) cs in
-          need (cells_of (with_vars bs env) cs) w (λ hs. code (with_vars bs env) d b (passing (with_vars bs env) (with_cells hs w)))
-      code env d (bind t o b) w = then_do (act env (suc d) o w) (λ v w'. need (bindings_of p t v) w' (λ bs. code (with_vars bs env) d b (passing (with_vars bs env) w')))
+        -- a block at nesting d: what a statement binds is evaluated one level deeper
+        pub code_by : Env → ℕ → Code → World → Answer
+        code_by env d (end o) w = act_by env d o w
+        code_by env d (store cs b) w =
+            let env' = with_vars (places (length w.cells) cs) env in
+            need (cells_of env' cs) w (λ hs. looking looks (all_fill p env' cs) w
+            (code_by env' d b (passing env' (with_cells hs w))))
+        code_by env d (bind t o b) w = then_do (act_by env (suc d) o w) (λ v w'.
+            looking looks (is_bound_well p t o v) w' (need (bindings_of p t v) w' (λ bs.
+            code_by (with_vars bs env) d b (passing (with_vars bs env) w'))))
 
-      -- the first alternative whose pattern fits
-      pub arms : Env → ℕ → Value → Arms → World → Answer
-      arms env d v no_arm w = stops missing w
-      arms env d v (arm s b as') w = choose (fit_of p s v) w (λ bs. code (with_vars bs env) d b (passing (with_vars bs env) w)) (arms env d v as' w)
+        -- the first alternative whose pattern fits
+        pub arms_by : Env → ℕ → Value → Arms → World → Answer
+        arms_by env d v no_arm w = stops missing w
+        arms_by env d v (arm s b as') w = choose (fit_of p s v) w
+            (λ bs. code_by (with_vars bs env) d b (passing (with_vars bs env) w)) (arms_by env d v as' w)
 
-  -- calls, where at most n units are left: a call spends one at its nesting
+    -- what they do in a run that does not look
+    unfoldable pub act : Env → ℕ → Act → World → Answer
+    unfolding act_by
+    act = act_by false
+
+    abbrev pub code : Env → ℕ → Code → World → Answer
+    code = code_by false
+
+    abbrev pub arms : Env → ℕ → Value → Arms → World → Answer
+    arms = arms_by false
+
+  module _ (looks : Bool) where
+    -- calls, where at most n units are left: a call spends one at its nesting
+    unfoldable pub calls_by : ℕ → Calls
+    calls_by zero f xs d w = stops out_of_units w
+    calls_by (suc n) f xs d w = spend w.left w (λ m. need (slice_get p.procs f) w (λ q.
+        need (one_each q.params xs) w (λ bs. let env : Env = with_vars bs (λ y. None) in
+        looking_at looks (is_given p) (code_by (calls_by n) looks env d q.body (passing env (spent f d m w))))))
+
   unfoldable pub calls : ℕ → Calls
-  calls zero f xs d w = stops out_of_units w
-  calls (suc n) f xs d w = spend w.left w (λ m. need (slice_get p.procs f) w (λ q. need (one_each q.params xs) w (λ bs.
-      code (calls n) (with_vars bs (λ y. None)) d q.body (passing (with_vars bs (λ y. None)) (spent f d m w)))))
+  unfolding calls_by
+  calls = calls_by false
 
   -- the start: the global cells are there
   abbrev pub global_cells : List HeapCell
@@ -173,6 +209,10 @@ module _ (p : Program) where
   abbrev pub start_world : List ℕ → ℕ → World
   start_world i n = record { cells = global_cells; out = []; left = n; depth = 0; entered = []; seen = []; input = i; used = 0 }
 
-  -- the run of the program on the input i with n units
+  -- the run of the program on the input i with n units, where it looks or not
+  unfoldable pub run_by : Bool → List ℕ → ℕ → Answer
+  run_by looks i n = calls_by looks n p.start.0 (start_words p.argument) 0 (start_world i n)
+
+  -- the run that does not look
   unfoldable pub run : List ℕ → ℕ → Answer
   run i n = calls n p.start.0 (start_words p.argument) 0 (start_world i n)

@@ -10,8 +10,8 @@ use Rattle.flow_system.specs.Tables.{Tables, tables}
 use Rattle.flow_system.specs.System.{system}
 use Rattle.flow_system.specs.Inclusions.{Inclusion}
 use Rattle.flow_system.specs.Solution.{Solution, IsLeast}
-use Rattle.flow_system.specs.Covers.{Started}
-use Rattle.flow_system.specs.Inlining.{eval_inlined, apply_inlined, inlined_size}
+use Rattle.eval_inline.specs.Inlining.{eval_inlined}
+use Rattle.apply_inline.specs.Inlining.{apply_inlined, inlined_size}
 use Rattle.eval_inline.specs.Analysed.{IsAnalysed}
 use Rattle.apply_inline.specs.Before.{IsEvalInlined}
 use Rattle.apply_inline.specs.Law.{NeverMissing}
@@ -20,26 +20,23 @@ use Rattle.translated_form.proofs.Limits.{valid_is_well_formed}
 use Rattle.inlined_form.proofs.Readiness.{never_missing}
 use Rattle.inlined_form.proofs.SizesFit.{sizes_fit}
 use Rattle.grin_opt.specs.declared.pass.PassName.TheVariants.{Translate, Eval, Apply}
-use Rattle.grin_stages.specs.Stage.{IsChecked, Analyses, IsStage, translated, evaluations_inlined, both_inlined, HasExpandedSize, Fits}
+use Rattle.grin_stages.specs.Stage.{Analyses, IsStage, translated, evaluations_inlined, both_inlined, HasExpandedSize, Fits}
 use Rattle.grin_stages.specs.Analysed.{IsMade}
-
-pub checked_is_valid : (p : Program) → IsChecked p → IsValid p
-checked_is_valid p c = record { program = c.source; different = c.readable.different; unbroken = c.unbroken; normal = c.normal }
 
 -- the solution of a program's system
 pub least_of : (g h : grin.Program) (t : Tables) (cs : List Inclusion) (A : Solution) → g ≡ h → t ≡ tables g → cs ≡ system g → IsLeast t cs A → IsLeast (tables h) (system h) A
 least_of g h t cs A e f k l = subst (λ h. IsLeast (tables h) (system h) A) e (subst (λ cs. IsLeast (tables g) cs A) k (subst (λ t. IsLeast t cs A) f l))
 
 -- the size that was found is that of the inlined translation
-pub size_of : (p : Program) → IsChecked p → (g : grin.Program) (A : Solution) (n : ℕ) → Formed (tr p) → g ≡ tr p → Analyses p A → (Formed g → inlined_size A g < 2 ^ 64 → n ≡ inlined_size A g) → HasExpandedSize p n
+pub size_of : (p : Program) → IsValid p → (g : grin.Program) (A : Solution) (n : ℕ) → Formed (tr p) → g ≡ tr p → Analyses p A → (Formed g → inlined_size A g < 2 ^ 64 → n ≡ inlined_size A g) → HasExpandedSize p n
 size_of p c g A n formed e least h =
-    let is : n ≡ inlined_size A (tr p) = subst (λ g. Formed g → inlined_size A g < 2 ^ 64 → n ≡ inlined_size A g) e h formed (sizes_fit c.source p c.readable c.unbroken c.normal A) in
+    let is : n ≡ inlined_size A (tr p) = subst (λ g. Formed g → inlined_size A g < 2 ^ 64 → n ≡ inlined_size A g) e h formed (sizes_fit p c A) in
     record { solution = A; least = least; is_size = is }
 
-pub analysis_of : (p : Program) → IsChecked p → (A : Solution) (n : ℕ) → Formed (tr p) → Started (tr p) → Analyses p A → HasExpandedSize p n → n ≤ 131072
+pub analysis_of : (p : Program) → IsValid p → (A : Solution) (n : ℕ) → Formed (tr p) → Analyses p A → HasExpandedSize p n → n ≤ 131072
     → Fits p × IsAnalysed A (tr p) × NeverMissing (tr p)
-analysis_of p c A n formed started least expanded small =
-    (record { size = n; expanded = expanded; small = small }, record { formed = formed; started = started; solves = least.solves }, never_missing p (valid_is_well_formed p (checked_is_valid p c)))
+analysis_of p c A n formed least expanded small =
+    (record { size = n; expanded = expanded; small = small }, record { formed = formed; solves = least.solves }, never_missing p (valid_is_well_formed p c))
 
 pub made_translation : (p : Program) (g : grin.Program) → Formed (tr p) → g ≡ tr p → IsMade p Translate g
 made_translation p g formed e = subst (IsMade p Translate) (sym e) (record { made = translated; formed = formed; meaning = record { same_out = λ i n m. refl; same_used = λ i n m. refl; same_end = λ i n m. refl; no_more_cells = λ i n m. omega arith; no_deeper = λ i n m. omega arith }; fits = λ h. absurd (h refl) })

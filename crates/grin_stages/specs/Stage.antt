@@ -1,27 +1,17 @@
 -- The stages of a program in GRIN.
 use Rattle.std.specs.Prelude.{◌≡◌, ◌≢◌, ◌<◌, ◌≤◌, ℕ}
-use Rattle.core_reader.specs.Tree as tree
-use Rattle.core_reader.specs.Readable.{IsReadable}
-use Rattle.arity_check.specs.Accepted.{IsUnbroken}
-use Rattle.arity_check.specs.Normal.{IsNormalForm}
 use Rattle.arity_check.specs.Program.{Program}
 use Rattle.grin_syntax.specs.Tree as grin
 use Rattle.flow_system.specs.Tables.{tables}
 use Rattle.flow_system.specs.System.{system}
 use Rattle.flow_system.specs.Solution.{Solution, IsLeast}
-use Rattle.flow_system.specs.Inlining.{eval_inlined, inlined, inlined_size}
+use Rattle.eval_inline.specs.Inlining.{eval_inlined}
+use Rattle.apply_inline.specs.Inlining.{inlined, inlined_size}
 use Rattle.grin_translate.specs.Translation.{tr}
 use Rattle.grin_opt.specs.declared.pass.PassName.{PassName}
 use Rattle.grin_opt.specs.declared.pass.PassName.TheVariants.{Translate, Eval, Apply}
 use Rattle.grin_stages.specs.declared.refusal.CompileRefusal.{CompileRefusal}
 use Rattle.grin_stages.specs.declared.refusal.CompileRefusal.TheVariants.{ExpandedTooLarge, Memory}
-
--- the normal form of a program that was read and breaks no rule
-pub record IsChecked (p : Program) : Type 0 where
-  pub source : tree.Program
-  pub readable : IsReadable source
-  pub unbroken : IsUnbroken source
-  pub normal : IsNormalForm source p
 
 -- the least solution of the translation's flow system
 abbrev pub Analyses : Program → Solution → Type 0

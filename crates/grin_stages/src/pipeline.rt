@@ -1,13 +1,14 @@
 // The stages of a program, from its translation on.
 
 ghost use Rattle.std.specs.Prelude.{◌≢◌, IfOk, IfErr};
+ghost use Rattle.arity_check.specs.Accepted.{IsValid};
 ghost use Rattle.arity_check.specs.Program.{program};
 ghost use Rattle.grin_syntax.specs.Tree.{program_of};
 ghost use Rattle.grin_syntax.specs.Formed.{Formed};
 ghost use Rattle.grin_meaning.specs.Keeps.{Keeps};
 ghost use Rattle.grin_translate.specs.Translation.{tr};
 ghost use Rattle.grin_opt.specs.declared.pass.PassName.TheVariants.{Translate, Eval, Apply};
-ghost use Rattle.grin_stages.specs.Stage.{IsChecked, IsStage, Fits, IsTooLarge, IsLarge};
+ghost use Rattle.grin_stages.specs.Stage.{IsStage, Fits, IsTooLarge, IsLarge};
 ghost use Rattle.grin_stages.specs.Analysed.{IsAnalysisOf, IsMade};
 
 use crate::refusal::CompileRefusal;
@@ -33,7 +34,7 @@ pub(crate) struct Analysis {
 
 /// Translates and analyses a program. `ExpandedTooLarge` where it is over 131,072 in size once it is inlined.
 fn analyse(alloc: Global, p: &Checked) -> Result<Analysis, CompileRefusal>
-    requires { IsChecked (program p.now) }
+    requires { IsValid (program p.now) }
     ensures analysed { IfOk result (IsAnalysisOf (program p.now)) }
     ensures refused { IfErr result (IsLarge (program p.now)) }
 {
@@ -50,7 +51,7 @@ fn analyse(alloc: Global, p: &Checked) -> Result<Analysis, CompileRefusal>
 
 /// The translation.
 fn translated(alloc: Global, p: &Checked) -> Result<Grin, CompileRefusal>
-    requires { IsChecked (program p.now) }
+    requires { IsValid (program p.now) }
     ensures made { IfOk result (λ g. IsMade (program p.now) Translate (program_of g)) }
     ensures refused { IfErr result (IsTooLarge (program p.now) Translate) }
 {
@@ -61,7 +62,7 @@ fn translated(alloc: Global, p: &Checked) -> Result<Grin, CompileRefusal>
 
 /// The translation with its evaluations inlined.
 fn evaluated(alloc: Global, p: &Checked) -> Result<Grin, CompileRefusal>
-    requires { IsChecked (program p.now) }
+    requires { IsValid (program p.now) }
     ensures made { IfOk result (λ g. IsMade (program p.now) Eval (program_of g)) }
     ensures refused { IfErr result (IsLarge (program p.now)) }
 {
@@ -72,7 +73,7 @@ fn evaluated(alloc: Global, p: &Checked) -> Result<Grin, CompileRefusal>
 
 /// The translation with its evaluations and applications inlined.
 fn applied(alloc: Global, p: &Checked) -> Result<Grin, CompileRefusal>
-    requires { IsChecked (program p.now) }
+    requires { IsValid (program p.now) }
     ensures made { IfOk result (λ g. IsMade (program p.now) Apply (program_of g)) }
     ensures refused { IfErr result (IsLarge (program p.now)) }
 {
@@ -86,7 +87,7 @@ fn applied(alloc: Global, p: &Checked) -> Result<Grin, CompileRefusal>
 /// The program of a stage. `ExpandedTooLarge` exactly where `upto` is behind `Translate` and the program is over 131,072 in
 /// size once it is inlined.
 pub fn stage(alloc: Global, p: &Checked, upto: PassName) -> Result<Grin, CompileRefusal>
-    requires { IsChecked (program p.now) }
+    requires { IsValid (program p.now) }
     ensures made { IfOk result (λ g. IsStage (program p.now) upto (program_of g)) }
     ensures formed { IfOk result (λ g. Formed (program_of g)) }
     ensures meaning { IfOk result (λ g. Keeps (tr (program p.now)) (program_of g)) }

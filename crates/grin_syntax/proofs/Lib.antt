@@ -1,4 +1,8 @@
 pub mod TreeOf
 pub mod Placed
 pub mod Listed
-pub mod FormedAgain
+pub mod Pieces
+pub mod Past
+pub mod Counted
+pub mod Unbound
+pub mod Scopes

@@ -9,20 +9,43 @@ use Rattle.grin_syntax.specs.declared.program.Word as W
 use Rattle.grin_syntax.specs.declared.program.Word.TheVariants.{Lit, Var, Global, TagWord}
 use Rattle.grin_syntax.specs.declared.program.Val as V
 use Rattle.grin_syntax.specs.declared.program.Val.TheVariants.{NodeVar, Node, Vector, One}
+use Rattle.grin_syntax.specs.declared.program.Target.{Target}
+use Rattle.grin_syntax.specs.declared.program.Target.TheVariants as to
 use Rattle.grin_syntax.specs.declared.program.Shape as S
 use Rattle.grin_syntax.specs.declared.program.Shape.TheVariants as shape
 use Rattle.grin_syntax.specs.declared.program.Cell.{Cell}
+use Rattle.grin_syntax.specs.declared.program.GlobalCell.{GlobalCell}
 use Rattle.grin_syntax.specs.Tree.{Code, end, store, bind, Act, unit, fetch, fetch_word, update, eval, apply, call, prim, read, write, case, nested, fail, Arms, no_arm, arm, Procedure, Program}
-use Rattle.grin_syntax.specs.Binders.{times, numbers_of, target_vars, shape_vars, cell_vars, program_vars, program_sites}
+use Rattle.grin_syntax.specs.Binders.{times, numbers_of, shape_vars, cell_vars, program_vars, program_sites}
 use Rattle.grin_syntax.specs.Tags.{is_part}
 
 abbrev pub AllOf : {A : Type 0} → (A → Type 0) → List A → Type 0
 AllOf P [] = Unit {0}
 AllOf P (x ∷ xs) = P x × AllOf P xs
 
--- a variable is among those in scope
+-- The variables in scope: those that stand for a node, and those that stand for a word.
+pub record Scope : Type 0 where
+  pub nodes : List ℕ
+  pub words : List ℕ
+
+-- a variable is among these
 abbrev pub InScope : List ℕ → ℕ → Type 0
-InScope scope x = 0 < times x scope
+InScope xs x = 0 < times x xs
+
+-- with further variables for words in scope
+abbrev pub with_words : List ℕ → Scope → Scope
+with_words xs scope = record { nodes = scope.nodes; words = xs ++ scope.words }
+
+-- with what a target binds: a node target a node, each other one words
+abbrev pub with_target : Target → Scope → Scope
+with_target to.Nothing scope = scope
+with_target (to.Node x) scope = record { nodes = x.0 ∷ scope.nodes; words = scope.words }
+with_target (to.One x) scope = with_words (x.0 ∷ []) scope
+with_target (to.Vector xs) scope = with_words (numbers_of xs) scope
+
+-- the parameters of a procedure are words
+abbrev pub params_scope : Procedure → Scope
+params_scope q = record { nodes = []; words = numbers_of q.params }
 
 -- so many words go to the start
 abbrev pub argument_words : Option ℕ → ℕ
@@ -39,16 +62,16 @@ module _ (p : Program) where
   abbrev pub GlobalKnown : ℕ → Type 0
   GlobalKnown i = i < length p.globals
 
-  -- each variable of a piece is in scope, and its tags, procedures and globals are those of the program
-  module _ (scope : List ℕ) where
+  -- each variable of a piece is in scope as what it stands for there, a node or a word; and its tags, procedures and globals are those of the program
+  module _ (scope : Scope) where
     abbrev pub WordFormed : W.Word → Type 0
     WordFormed (Lit k) = Unit {0}
-    WordFormed (Var x) = InScope scope x.0
+    WordFormed (Var x) = InScope scope.words x.0
     WordFormed (Global i) = GlobalKnown i
     WordFormed (TagWord t) = TagKnown t
 
     abbrev pub ValFormed : V.Val → Type 0
-    ValFormed (NodeVar x) = InScope scope x.0
+    ValFormed (NodeVar x) = InScope scope.nodes x.0
     ValFormed (Node t ws) = TagKnown t × AllOf WordFormed ws
     ValFormed (Vector ws) = AllOf WordFormed ws
     ValFormed (One a) = WordFormed a
@@ -62,7 +85,7 @@ module _ (p : Program) where
   ShapeFormed shape.Else = Unit {0}
 
   unfoldable mutual
-    pub ActFormed : List ℕ → Act → Type 0
+    pub ActFormed : Scope → Act → Type 0
     ActFormed scope (unit v) = ValFormed scope v
     ActFormed scope (fetch a) = WordFormed scope a
     ActFormed scope (fetch_word a i) = WordFormed scope a
@@ -78,17 +101,22 @@ module _ (p : Program) where
     ActFormed scope fail = Unit {0}
 
     -- what a store binds is in scope in all its cells and after it, what an operation binds after it
-    pub CodeFormed : List ℕ → Code → Type 0
+    pub CodeFormed : Scope → Code → Type 0
     CodeFormed scope (end o) = ActFormed scope o
-    CodeFormed scope (store cs b) = AllOf (CellFormed (cell_vars cs ++ scope)) cs × CodeFormed (cell_vars cs ++ scope) b
-    CodeFormed scope (bind t o b) = ActFormed scope o × CodeFormed (target_vars t ++ scope) b
+    CodeFormed scope (store cs b) = AllOf (CellFormed (with_words (cell_vars cs) scope)) cs × CodeFormed (with_words (cell_vars cs) scope) b
+    CodeFormed scope (bind t o b) = ActFormed scope o × CodeFormed (with_target t scope) b
 
-    pub ArmsFormed : List ℕ → Arms → Type 0
+    -- what a pattern binds, words, is in scope in its alternative
+    pub ArmsFormed : Scope → Arms → Type 0
     ArmsFormed scope no_arm = Unit {0}
-    ArmsFormed scope (arm s b as') = ShapeFormed s × CodeFormed (shape_vars s ++ scope) b × ArmsFormed scope as'
+    ArmsFormed scope (arm s b as') = ShapeFormed s × CodeFormed (with_words (shape_vars s) scope) b × ArmsFormed scope as'
 
   abbrev pub ProcedureFormed : Procedure → Type 0
-  ProcedureFormed q = CodeFormed (numbers_of q.params) q.body
+  ProcedureFormed q = CodeFormed (params_scope q) q.body
+
+  -- the tag of a global cell has no fields
+  abbrev pub GlobalFormed : GlobalCell → Type 0
+  GlobalFormed c = (t : Tag) × (slice_get p.tags c.tag.0 ≡ Some t) × (t.fields ≡ 0)
 
   abbrev pub KnownIfAny : Option ProcId → Type 0
   KnownIfAny None = Unit {0}
@@ -123,9 +151,9 @@ module _ (p : Program) where
     -- each variable is bound at one place of the program, and each site stands at one
     pub variables_once : (x : ℕ) → times x (program_vars p) ≤ 1
     pub sites_once : (s : ℕ) → times s (program_sites p) ≤ 1
-    -- each variable is bound before its uses, and what is named is there
+    -- each variable is bound before its uses, and to what it stands for there; and what is named is there
     pub procedures : AllOf ProcedureFormed p.procs
-    pub globals : AllOf (λ c. TagKnown c.tag) p.globals
+    pub globals : AllOf GlobalFormed p.globals
     pub tags : AllOf TagFormed p.tags
     -- tag 0 is that of a number, its one field
     pub number_tag : (t : Tag) × (slice_get p.tags 0 ≡ Some t) × (t.kind ≡ kind.Con) × (t.name ≡ codes "Int") × (t.fields ≡ 1)

@@ -3,7 +3,12 @@ use Rattle.std.specs.Prelude.{ℕ, suc, Bool, true, false, cond, nat_eq, ◌&&�
 use Rattle.grin_syntax.specs.declared.program.TagKind.{TagKind}
 use Rattle.grin_syntax.specs.declared.program.TagKind.TheVariants.{Fun, Part}
 use Rattle.grin_syntax.specs.declared.program.Tag.{Tag}
+use Rattle.grin_syntax.specs.declared.program.TagId.{TagId}
 use Rattle.grin_syntax.specs.declared.program.ProcId.{ProcId}
+
+-- the tag with this number
+abbrev pub tag_id : ℕ → TagId
+tag_id t = record { 0 = t }
 
 abbrev pub is_part_kind : TagKind → Bool
 is_part_kind Part = true

@@ -2,6 +2,7 @@
 #![tactic(auto)]
 
 pub mod copies;
+pub mod fresh;
 mod line;
 mod listing;
 pub mod program;

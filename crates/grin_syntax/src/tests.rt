@@ -1,5 +1,6 @@
 // Programs made by hand, and their listings.
 
+use crate::fresh::Fresh;
 use crate::{
     Alt, Block, Cell, GlobalCell, Grin, Op, PrimOp, Proc, ProcId, Shape, Site, Stmt, Tag, TagId,
     TagKind, Target, Val, VarId, Word, copy, list,
@@ -304,5 +305,15 @@ fn a_copy_has_the_same_listing(rt: HostRuntime) -> Result<(), AllocError> {
     let copied = copy(rt.alloc(), &all(rt.alloc())?)?;
     let printed = list(rt.alloc(), &copied)?;
     assert_eq!(rt; printed.as_slice(), ALL.as_bytes());
+    Ok(())
+}
+
+// The program with each operation binds no variable past number 81.
+#[test]
+fn fresh_variables_follow_all_others(rt: HostRuntime) -> Result<(), AllocError> {
+    let mut fresh = Fresh::past(all(rt.alloc())?.procs.as_slice());
+    assert_eq!(rt; fresh.variable()?, VarId(82));
+    let more = fresh.variables(rt.alloc(), 2)?;
+    assert_eq!(rt; more.as_slice(), [VarId(83), VarId(84)].as_slice());
     Ok(())
 }

@@ -15,8 +15,6 @@ mod names;
 pub mod numbering;
 mod procedures;
 pub mod tags;
-#[cfg(test)]
-mod tests;
 mod variables;
 mod waiting;
 

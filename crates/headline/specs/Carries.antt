@@ -1,13 +1,16 @@
 -- A meaning that is bounded by units and a machine that is bounded by steps say the same.
-use Rattle.std.specs.Prelude.{◌⊎◌, ◌≡◌, ℕ, zero, suc, ◌+◌, ◌*◌, ◌≤◌, List, ◌++◌}
+use Rattle.std.specs.Prelude.{◌⊎◌, ◌≡◌, ℕ, zero, suc, ◌+◌, ◌*◌, ◌≤◌, ◌<◌, List, [], ◌∷◌, ◌++◌}
 
--- how a program stands within its units: it goes on, its list has ended, or a value is accepted by nothing
+-- how a program stands within its units: it goes on, its list has ended, a value is accepted by nothing, or something is missing
+-- that no program of ours lacks
 pub data End : Type 0 where
   going : End
   done : End
   no_alternative : End
+  missing : End
 
--- what a meaning tells: the bytes put out, the end, the number of cells, the greatest nesting, and the bytes taken
+-- what a meaning tells: the bytes put out, the end, the number of cells, the greatest depth, and the bytes taken. Depth is
+-- counted in nestings of evaluations, or in words of frames where the meaning has frames
 pub record Told : Type 0 where
   pub out : List ℕ
   pub end : End
@@ -33,6 +36,11 @@ Meaning = (input : List ℕ) → (units : ℕ) → Told
 abbrev pub Machine : Type 0
 Machine = (input : List ℕ) → (steps : ℕ) → Seen
 
+-- an input is a list of bytes
+abbrev pub IsBytes : List ℕ → Type 0
+IsBytes [] = Unit {0}
+IsBytes (b ∷ bs) = (b < 256) × IsBytes bs
+
 -- the second is the first with more behind it
 abbrev pub Begins : List ℕ → List ℕ → Type 0
 Begins xs ys = (more : List ℕ) × (ys ≡ xs ++ more)
@@ -42,31 +50,59 @@ abbrev pub Matches : End → Told → Seen → Type 0
 Matches going t s = Unit {0}
 Matches done t s = (s.out ≡ t.out) × (s.finish ≡ exits 0)
 Matches no_alternative t s = (s.out ≡ t.out) × (s.finish ≡ exits 3)
+Matches missing t s = ⊥
 
--- the machine has written what the meaning tells, and ended where that has
-pub record Reaches (t : Told) (s : Seen) : Type 0 where
-  pub output : Begins t.out s.out
-  pub ended : Matches t.end t s
+-- the machine has ended early: its heap or its stack was full
+abbrev pub IsFull : Finish → Type 0
+IsFull f = (f ≡ exits 4) ⊎ (f ≡ exits 5)
 
--- what each finish of the machine says of what is told
-abbrev pub Finishes : Told → Seen → Finish → Type 0
-Finishes t s runs = Unit {0}
-Finishes t s (exits zero) = (s.out ≡ t.out) × (s.used ≡ t.used) × (t.end ≡ done)
-Finishes t s (exits (suc (suc (suc zero)))) = (s.out ≡ t.out) × (s.used ≡ t.used) × (t.end ≡ no_alternative)
-Finishes t s (exits _) = ⊥
-Finishes t s traps = ⊥
+-- the machine has written what the meaning tells and ended where that has, or it was full on the way there
+abbrev pub Reaches : Told → Seen → Type 0
+Reaches t s = (Begins t.out s.out × Matches t.end t s) ⊎ (IsFull s.finish × Begins s.out t.out)
 
--- the machine has written no more than the meaning tells, read no more, and ended only where that has
-pub record Comes (t : Told) (s : Seen) : Type 0 where
-  pub output : Begins s.out t.out
-  pub used : s.used ≤ t.used
-  pub finish : Finishes t s s.finish
+-- what is told of one unit less, where there is one, begins this output
+abbrev pub After : (ℕ → Told) → (n : ℕ) → (out : List ℕ) → Type 0
+After told zero out = Unit {0}
+After told (suc n) out = Begins (told n).out out
 
--- the machine carries the meaning: each says what the other says, however far they go, and there is no trap and no other exit
-pub record Carries (told : Meaning) (seen : Machine) : Type 0 where
-  pub reaches : (input : List ℕ) (n : ℕ) → (m : ℕ) × Reaches (told input n) (seen input m)
-  pub comes : (input : List ℕ) (m : ℕ) → (n : ℕ) × Comes (told input n) (seen input m)
+-- HeapFull and StackFull say of what is told that it needs more than was given
+module _ (HeapFull StackFull : Told → Type 0) where
+  -- what each finish of the machine says of what n units tell
+  abbrev pub Finishes : (ℕ → Told) → (n : ℕ) → Seen → Finish → Type 0
+  Finishes told n s runs = Unit {0}
+  Finishes told n s (exits zero) = (s.out ≡ (told n).out) × (s.used ≡ (told n).used) × ((told n).end ≡ done)
+  Finishes told n s (exits (suc (suc (suc zero)))) =
+      (s.out ≡ (told n).out) × (s.used ≡ (told n).used) × ((told n).end ≡ no_alternative)
+  Finishes told n s (exits (suc (suc (suc (suc zero))))) = HeapFull (told n) × After told n s.out
+  Finishes told n s (exits (suc (suc (suc (suc (suc zero)))))) = StackFull (told n) × After told n s.out
+  Finishes told n s (exits _) = ⊥
+  Finishes told n s traps = ⊥
+
+  -- the machine has written no more than n units tell, read no more, and ended only as they say
+  pub record Comes (told : ℕ → Told) (n : ℕ) (s : Seen) : Type 0 where
+    pub output : Begins s.out (told n).out
+    pub used : s.used ≤ (told n).used
+    pub finish : Finishes told n s s.finish
+
+  -- the machine carries the meaning: each says what the other says, however far they go, but that the machine may be full; and
+  -- there is no trap and no other exit
+  pub record Carries (told : Meaning) (seen : Machine) : Type 0 where
+    pub reaches : (i : List ℕ) → IsBytes i → (n : ℕ) → (m : ℕ) × Reaches (told i n) (seen i m)
+    pub comes : (i : List ℕ) → IsBytes i → (m : ℕ) → (n : ℕ) × Comes (told i) n (seen i m)
 
 -- and keeps pace with it: so many steps are enough for each unit and the start
 abbrev pub KeepsPace : (steps : ℕ) → Meaning → Machine → Type 0
-KeepsPace steps told seen = (input : List ℕ) (n m : ℕ) → steps * (n + 1) ≤ m → Reaches (told input n) (seen input m)
+KeepsPace steps told seen =
+    (i : List ℕ) → IsBytes i → (n m : ℕ) → steps * (n + 1) ≤ m → Reaches (told i n) (seen i m)
+
+-- a second meaning tells the same output, end and bytes taken, and no more cells
+pub record Tells (t t' : Told) : Type 0 where
+  pub out : t'.out ≡ t.out
+  pub end : t'.end ≡ t.end
+  pub used : t'.used ≡ t.used
+  pub cells : t'.cells ≤ t.cells
+
+-- two machines show the same: each moment of one is a moment of the other
+pub record Shows (seen seen' : Machine) : Type 0 where
+  pub there : (i : List ℕ) (m : ℕ) → (k : ℕ) × (seen' i k ≡ seen i m)
+  pub back : (i : List ℕ) (k : ℕ) → (m : ℕ) × (seen' i k ≡ seen i m)

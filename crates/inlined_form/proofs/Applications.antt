@@ -9,9 +9,10 @@ use Rattle.grin_syntax.specs.declared.program.Word.{Word}
 use Rattle.grin_syntax.specs.declared.program.Word.TheVariants.{Var}
 use Rattle.grin_syntax.specs.Tree.{Code, end, store, bind, Act, unit, fetch, fetch_word, update, eval, apply, call, prim, read, write, case, nested, fail, Arms, no_arm, arm, Procedure, Program}
 use Rattle.grin_syntax.specs.Formed.{AllOf}
+use Rattle.grin_syntax.specs.Fresh.{variables, past_procs}
 use Rattle.grin_meaning.specs.Run.{is_fun_kind, is_part_kind, is_some_and, is_part, is_proc, part_from}
 use Rattle.flow_system.specs.Solution.{Solution}
-use Rattle.flow_system.specs.Inlining.{variables, with_one_more, apply_body, part_body, apply_arms, parts_of, others_of, else_fail, apply_act, apply_code, apply_all, apply_procs, apply_act_room, apply_code_room, past_procs, apply_inlined}
+use Rattle.apply_inline.specs.Inlining.{with_one_more, apply_body, part_body, apply_arms, parts_of, others_of, else_fail, apply_act, apply_code, apply_all, apply_procs, apply_act_room, apply_code_room, apply_inlined}
 use Rattle.inlined_form.proofs.Sorts.{Sorts, nothing_known, sort_of, WordsFit, vars_sorted, cells_sorted, target_sorted, delayed, alternative_sorted, ActFits, CodeFits, ArmsFit, ProcedureFits, ProgramFits}
 
 -- the first tag is none of a function that lacks arguments

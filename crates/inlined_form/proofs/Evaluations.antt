@@ -10,9 +10,10 @@ use Rattle.grin_syntax.specs.declared.program.Val.TheVariants.{NodeVar}
 use Rattle.grin_syntax.specs.declared.program.Word.{Word}
 use Rattle.grin_syntax.specs.Tree.{Code, end, store, bind, Act, unit, fetch, fetch_word, update, eval, apply, call, prim, read, write, case, nested, fail, Arms, no_arm, arm, Procedure, Program}
 use Rattle.grin_syntax.specs.Formed.{AllOf}
+use Rattle.grin_syntax.specs.Fresh.{variable, variables, past_act, past_code, past_arms, past_procs}
 use Rattle.grin_meaning.specs.Run.{is_fun_kind, is_some_and}
 use Rattle.flow_system.specs.Solution.{Solution}
-use Rattle.flow_system.specs.Inlining.{variable, variables, past_act, past_code, past_arms, past_procs, call_body, eval_body, eval_arms, evaluation, eval_bound, eval_ended, eval_act, eval_code, eval_all, eval_procs, eval_inlined, act_room, code_room, tags_of}
+use Rattle.eval_inline.specs.Inlining.{call_body, eval_body, eval_arms, evaluation, eval_bound, eval_ended, eval_act, eval_code, eval_all, eval_procs, eval_inlined, act_room, code_room, tags_of}
 use Rattle.inlined_form.proofs.Sorts.{Sort, anything, a_node, evaluated, Sorts, nothing_known, sorted, vars_sorted, cells_sorted, target_sorted, sort_of, IsNode, TargetFits, ScrutineeFits, delayed, alternative_sorted, ActFits, CodeFits, ArmsFit, ProcedureFits, ProgramFits}
 use Rattle.inlined_form.proofs.Knows.{Knows, knows_self, knows_cells, knows_target, knows_alternative, kept_known, all_known, scrutinee_known, given_known, fresh_known, Unknown, unknown_vars, unknown_cells, unknown_target, unknown_alternative}
 

@@ -14,7 +14,7 @@ use Rattle.grin_syntax.specs.declared.program.Word.TheVariants.{Lit, Var, Global
 use Rattle.grin_syntax.specs.declared.program.Val.{Val}
 use Rattle.grin_syntax.specs.declared.program.Val.TheVariants.{NodeVar, Node, Vector, One}
 use Rattle.grin_syntax.specs.Formed.{AllOf}
-use Rattle.flow_system.specs.Inlining.{past_vars, past_target, past_shape, past_cells}
+use Rattle.grin_syntax.specs.Fresh.{past_vars, past_target, past_shape, past_cells}
 use Rattle.inlined_form.proofs.Sorts.{Sort, anything, a_number, a_node, evaluated, Sorts, sorted, vars_sorted, cells_sorted, target_sorted, IsNode, IsNumber, WordsFit, KeptFits, ScrutineeFits, delayed, GivenFits, alternative_sorted}
 
 -- the second says what the first does, or more

@@ -7,7 +7,6 @@ pub mod Applications
 pub mod Texts
 pub mod Growth
 pub mod Translated
-pub mod Bound
 pub mod Readiness
 pub mod Costs
 pub mod BlockSizes

@@ -2,13 +2,15 @@
 use Rattle.std.proofs.Common.{◌≡◌, ◌≢◌, ℕ, ◌≤◌, ◌+◌, List, [], ◌∷◌, length, sym, ◌∙◌, arith}
 use Rattle.arity_check.specs.Program as core
 use Rattle.grin_syntax.specs.Tree.{Procedure, Program}
-use Rattle.grin_syntax.specs.Formed.{AllOf}
+use Rattle.grin_syntax.specs.Formed.{AllOf, Formed}
+use Rattle.grin_syntax.specs.Fresh.{past_procs}
 use Rattle.grin_meaning.specs.Values.{missing}
 use Rattle.grin_meaning.specs.Run.{run}
 use Rattle.grin_meaning.specs.Keeps.{Keeps, ended, end_of}
 use Rattle.grin_meaning.specs.Ready.{most_value_fields, Ready}
 use Rattle.flow_system.specs.Solution.{Solution}
-use Rattle.flow_system.specs.Inlining.{code_room, eval_procs, eval_inlined, apply_code_room, apply_procs, past_procs, inlined}
+use Rattle.eval_inline.specs.Inlining.{code_room, eval_procs, eval_inlined}
+use Rattle.apply_inline.specs.Inlining.{apply_code_room, apply_procs, inlined}
 use Rattle.grin_translate.specs.Translation.{tr}
 use Rattle.core_meaning.specs.Printing.{printed, End, Done, Unaccepted, Going}
 use Rattle.core_meaning.specs.WellFormed.{WellFormed}
@@ -17,11 +19,13 @@ use Rattle.grin_translate.specs.Same.{end_as}
 use Rattle.grin_translate.proofs.Printing.{translation_does_as}
 use Rattle.translated_form.proofs.Bounds.{valid_few_words}
 use Rattle.translated_form.proofs.Limits.{valid_is_well_formed}
-use Rattle.translated_form.proofs.Whole.{valid_is_started}
+use Rattle.translated_form.specs.Laws.{ValidTranslationsAreFormed}
 use Rattle.apply_inline.proofs.Both.{inlining_law}
-use Rattle.translated_form.proofs.Bodies.{procedures_formed}
+use Rattle.apply_inline.proofs.Well as applications
+use Rattle.eval_inline.proofs.Well as evaluations
+use Rattle.eval_inline.proofs.Bounds.{uses_bound}
+use Rattle.flow_system.proofs.Starting.{formed_is_started}
 use Rattle.inlined_form.specs.Laws.{InlinedProgramsAreReady}
-use Rattle.inlined_form.proofs.Bound.{uses_bound}
 use Rattle.inlined_form.proofs.Sorts.{ProgramFits}
 use Rattle.inlined_form.proofs.RunsWell.{runs_well}
 use Rattle.inlined_form.proofs.Evaluations.{evaluations_fit}
@@ -73,6 +77,8 @@ module _ (p : core.Program) (valid : IsValid p) (A : Solution) where
         runs = λ i n. runs_well h fits i n;
       }
 
-pub inlined_is_ready : InlinedProgramsAreReady
-inlined_is_ready p valid A solves =
-    ready_given_keeps p valid A (inlining_law (tr p) A (valid_is_started p valid) (uses_bound (tr p) (procedures_formed p (valid_is_well_formed p valid))) solves)
+pub inlined_is_ready : ValidTranslationsAreFormed → InlinedProgramsAreReady
+inlined_is_ready formed p valid A solves =
+    let before : Formed (tr p) = formed p valid in
+    let after : Formed (inlined A (tr p)) = applications.inlining_formed (eval_inlined A (tr p)) A (evaluations.inlining_formed (tr p) A before) in
+    (after, formed_is_started (inlined A (tr p)) after, ready_given_keeps p valid A (inlining_law (tr p) A (formed_is_started (tr p) before) (uses_bound (tr p) before) solves))

@@ -3,13 +3,12 @@ use Rattle.std.proofs.Common.{◌≡◌, ◌<◌, ◌≤◌, ℕ, zero, suc, ◌
 use Rattle.std.proofs.lemmas.Bool.{ltb-true, ltb-false}
 use Rattle.std.proofs.lemmas.List.{length-map}
 use Rattle.core_reader.specs.Size.{program_size}
-use Rattle.arity_check.specs.Accepted.{IsValid}
 use Rattle.arity_check.specs.Broken.{TooManyFunctions, TooManyConstructors, CoreTooLarge}
 use Rattle.arity_check.specs.Normal.{Pairwise}
 use Rattle.arity_check.specs.Program.{Program, Function}
 use Rattle.grin_syntax.specs.Formed.{AllOf}
 use Rattle.grin_meaning.specs.Ready.{most_fields}
-use Rattle.flow_system.specs.Size.{size}
+use Rattle.apply_inline.specs.Size.{size}
 use Rattle.grin_translate.specs.declared.tags.Kind.TheVariants.{Constructor, Waits}
 use Rattle.grin_translate.specs.declared.tags.Delay.TheVariants.{Calls}
 use Rattle.grin_translate.specs.Tags.{numbers_from, delays, kinds, parts, parts_of, tag_of}
@@ -65,16 +64,16 @@ module _ (q : Program) where
 -- At most 4,096 functions of 12 parameters and 1,024 constructors make at most 54,294 tags, of 13 fields each; so each inlining makes the
 -- program larger by a factor of 1,791,707 at most. A text of size 16,384 makes a translation of size 395,416 at most.
 pub sizes_fit : InlinedSizesFit
-sizes_fit t q readable unbroken normal A =
-    let valid : IsValid q = record { program = t; different = readable.different; unbroken = unbroken; normal = normal } in
+sizes_fit q valid A =
+    let t = valid.program in
     let limited : Limited q = valid_is_limited q valid in
-    let funs : length t.functions ≤ 4096 = at_most 4096 (length t.functions) (λ lt. let f = item_at t.functions 4096 lt in unbroken 31 _ (TooManyFunctions f.1)) in
-    let cons : length t.constructors ≤ 1024 = at_most 1024 (length t.constructors) (λ lt. let d = item_at t.constructors 1024 lt in unbroken 32 _ (TooManyConstructors d.1)) in
-    let text : program_size t ≤ 16384 = at_most 16384 (program_size t) (λ lt. unbroken 35 _ (CoreTooLarge lt)) in
+    let funs : length t.functions ≤ 4096 = at_most 4096 (length t.functions) (λ lt. let f = item_at t.functions 4096 lt in valid.unbroken 31 _ (TooManyFunctions f.1)) in
+    let cons : length t.constructors ≤ 1024 = at_most 1024 (length t.constructors) (λ lt. let d = item_at t.constructors 1024 lt in valid.unbroken 32 _ (TooManyConstructors d.1)) in
+    let text : program_size t ≤ 16384 = at_most 16384 (program_size t) (λ lt. valid.unbroken 35 _ (CoreTooLarge lt)) in
     let ts = (tr q).tags in
     let g : ℕ = growth ts in
     let s : ℕ = size (tr q) in
-    let tags : length ts ≤ 54294 = omega (arith, tags_length q limited.few_params, paired_length _ t.functions q.funs normal.funs, paired_length _ t.constructors q.cons normal.cons, funs, cons) in
+    let tags : length ts ≤ 54294 = omega (arith, tags_length q limited.few_params, paired_length _ t.functions q.funs valid.normal.funs, paired_length _ t.constructors q.cons valid.normal.cons, funs, cons) in
     let factor : g ≤ 1791707 = omega (arith, more_times (length ts) 54294 (2 * most_fields ts + 7) tags, (valid_few_words q valid).few_fields) in
-    let small : s ≤ 395416 = omega (arith, translated_size q t normal.funs readable.functions, text) in
+    let small : s ≤ 395416 = omega (arith, translated_size q t valid.normal.funs valid.readable.functions, text) in
     omega (arith, inlined_grows (tr q) A, more_times g 1791707 (g * s) factor, more_times g 1791707 s factor, small)

@@ -1,3 +1,5 @@
 pub mod TreeOf
 pub mod Steady
+pub mod MoreUnits
+pub mod Limits
 pub mod Worked

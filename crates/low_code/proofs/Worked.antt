@@ -1,11 +1,11 @@
 -- The examples compute.
 use Rattle.std.proofs.Common.{refl}
 use Rattle.std.specs.Int.{int_wrap}
-use Rattle.low_code.specs.Run.{run, calls, code}
+use Rattle.low_code.specs.Run.{run_in, calls, code}
 use Rattle.low_code.specs.Examples.{Examples}
 
 pub worked : Examples
-unfolding run calls code int_wrap
+unfolding run_in calls code int_wrap
 worked = record {
   writes = refl;
   takes_one_byte = refl;
@@ -18,4 +18,17 @@ worked = record {
   no_tail_in_a_join = refl;
   later_tests_unseen = refl;
   sums_wrap = refl;
+  last_word = refl;
+  index_at_the_width = refl;
+  cell_is_no_byte = refl;
+  cell_is_no_number = refl;
+  too_few_results = refl;
+  too_many_arguments = refl;
+  fails = refl;
+  room_for_all = refl;
+  heap_is_full = refl;
+  full_at_once = refl;
+  before_the_start = refl;
+  stack_is_full = refl;
+  entered_as_it_is_full = refl;
 }

@@ -2,9 +2,9 @@
 use Rattle.std.specs.Prelude.{◌≡◌, ℕ, List, [], ◌∷◌, Some}
 use Rattle.low_code.specs.declared.program.Operand.TheVariants.{Var, Num}
 use Rattle.low_code.specs.declared.program.PrimOp.TheVariants.{Add}
-use Rattle.low_code.specs.Tree.{Code, prim, load, save, take, put, get, call, join, give, tail, choose, otherwise, arm, Program}
-use Rattle.low_code.specs.Values.{out_of_units, missing, Answer}
-use Rattle.low_code.specs.Run.{run, done, ended, end_of, world_of}
+use Rattle.low_code.specs.Tree.{Code, prim, load, save, take, put, get, call, join, give, tail, choose, fail, otherwise, arm, Program}
+use Rattle.low_code.specs.Values.{no_alternative, out_of_units, missing, heap_full, stack_full, Answer}
+use Rattle.low_code.specs.Run.{run, limited, done, ended, end_of, world_of}
 
 -- the start stores the next byte in a new cell and calls `shows` on it; of the word that it gives it writes C where that is the
 -- letter B, and else D; then it goes on as `shows`
@@ -38,6 +38,13 @@ misplaced = join (4 ∷ []) (tail 1 1 (Var 0 ∷ [])) (give (Var 4 ∷ []))
 abbrev pub tested : Code
 tested = choose (arm (record { left = Num 1; right = 2 } ∷ record { left = Var 0; right = 0 } ∷ []) (give (Num 1 ∷ [])) (otherwise (give (Num 2 ∷ []))))
 
+-- a word of the global cell, which has three
+abbrev pub loaded : ℕ → Code
+loaded k = load 1 (Var 0) k (give (Var 1 ∷ []))
+
+abbrev pub with_room : (cells stack : ℕ) → Answer
+with_room cells stack = limited (letters start) (λ f. 2) cells stack (66 ∷ []) 3
+
 -- adds 1 to all ones, which is no byte
 abbrev pub wraps : Code
 wraps = get 1 (prim Add 2 (Var 1) (Num 1) (put (Var 2) (give (Var 2 ∷ []))))
@@ -54,3 +61,16 @@ pub record Examples : Type 0 where
   pub no_tail_in_a_join : end_of (ran misplaced [] 9) ≡ ended missing
   pub later_tests_unseen : end_of (ran tested [] 1) ≡ done
   pub sums_wrap : (world_of (ran wraps [] 1)).out ≡ 0 ∷ []
+  pub last_word : end_of (ran (loaded 2) [] 1) ≡ done
+  pub index_at_the_width : end_of (ran (loaded 3) [] 1) ≡ ended missing
+  pub cell_is_no_byte : end_of (ran (put (Var 0) (give (Num 1 ∷ []))) [] 1) ≡ ended missing
+  pub cell_is_no_number : end_of (ran (prim Add 1 (Var 0) (Num 1) (give (Var 1 ∷ []))) [] 1) ≡ ended missing
+  pub too_few_results : end_of (ran (give []) [] 1) ≡ ended missing
+  pub too_many_arguments : end_of (ran (tail 1 0 (Num 1 ∷ Num 2 ∷ [])) [] 2) ≡ ended missing
+  pub fails : end_of (ran fail [] 1) ≡ ended no_alternative
+  pub room_for_all : with_room 2 16 ≡ ran start (66 ∷ []) 3
+  pub heap_is_full : end_of (with_room 1 16) ≡ ended heap_full
+  pub full_at_once : end_of (with_room 0 16) ≡ ended heap_full
+  pub before_the_start : (world_of (with_room 0 16)).entered ≡ []
+  pub stack_is_full : end_of (with_room 2 15) ≡ ended stack_full
+  pub entered_as_it_is_full : (world_of (with_room 2 15)).entered ≡ 0 ∷ 1 ∷ []

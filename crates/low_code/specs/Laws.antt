@@ -1,12 +1,10 @@
--- What the number of units changes in a run, and what it doesn't.
-use Rattle.std.specs.Prelude.{◌≡◌, ◌≢◌, ℕ, ◌+◌, ◌-◌, ◌≤◌, List, ◌++◌, length}
+-- What the number of units changes in a run, and what the limits of its room do.
+use Rattle.std.specs.Prelude.{◌≡◌, ◌≢◌, ℕ, zero, ◌+◌, ◌-◌, ◌*◌, ◌≤◌, ◌<◌, List, length}
+use Rattle.headline.specs.Carries.{Begins, After}
 use Rattle.low_code.specs.Tree.{Program}
-use Rattle.low_code.specs.Values.{World, out_of_units, Answer}
-use Rattle.low_code.specs.Run.{run, ended, end_of, world_of}
-
--- ys is xs with more after it
-abbrev pub Begins : List ℕ → List ℕ → Type 0
-Begins xs ys = (more : List ℕ) × (ys ≡ xs ++ more)
+use Rattle.low_code.specs.Values.{World, out_of_units, heap_full, stack_full, Room, Answer}
+use Rattle.low_code.specs.Run.{run_in, run, limited, ended, end_of, world_of}
+use Rattle.low_code.specs.Told.{of_low}
 
 -- the same with m more units left
 abbrev pub with_more : ℕ → World → World
@@ -24,8 +22,27 @@ pub record Extends (m : ℕ) (a b : Answer) : Type 0 where
   pub same_world : end_of a ≢ ended out_of_units → world_of b ≡ with_more m (world_of a)
 
 abbrev pub MoreUnitsExtend : Type 0
-MoreUnitsExtend = (p : Program) (frame_words : ℕ → ℕ) (i : List ℕ) (m n : ℕ) → m ≤ n → Extends (n - m) (run p frame_words i m) (run p frame_words i n)
+MoreUnitsExtend = (p : Program) (frame_words : ℕ → ℕ) (room : Room) (i : List ℕ) (m n : ℕ)
+    → m ≤ n → Extends (n - m) (run_in p frame_words room i m) (run_in p frame_words room i n)
 
 -- a run enters one procedure for each unit
 abbrev pub OneEntryAUnit : Type 0
-OneEntryAUnit = (p : Program) (frame_words : ℕ → ℕ) (i : List ℕ) (n : ℕ) → length (world_of (run p frame_words i n)).entered + (world_of (run p frame_words i n)).left ≡ n
+OneEntryAUnit = (p : Program) (frame_words : ℕ → ℕ) (room : Room) (i : List ℕ) (n : ℕ)
+    → let w = world_of (run_in p frame_words room i n) in length w.entered + w.left ≡ n
+
+-- a is a run with room for so many cells and bytes of frames, b the one without limits: b is a, or a is full on the way to b
+pub record Within (cells stack : ℕ) (a b : Answer) : Type 0 where
+  pub not_full : end_of a ≢ ended heap_full → end_of a ≢ ended stack_full → a ≡ b
+  pub heap_full : end_of a ≡ ended heap_full → cells < length (world_of b).cells
+  pub stack_full : end_of a ≡ ended stack_full → stack < 4 * (world_of b).frames
+  pub output : Begins (world_of a).out (world_of b).out
+  pub entered : Begins (world_of a).entered (world_of b).entered
+  pub used : (world_of a).used ≤ (world_of b).used
+
+-- limits change nothing but that a run may be full; where no unit is left, a run without limits and with one unit less has come
+-- to no more output
+abbrev pub LimitsOnlyStop : Type 0
+LimitsOnlyStop = (p : Program) (frame_words : ℕ → ℕ) (cells stack : ℕ) (i : List ℕ) (n : ℕ)
+    → let a = limited p frame_words cells stack i n in
+    Within cells stack a (run p frame_words i n)
+    × ((world_of a).left ≡ zero → After (of_low p frame_words i) n (world_of a).out)

@@ -2,6 +2,7 @@ pub mod Tree
 pub mod Arithmetic
 pub mod Values
 pub mod Run
+pub mod Told
 pub mod Formed
 pub mod Size
 pub mod Laws

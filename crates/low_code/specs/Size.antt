@@ -1,5 +1,5 @@
 -- How large low code is: what bounds the instructions that are made from it.
-use Rattle.std.specs.Prelude.{ℕ, ◌+◌, List, [], ◌∷◌, length}
+use Rattle.std.specs.Prelude.{ℕ, ◌+◌, ◌≤◌, List, [], ◌∷◌, length}
 use Rattle.low_code.specs.Tree.{Code, set, prim, load, save, take, put, get, call, join, give, tail, choose, fail, Arms, otherwise, arm, Procedure, Program}
 use Rattle.low_code.specs.Formed.{calls_in}
 
@@ -41,3 +41,31 @@ calls_from (q ∷ qs) = length (calls_in q.body) + calls_from qs
 
 abbrev pub calls_of : Program → ℕ
 calls_of l = calls_from l.procs
+
+abbrev mutual
+  -- no arm of a block has more than two tests
+  pub FewTests : Code → Type 0
+  FewTests (set x a c) = FewTests c
+  FewTests (prim f x a b c) = FewTests c
+  FewTests (load x a k c) = FewTests c
+  FewTests (save a k b c) = FewTests c
+  FewTests (take xs c) = FewTests c
+  FewTests (put a c) = FewTests c
+  FewTests (get x c) = FewTests c
+  FewTests (call f site as' xs c) = FewTests c
+  FewTests (join xs b c) = FewTests b × FewTests c
+  FewTests (give as') = Unit {0}
+  FewTests (tail f site as') = Unit {0}
+  FewTests (choose as') = ArmsFewTests as'
+  FewTests fail = Unit {0}
+
+  pub ArmsFewTests : Arms → Type 0
+  ArmsFewTests (otherwise c) = FewTests c
+  ArmsFewTests (arm ts c as') = (length ts ≤ 2) × FewTests c × ArmsFewTests as'
+
+abbrev pub AllFewTests : List Procedure → Type 0
+AllFewTests [] = Unit {0}
+AllFewTests (q ∷ qs) = FewTests q.body × AllFewTests qs
+
+abbrev pub AtMostTwoTests : Program → Type 0
+AtMostTwoTests l = AllFewTests l.procs

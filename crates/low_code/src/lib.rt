@@ -4,7 +4,7 @@
 //! The laws of the definitions stand in the contracts of functions without a body.
 #![tactic(auto)]
 
-ghost use Rattle.low_code.specs.Laws.{MoreUnitsExtend, OneEntryAUnit};
+ghost use Rattle.low_code.specs.Laws.{LimitsOnlyStop, MoreUnitsExtend, OneEntryAUnit};
 ghost use Rattle.low_code.specs.Examples.{Examples};
 
 mod program;
@@ -20,6 +20,12 @@ pub fn more_units_extend()
 /// A run enters one procedure for each unit that it spends.
 pub fn one_entry_a_unit()
     ensures { OneEntryAUnit }
+{}
+
+/// Limits on cells and frames change nothing but that a run may stop as full: then the run without limits has more cells or
+/// more words of frames, and goes on from the output and the procedures entered so far.
+pub fn limits_only_stop()
+    ensures { LimitsOnlyStop }
 {}
 
 /// What small programs do, computed from the definitions.

@@ -18,9 +18,9 @@ use Rattle.parallel_move.specs.contracts.MoveOrd.TheImpl as moves_by
 use Rattle.parallel_move.specs.declared.Spot.{Spot}
 use Rattle.parallel_move.specs.declared.Spot.TheVariants.{Reg, Slot, Scratch}
 use Rattle.parallel_move.specs.declared.Move.{Move}
-use Rattle.parallel_move.specs.Moves.{same, origin, is_target, is_source, DistinctTargets, NoScratch, IsReordered, IsTaken}
+use Rattle.parallel_move.specs.Moves.{same, origin, is_target, is_source, DistinctTargets, NoScratch, AllEnds, IsReordered, IsTaken}
 use Rattle.parallel_move.proofs.Origins.{same_true, same_itself, decide}
-use Rattle.parallel_move.proofs.Snoc.{distinct_front}
+use Rattle.parallel_move.proofs.Snoc.{distinct_front, ends_middle, ends_again}
 use Rattle.parallel_move.proofs.Paths.{no_target_append, both_targets, distinct_end, origin_end, clean_middle, append_nil}
 
 abbrev spot_order : Spot → Spot → Ordering
@@ -174,6 +174,11 @@ fresh moves a b rest m o =
       clean_again a (b ++ rest) m (subst NoScratch joined c.0) c.1.0 c.1.1,
       (λ s. origin_end a (b ++ rest) m s apart ∙ ap (λ l. origin (l ++ m ∷ []) s) (sym joined) ∙ sym (origin_end (a ++ b) rest m s d.1) ∙ o.2 s),
       omega (arith, o.3, length-append a (m ∷ (b ++ rest)), length-append b rest, length-append (a ++ b) (m ∷ rest), length-append a b),
+      (record {
+        stays = λ ok k h.
+            let parts = ends_middle ok (a ++ b) rest m (o.4.stays ok k h) in
+            ends_again ok a (b ++ rest) m (subst (AllEnds ok) joined parts.0) parts.1;
+      }),
     )
 
 twice : (a b rest : List Move) (m : Move) → DistinctTargets ((a ++ m ∷ b) ++ m ∷ rest) → ⊥
@@ -189,7 +194,7 @@ put moves p after rest m o (inl t) = subst (λ l. IsReordered moves (l ++ rest))
 put moves p after rest m o (inr t) = absurd (twice t.0 t.1 rest m (subst (λ l. DistinctTargets (l ++ m ∷ rest)) t.2 o.0))
 
 pub none_yet : (moves p : List Move) → p ≡ [] → DistinctTargets moves → NoScratch moves → IsReordered moves (p ++ drop 0 moves)
-none_yet moves p e d n = subst (λ l. IsReordered moves (l ++ moves)) (sym e) (d, n, (λ s. refl), refl)
+none_yet moves p e d n = subst (λ l. IsReordered moves (l ++ moves)) (sym e) (d, n, (λ s. refl), refl, record { stays = λ ok k h. h })
 
 pub one_more : (moves p after : List Move) (i : ℕ) (d : Move) → i < length moves → IsReordered moves (p ++ drop i moves) → after ≡ insert_key move_order p (get_or moves i d) → IsReordered moves (after ++ drop (i + 1) moves)
 one_more moves p after i d h o e =

@@ -2,7 +2,7 @@
 #![tactic(auto)]
 
 ghost use Rattle.std.specs.Prelude.{◌≡◌, ◌≤◌, ◌*◌, IfOk, MatchOption, length, List, false};
-ghost use Rattle.parallel_move.specs.Moves.{same, is_source, DistinctTargets, NoScratch, DoesAtOnce, ends, IsReordered, IsTaken, Closes};
+ghost use Rattle.parallel_move.specs.Moves.{same, is_source, DistinctTargets, NoScratch, DoesAtOnce, ends, StaysAmong, IsReordered, IsTaken, Closes};
 
 use std::alloc::{AllocError, Global};
 use std::collections::BTreeSet;
@@ -89,7 +89,7 @@ fn close(path: &mut Vec<Move>, spot: Spot) -> bool
 }
 
 /// Steps that, done one after another, do what the moves do at once, and leave anything in the scratch spot. They read and
-/// write no more registers and slots than the moves do. `AllocError` where memory is wanting.
+/// write no more registers and slots than the moves do, and no other ones. `AllocError` where memory is wanting.
 ///
 /// Before a move is done, the moves that read its target are: they wait on one path, of which each move reads the target of
 /// the one below. Where the lowest reads the target of the uppermost, the path is a cycle, and that word waits in the
@@ -100,6 +100,7 @@ pub fn order(alloc: Global, moves: &[Move]) -> Result<Vec<Move>, AllocError>
     requires no_scratch { NoScratch moves.now }
     ensures same { IfOk result (λ steps. DoesAtOnce steps.items moves.now) }
     ensures few { IfOk result (λ steps. ends steps.items ≤ 2 * length moves.now) }
+    ensures among { IfOk result (λ steps. StaysAmong steps.items moves.now) }
 {
     let mut pending = in_order(alloc, moves)?;
     let mut path: Vec<Move> = Vec::new(alloc);

@@ -27,6 +27,3 @@ pub fn solve(alloc: Global, system: &FlowSystem) -> Result<Flow, AllocError>
     let facts = rounds::least_facts(alloc, system)?;
     Flow::from_facts(alloc, facts)
 }
-
-#[cfg(test)]
-mod tests;

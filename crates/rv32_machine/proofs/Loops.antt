@@ -1,17 +1,21 @@
 -- A run goes on by turns: what holds behind so many steps holds behind one more.
-use Rattle.std.proofs.Common.{◌≡◌, ℕ, ◌+◌, ◌-◌, ◌<◌, List, ◌++◌, Option, Some, Bool, true, false, append_assoc, refl, sym, ap, ◌∙◌, subst, arith}
+use Rattle.std.proofs.Common.{◌≡◌, ℕ, zero, suc, ◌+◌, ◌-◌, ◌<◌, ◌≤◌, List, [], ◌∷◌, ◌++◌, drop, Option, Some, Bool, true, false, append_assoc, append-nil, refl, sym, ap, ◌∙◌, subst, arith}
+use Rattle.std.specs.Prelude.{slice_get}
+use Rattle.std.specs.List.{concat}
+use Rattle.std.proofs.lemmas.List.Folds.{concat-append}
+use Rattle.grin_io.specs.Changes.{Told, SinkChange, of_sink, TookAll, Broke}
 use Rattle.grin_io.specs.declared.outside.Fault.{Fault}
 use Rattle.grin_io.specs.declared.outside.Fault.TheVariants.{Read, Write}
 use Rattle.rv32_machine.specs.declared.machine.Stop.{Stop}
 use Rattle.rv32_machine.specs.declared.machine.Stop.TheVariants.{Steps}
-use Rattle.rv32_machine.specs.Steps.{State, Stand, state_of}
-use Rattle.rv32_machine.specs.Runs.{Run, End, Going, Exited, Stopped, after, run, continued, has_ended, Stays, StandsAt, Told, Puts, none, more, TookAll, TookPart, Broke}
-use Rattle.rv32_machine.proofs.Composed.{runs_compose, end_stays, output_grows, run_none}
-use Rattle.rv32_machine.proofs.Turns.{end_append, took_none}
+use Rattle.rv32_machine.specs.Steps.{State, Outcome, Next, Written, Asked, Ended, Trapped, Stand, state_of, step, given}
+use Rattle.rv32_machine.specs.Runs.{Run, End, Going, Exited, Stopped, after, onward, run, piece_of, next_piece, pieces, continued, has_ended, Stays, StandsAt, PiecesAreTheOutput}
+use Rattle.rv32_machine.proofs.Composed.{runs_compose, end_stays, run_none, run_more}
+use Rattle.grin_io.proofs.Changes.{took_none, took_join, broke_join}
 
 -- where a run stands that goes on, and what its sink took
-abbrev pub Kept : {K : Type 0} → (K → List ℕ → Bool → K → Type 0) → (K → Option (List ℕ)) → (List ℕ → Run) → Stand → (left left' : Option (List ℕ)) → (old new : K) → Type 0
-Kept gives taken r m left left' old new = Told left (λ i. Stays (r i) Steps m left' × TookAll gives taken old new (r i).out)
+abbrev pub Kept : {K : Type 0} → (s : State) → (k : ℕ) → Stand → (left left' : Option (List ℕ)) → SinkChange K → Type 0
+Kept s k m left left' o = Told left (λ i. Stays (run k i s) Steps m left' × TookAll o (pieces k i s))
 
 -- ---- the run
 
@@ -43,104 +47,125 @@ all_steps steps k i s stop m lt ended h =
     let count : steps ≡ (k + 1) + (steps - (k + 1)) = omega arith in
     ap (λ n. run n i s) count ∙ end_stays (k + 1) (steps - (k + 1)) i s (ends (run (k + 1) i s).end stop m ended h)
 
+-- ---- the pieces
+
+pieces_none : (i : List ℕ) (s : State) → pieces 0 i s ≡ []
+unfolding pieces
+pieces_none i s = refl
+
+pieces_more : (n : ℕ) (i : List ℕ) (s : State) → pieces (suc n) i s ≡ pieces n i s ++ next_piece (run n i s).end
+unfolding pieces
+pieces_more n i s = refl
+
+-- one more step puts what the machine's next instruction writes
+pub joined_pieces : (k : ℕ) (i : List ℕ) (s : State) (m : Stand) → StandsAt (run k i s).end Steps m → pieces (k + 1) i s ≡ pieces k i s ++ piece_of (step (state_of m))
+joined_pieces k i s m h =
+    let count : k + 1 ≡ suc k = omega arith in
+    ap (λ n. pieces n i s) count ∙ pieces_more k i s ∙ ap (λ p. pieces k i s ++ p) (next_is (run k i s).end h)
+  where
+    next_is : (e : End) → StandsAt e Steps m → next_piece e ≡ piece_of (step (state_of m))
+    next_is (Going s) h = ap (λ t. piece_of (step t)) (sym h.1.0)
+    next_is (Exited code s) h = cc
+    next_is (Stopped kind s) h = cc
+
+-- more steps only put more
+pub more_pieces : (m n : ℕ) (i : List ℕ) (s : State) → (more : List (List ℕ)) × (pieces (m + n) i s ≡ pieces m i s ++ more)
+more_pieces m zero i s =
+    let count : m + 0 ≡ m = omega arith in
+    ([], ap (λ n. pieces n i s) count ∙ sym (append-nil (pieces m i s)))
+more_pieces m (suc n) i s =
+    let h = more_pieces m n i s in
+    let count : m + suc n ≡ suc (m + n) = omega arith in (
+      h.0 ++ next_piece (run (m + n) i s).end,
+      ap (λ n. pieces n i s) count ∙ pieces_more (m + n) i s ∙ ap (λ p. p ++ next_piece (run (m + n) i s).end) h.1 ∙ append_assoc (pieces m i s) h.0 _,
+    )
+
+-- a run that has ended puts no more
+pub all_pieces : (m n : ℕ) (i : List ℕ) (s : State) → has_ended (run m i s).end ≡ true → pieces (m + n) i s ≡ pieces m i s
+all_pieces m zero i s h = let count : m + 0 ≡ m = omega arith in ap (λ n. pieces n i s) count
+all_pieces m (suc n) i s h =
+    let count : m + suc n ≡ suc (m + n) = omega arith in
+    let stays : (run (m + n) i s).end ≡ (run m i s).end = ap (λ r. r.end) (end_stays m n i s h) in
+    ap (λ n. pieces n i s) count
+    ∙ pieces_more (m + n) i s
+    ∙ ap (λ p. p ++ next_piece (run (m + n) i s).end) (all_pieces m n i s h)
+    ∙ ap (λ p. pieces m i s ++ p) (ap next_piece stays ∙ nothing (run m i s).end h)
+    ∙ append-nil (pieces m i s)
+  where
+    nothing : (e : End) → has_ended e ≡ true → next_piece e ≡ []
+    nothing (Going s) h = cc
+    nothing (Exited code s) h = refl
+    nothing (Stopped kind s) h = refl
+
+-- the bytes of the pieces
+pub pieces_are_the_output : PiecesAreTheOutput
+pieces_are_the_output zero i s = ap concat (pieces_none i s) ∙ sym (ap (λ r. r.out) (run_none i s))
+pieces_are_the_output (suc n) i s =
+    let count : n + 1 ≡ suc n = omega arith in
+    ap concat (pieces_more n i s)
+    ∙ concat-append (pieces n i s) (next_piece (run n i s).end)
+    ∙ ap (λ l. l ++ concat (next_piece (run n i s).end)) (pieces_are_the_output n i s)
+    ∙ last (run n i s).out (run n i s).left (run n i s).end
+    ∙ sym (ap (λ r. r.out) (ap (λ k. run k i s) (sym count) ∙ runs_compose n 1 i s))
+  where
+    by_step : (i : List ℕ) (s : State) (o : Outcome) → concat (piece_of o) ≡ (onward (run 0) i s o).out
+    by_step i s (Next t) = sym (ap (λ r. r.out) (run_none i t))
+    by_step i s (Written a l bytes t) = ap (λ l. bytes ++ l) (sym (ap (λ r. r.out) (run_none i t)))
+    by_step i s (Asked a) = sym (ap (λ r. r.out) (run_none (drop 1 i) (given s (slice_get i 0))))
+    by_step i s (Ended code) = refl
+    by_step i s (Trapped kind) = refl
+
+    last : (out left : List ℕ) (e : End) → out ++ concat (next_piece e) ≡ (continued 1 (record { out = out; left = left; end = e })).out
+    last out left (Going t) = ap (λ l. out ++ l) (by_step left t (step t) ∙ sym (ap (λ r. r.out) (run_more 0 left t)))
+    last out left (Exited code t) = append-nil out
+    last out left (Stopped kind t) = append-nil out
+
 -- what is due of more steps
-pub more_due : (steps k : ℕ) (i : List ℕ) (s : State) → k < steps → (rest : List ℕ) × ((run steps i s).out ≡ (run (k + 1) i s).out ++ rest)
+more_due : (steps k : ℕ) (i : List ℕ) (s : State) → k < steps → (rest : List (List ℕ)) × (pieces steps i s ≡ pieces (k + 1) i s ++ rest)
 more_due steps k i s lt =
     let count : steps ≡ (k + 1) + (steps - (k + 1)) = omega arith in
-    let g = output_grows (k + 1) (steps - (k + 1)) i s in
-    (g.0, ap (λ n. (run n i s).out) count ∙ g.1)
+    let g = more_pieces (k + 1) (steps - (k + 1)) i s in
+    (g.0, ap (λ n. pieces n i s) count ∙ g.1)
 
--- ---- the sink
-
-module _ {K : Type 0} (gives : K → List ℕ → Bool → K → Type 0) (taken : K → Option (List ℕ)) where
-  puts_join : {a b c : K} {xs ys : List ℕ} → Puts gives a xs b → Puts gives b ys c → Puts gives a (xs ++ ys) c
-  puts_join {a} {b} {xs = xs} p none = subst (λ l. Puts gives a l b) (end_append xs) p
-  puts_join {a} {xs = xs} p (more {bytes = ys} {piece = piece} {next = next} q g) =
-      subst (λ l. Puts gives a l next) (append_assoc xs ys piece) (more (puts_join p q) g)
-
-  pub took_join : (a b c : K) (xs ys : List ℕ) → TookAll gives taken a b xs → TookAll gives taken b c ys → TookAll gives taken a c (xs ++ ys)
-  took_join a b c xs ys p q = record {
-    content = λ before is. q.content (before ++ xs) (p.content before is) ∙ ap Some (append_assoc before xs ys);
-    puts = puts_join p.puts q.puts;
-  }
-
-  pub part_join : (a b c : K) (xs ys rest : List ℕ) → TookAll gives taken a b xs → TookPart taken b c ys → TookPart taken a c ((xs ++ ys) ++ rest)
-  part_join a b c xs ys rest p q before is =
-      let k = q (before ++ xs) (p.content before is) in
-      let part = k.0 in
-      let over = k.1.0 in (
-        xs ++ part,
-        (
-          over ++ rest,
-          append_assoc xs part (over ++ rest) ∙ ap (λ l. xs ++ l) (sym (append_assoc part over rest) ∙ ap (λ l. l ++ rest) k.1.1) ∙ sym (append_assoc xs ys rest),
-          k.1.2 ∙ ap Some (append_assoc before xs part),
-        ),
-      )
-
-  pub broke_join : (fault : Fault) (a b c : K) (xs ys rest : List ℕ) → TookAll gives taken a b xs → Broke fault gives b c ys → Broke fault gives a c ((xs ++ ys) ++ rest)
-  broke_join Read a b c xs ys rest p q = record {
-    bytes = xs ++ q.bytes;
-    rest = q.rest ++ rest;
-    due_is = append_assoc xs q.bytes (q.rest ++ rest) ∙ ap (λ l. xs ++ l) (sym (append_assoc q.bytes q.rest rest) ∙ ap (λ l. l ++ rest) q.due_is) ∙ sym (append_assoc xs ys rest);
-    puts = puts_join p.puts q.puts;
-  }
-  broke_join Write a b c xs ys rest p q = record {
-    bytes = xs ++ q.bytes;
-    piece = q.piece;
-    rest = q.rest ++ rest;
-    last = q.last;
-    due_is =
-        append_assoc xs q.bytes (q.piece ++ (q.rest ++ rest))
-        ∙ ap (λ l. xs ++ l) (ap (λ l. q.bytes ++ l) (sym (append_assoc q.piece q.rest rest)) ∙ sym (append_assoc q.bytes (q.piece ++ q.rest) rest) ∙ ap (λ l. l ++ rest) q.due_is)
-        ∙ sym (append_assoc xs ys rest);
-    puts = puts_join p.puts q.puts;
-    refused = q.refused;
-  }
+all_put : (steps k : ℕ) (i : List ℕ) (s : State) (stop : Stop) (m : Stand) → k < steps → (stop ≡ Steps → ⊥) → StandsAt (run (k + 1) i s).end stop m → pieces steps i s ≡ pieces (k + 1) i s
+all_put steps k i s stop m lt ended h =
+    let count : steps ≡ (k + 1) + (steps - (k + 1)) = omega arith in
+    ap (λ n. pieces n i s) count ∙ all_pieces (k + 1) (steps - (k + 1)) i s (ends (run (k + 1) i s).end stop m ended h)
 
 -- ---- the turns of a run, where the source tells its bytes
 
-module _ {K : Type 0} (gives : K → List ℕ → Bool → K → Type 0) (taken : K → Option (List ℕ)) (s : State) (left : Option (List ℕ)) (old : K) where
+module _ {K : Type 0} (gives : K → List ℕ → Bool → K → Type 0) (taken : K → Option (List ℕ)) (faults : K → ℕ) (s : State) (left : Option (List ℕ)) (old : K) where
   -- at the start
-  pub starts : (m : Stand) → state_of m ≡ s → m.over ≡ false → m.waiting ≡ false → Kept gives taken (λ i. run 0 i s) m left left old old
+  pub starts : (m : Stand) → state_of m ≡ s → m.over ≡ false → m.waiting ≡ false → Kept s 0 m left left (of_sink gives taken faults old old)
   starts m at over waiting i e =
       let r = run_none i s in (
         subst (λ q. Stays q Steps m left) (sym r) (record { stands = (refl, (at, over, waiting)); left_is = e }),
-        took_none gives taken old (run 0 i s).out (ap (λ q. q.out) r),
+        took_none gives taken faults old (pieces 0 i s) (pieces_none i s),
       )
 
-  module _ (k : ℕ) (m : Stand) (left' : Option (List ℕ)) (out out' : K) (kept : Kept gives taken (λ i. run k i s) m left left' old out) where
+  module _ (k : ℕ) (m : Stand) (left' : Option (List ℕ)) (out out' : K) (kept : Kept s k m left left' (of_sink gives taken faults old out)) where
     -- what one more turn says of the whole run
-    pub one_turn : (new : Stand) (left'' : Option (List ℕ)) (stop : Stop) → Told left' (λ i. Stays (run 1 i (state_of m)) stop new left'') → Told left' (λ i. TookAll gives taken out out' (run 1 i (state_of m)).out) → Told left (λ i. Stays (run (k + 1) i s) stop new left'' × TookAll gives taken old out' (run (k + 1) i s).out)
+    pub one_turn : (new : Stand) (left'' : Option (List ℕ)) (stop : Stop) → Told left' (λ i. Stays (run 1 i (state_of m)) stop new left'') → TookAll (of_sink gives taken faults out out') (piece_of (step (state_of m)))
+        → Told left (λ i. Stays (run (k + 1) i s) stop new left'' × TookAll (of_sink gives taken faults old out') (pieces (k + 1) i s))
     one_turn new left'' stop t o i e =
-        let h = kept i e in
-        let r = run k i s in
-        let q = run 1 r.left (state_of m) in
-        let j : run (k + 1) i s ≡ after r.out q = joined k i s m h.0.stands in (
-          later_stays k i s m new stop left'' h.0.stands (t r.left h.0.left_is),
-          subst (λ bytes. TookAll gives taken old out' bytes) (sym (ap (λ x. x.out) j)) (took_join gives taken old out out' r.out q.out h.1 (o r.left h.0.left_is)),
+        let h = kept i e in (
+          later_stays k i s m new stop left'' h.0.stands (t (run k i s).left h.0.left_is),
+          subst (λ p. TookAll (of_sink gives taken faults old out') p) (sym (joined_pieces k i s m h.0.stands)) (took_join gives taken faults old out out' (pieces k i s) (piece_of (step (state_of m))) h.1 o),
         )
 
     -- a turn that ends the run
-    pub last_turn : (new : Stand) (left'' : Option (List ℕ)) (steps : ℕ) (stop : Stop) → k < steps → (stop ≡ Steps → ⊥) → Told left' (λ i. Stays (run 1 i (state_of m)) stop new left'') → Told left' (λ i. TookAll gives taken out out' (run 1 i (state_of m)).out) → Told left (λ i. Stays (run steps i s) stop new left'' × TookAll gives taken old out' (run steps i s).out)
+    pub last_turn : (new : Stand) (left'' : Option (List ℕ)) (steps : ℕ) (stop : Stop) → k < steps → (stop ≡ Steps → ⊥) → Told left' (λ i. Stays (run 1 i (state_of m)) stop new left'') → TookAll (of_sink gives taken faults out out') (piece_of (step (state_of m)))
+        → Told left (λ i. Stays (run steps i s) stop new left'' × TookAll (of_sink gives taken faults old out') (pieces steps i s))
     last_turn new left'' steps stop lt ended t o i e =
         let h = one_turn new left'' stop t o i e in
         let all : run steps i s ≡ run (k + 1) i s = all_steps steps k i s stop new lt ended h.0.stands in
-        subst (λ r. Stays r stop new left'' × TookAll gives taken old out' r.out) (sym all) h
-
-    due_is : (steps : ℕ) (i : List ℕ) → StandsAt (run k i s).end Steps m → k < steps → (rest : List ℕ) × (((run k i s).out ++ (run 1 (run k i s).left (state_of m)).out) ++ rest ≡ (run steps i s).out)
-    due_is steps i h lt =
-        let d = more_due steps k i s lt in
-        (d.0, ap (λ l. l ++ d.0) (sym (ap (λ x. x.out) (joined k i s m h))) ∙ sym d.1)
+        let put : pieces steps i s ≡ pieces (k + 1) i s = all_put steps k i s stop new lt ended h.0.stands in
+        (subst (λ r. Stays r stop new left'') (sym all) h.0, subst (λ p. TookAll (of_sink gives taken faults old out') p) (sym put) h.1)
 
     -- a turn that fails
-    pub part_turn : (steps : ℕ) → k < steps → Told left' (λ i. TookPart taken out out' (run 1 i (state_of m)).out) → Told left (λ i. TookPart taken old out' (run steps i s).out)
-    part_turn steps lt t i e =
+    pub fault_turn : (steps : ℕ) (fault : Fault) → k < steps → faults old ≤ faults out → Broke fault (of_sink gives taken faults out out') (piece_of (step (state_of m))) → Told left (λ i. Broke fault (of_sink gives taken faults old out') (pieces steps i s))
+    fault_turn steps fault lt later b i e =
         let h = kept i e in
-        let d = due_is steps i h.0.stands lt in
-        subst (λ due. TookPart taken old out' due) d.1 (part_join gives taken old out out' _ _ d.0 h.1 (t (run k i s).left h.0.left_is))
-
-    pub fault_turn : (steps : ℕ) (fault : Fault) → k < steps → Told left' (λ i. Broke fault gives out out' (run 1 i (state_of m)).out) → Told left (λ i. Broke fault gives old out' (run steps i s).out)
-    fault_turn steps fault lt t i e =
-        let h = kept i e in
-        let d = due_is steps i h.0.stands lt in
-        subst (λ due. Broke fault gives old out' due) d.1 (broke_join gives taken fault old out out' _ _ d.0 h.1 (t (run k i s).left h.0.left_is))
+        let d = more_due steps k i s lt in
+        let due : (pieces k i s ++ piece_of (step (state_of m))) ++ d.0 ≡ pieces steps i s = ap (λ l. l ++ d.0) (sym (joined_pieces k i s m h.0.stands)) ∙ sym d.1 in
+        subst (λ p. Broke fault (of_sink gives taken faults old out') p) due (broke_join gives taken faults old out out' (pieces k i s) (piece_of (step (state_of m))) d.0 fault later h.1 b)

@@ -1,16 +1,14 @@
 -- One step of the machine as a run of one step.
-use Rattle.std.proofs.Common.{◌≡◌, ℕ, List, [], ◌++◌, take, drop, Option, Some, None, true, false, refl, sym, ap, ◌∙◌, subst, arith}
+use Rattle.std.proofs.Common.{◌≡◌, ℕ, List, [], ◌∷◌, ◌++◌, drop, Option, Some, true, false, refl, sym, ap, ◌∙◌, subst, arith}
 use Rattle.std.proofs.lemmas.Grind.{common_steps}
-use Rattle.std.specs.Prelude.{slice_get, Bool, IfSome}
-use Rattle.grin_io.specs.declared.outside.Fault.{Fault}
-use Rattle.grin_io.specs.declared.outside.Fault.TheVariants.{Read, Write}
+use Rattle.std.specs.Prelude.{slice_get}
 use Rattle.rv32_machine.specs.declared.machine.TrapKind.{TrapKind}
 use Rattle.rv32_machine.specs.declared.machine.Stop.{Stop}
 use Rattle.rv32_machine.specs.declared.machine.Stop.TheVariants.{Steps, Exit as Exit', Trap as Trap'}
 use Rattle.rv32_machine.specs.declared.machine.StepResult.TheVariants.{Next as Next', Read as Read', Write as Write', Exit, Trap}
 use Rattle.rv32_machine.specs.Memory.{range_bytes}
 use Rattle.rv32_machine.specs.Steps.{State, Stand, state_of, Outcome, Next, Written, Asked, Ended, Trapped, Does, IsAt, step, given}
-use Rattle.rv32_machine.specs.Runs.{Run, Going, Exited, Stopped, stands, after, onward, run, Stays, Told, none, more, TookAll, TookPart, Paused, Refused, Broke}
+use Rattle.rv32_machine.specs.Runs.{Run, Going, Exited, Stopped, stands, after, onward, run, piece_of, Stays}
 use Rattle.rv32_machine.proofs.Composed.{run_none, run_more}
 
 pub end_append : (xs : List ℕ) → xs ≡ xs ++ []
@@ -102,11 +100,6 @@ next_stays s new left h i e =
     let k = next_is s (step s) new h in
     stays_as _ _ Steps new left (next_run s new h i) (record { stands = (refl, (refl, k.1, k.2)); left_is = e })
 
-pub wrote : (s : State) (a n : ℕ) (new : Stand) → Does s (step s) (Write' a n) new → (bytes : List ℕ) × ((range_bytes new.memory a n ≡ Some bytes) × ((i : List ℕ) → (run 1 i s).out ≡ bytes))
-wrote s a n new h =
-    let k = write_is s (step s) a n new h in
-    (k.0, (k.1.3, (λ i. ap (λ r. r.out) (write_run s a n new k.0 h k.1.3 i))))
-
 pub write_stays : (s : State) (a n : ℕ) (new : Stand) (left : Option (List ℕ)) → Does s (step s) (Write' a n) new → (i : List ℕ) → left ≡ Some i → Stays (run 1 i s) Steps new left
 write_stays s a n new left h i e =
     let k = write_is s (step s) a n new h in
@@ -125,40 +118,23 @@ trap_stays s kind pc new left h i e =
     let k = trap_is s (step s) kind pc new h in
     stays_as _ _ (Trap' kind pc) new left (trap_run s kind pc new h i) (record { stands = (ap (Trap' kind) k.1, k.2); left_is = e })
 
--- a content that is told
-pub told : (o : Option (List ℕ)) (P : List ℕ → Type 0) → IfSome o P → Told o P
-told None P h bytes e = cc
-told (Some b) P h bytes e = let same : b ≡ bytes = cc in subst P same h
+-- ---- what a turn puts
 
--- nothing was put
-pub took_none : {K : Type 0} (gives : K → List ℕ → Bool → K → Type 0) (taken : K → Option (List ℕ)) (k : K) (out : List ℕ) → out ≡ [] → TookAll gives taken k k out
-took_none gives taken k out e =
-    subst (λ bytes. TookAll gives taken k k bytes) (sym e) (record { content = λ before is. is ∙ ap Some (end_append before); puts = none })
+-- an answer that is no write is no piece
+pub next_piece_is : (s : State) (new : Stand) → Does s (step s) Next' new → piece_of (step s) ≡ []
+next_piece_is s new h = ap piece_of (next_is s (step s) new h).0
 
--- one put
-pub took_one : {K : Type 0} (gives : K → List ℕ → Bool → K → Type 0) (taken : K → Option (List ℕ)) (old new : K) (bytes out : List ℕ) → out ≡ bytes → Told (taken old) (λ before. taken new ≡ Some (before ++ bytes)) → gives old bytes true new → TookAll gives taken old new out
-took_one gives taken old new bytes out e c g =
-    subst (λ b. TookAll gives taken old new b) (sym e) (record { content = c; puts = more none g })
+pub read_piece_is : (s : State) (a : ℕ) (new : Stand) → Does s (step s) (Read' a) new → piece_of (step s) ≡ []
+read_piece_is s a new h = ap piece_of (read_is s (step s) a new h).0
 
--- a put that failed
-pub part_one : {K : Type 0} (taken : K → Option (List ℕ)) (old new : K) (bytes out : List ℕ) → out ≡ bytes → IfSome (taken old) (λ before. (k : ℕ) × (taken new ≡ Some (before ++ take k bytes))) → TookPart taken old new out
-part_one taken old new bytes out e h before is =
-    let k = told (taken old) (λ b. (k : ℕ) × (taken new ≡ Some (b ++ take k bytes))) h before is in
-    (take k.0 bytes, (drop k.0 bytes, take_drop k.0 bytes ∙ sym e, k.1))
-  where
-    take_drop : (k : ℕ) (xs : List ℕ) → take k xs ++ drop k xs ≡ xs
-    take_drop k xs = grind (arith, common_steps)
+pub exit_piece_is : (s : State) (code : ℕ) (new : Stand) → Does s (step s) (Exit code) new → piece_of (step s) ≡ []
+exit_piece_is s code new h = ap piece_of (exit_is s (step s) code new h).0
 
-pub refused_one : {K : Type 0} (fault : Fault) (gives : K → List ℕ → Bool → K → Type 0) (old new : K) (bytes out : List ℕ) → fault ≡ Write → out ≡ bytes → gives old bytes false new → Broke fault gives old new out
-refused_one fault gives old new bytes out f e g =
-    let r : Refused gives old new out = record { bytes = []; piece = bytes; rest = []; last = old; due_is = sym (end_append bytes) ∙ sym e; puts = none; refused = g } in
-    subst (λ x. Broke x gives old new out) (sym f) r
+pub trap_piece_is : (s : State) (kind : TrapKind) (pc : ℕ) (new : Stand) → Does s (step s) (Trap kind pc) new → piece_of (step s) ≡ []
+trap_piece_is s kind pc new h = ap piece_of (trap_is s (step s) kind pc new h).0
 
--- a read that failed: nothing was put
-pub part_none : {K : Type 0} (taken : K → Option (List ℕ)) (k : K) (out : List ℕ) → TookPart taken k k out
-part_none taken k out before is = ([], (out, refl, is ∙ ap Some (end_append before)))
-
-pub paused_none : {K : Type 0} (fault : Fault) (gives : K → List ℕ → Bool → K → Type 0) (k : K) (out : List ℕ) → fault ≡ Read → Broke fault gives k k out
-paused_none fault gives k out f =
-    let p : Paused gives k k out = record { bytes = []; rest = out; due_is = refl; puts = none } in
-    subst (λ x. Broke x gives k k out) (sym f) p
+-- a write call is one piece, the bytes of its range
+pub wrote : (s : State) (a n : ℕ) (new : Stand) → Does s (step s) (Write' a n) new → (bytes : List ℕ) × ((range_bytes new.memory a n ≡ Some bytes) × (piece_of (step s) ≡ bytes ∷ []))
+wrote s a n new h =
+    let k = write_is s (step s) a n new h in
+    (k.0, (k.1.3, ap piece_of k.1.0))

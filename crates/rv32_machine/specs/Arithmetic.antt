@@ -1,8 +1,8 @@
 -- What the operations compute. A register holds a word, a number below 2 ^ 32; the signed operations read a word in two's complement.
 -- Source: the RISC-V unprivileged manual, chapter RV32I ("Integer Computational Instructions", "Conditional Branches", "Load and Store Instructions") and the chapter on the extension M.
-use Rattle.std.specs.Prelude.{ℕ, ℤ, pos, ◌+◌, ◌-◌, ◌*◌, ◌/◌, ◌%◌, ◌^◌, ◌*ℤ◌, Bool, not, nat_eq, nat_lt, int_lt, bit_and, bit_or, bit_xor, if◌then◌else◌}
+use Rattle.std.specs.Prelude.{◌≡◌, ◌<◌, ℕ, ℤ, pos, ◌+◌, ◌-◌, ◌*◌, ◌/◌, ◌%◌, ◌^◌, ◌*ℤ◌, Bool, not, nat_eq, nat_lt, int_lt, bit_and, bit_or, bit_xor, if◌then◌else◌}
 use Rattle.std.specs.Int.{int_shr}
-use Rattle.numbers.specs.Numbers.{quotient, remainder}
+use Rattle.numbers.specs.Numbers.{sum, difference, product, quotient, remainder, less}
 use Rattle.rv32_isa.specs.Bits.{signed_part}
 use Rattle.rv32_isa.specs.declared.instr.BranchKind.{BranchKind}
 use Rattle.rv32_isa.specs.declared.instr.BranchKind.TheVariants.{Beq, Bne, Blt, Bge, Bltu, Bgeu}
@@ -41,6 +41,33 @@ shift_right_signed a k = pattern (int_shr (signed a) k)
 abbrev pub high_half : ℤ → ℕ
 high_half z = pattern (int_shr z 32)
 
+-- the word's highest bit is its sign, and two words are each other's negative whose sum is a multiple of 2 ^ 32
+abbrev pub is_negative : ℕ → Bool
+is_negative a = not (nat_lt a (2 ^ 31))
+
+abbrev pub negated : ℕ → ℕ
+negated a = (2 ^ 32 - a) % 2 ^ 32
+
+-- a word without its sign, and with one
+abbrev pub magnitude : ℕ → ℕ
+magnitude a = if is_negative a then 2 ^ 32 - a else a
+
+abbrev pub with_sign : Bool → ℕ → ℕ
+with_sign negative n = if negative then negated n else n
+
+abbrev pub just_one : Bool → Bool → Bool
+just_one a b = if a then not b else b
+
+-- Division rounds towards zero: the quotient is negative where just one of the two is, and the remainder where the dividend is. By zero
+-- the quotient has all bits set and the remainder is the dividend. The least number by -1 is itself, as 2 ^ 31 is its own negative.
+abbrev pub divided : ℕ → ℕ → ℕ
+divided a b =
+    if nat_eq b 0 then 2 ^ 32 - 1
+    else with_sign (just_one (is_negative a) (is_negative b)) (magnitude a / magnitude b)
+
+abbrev pub left_over : ℕ → ℕ → ℕ
+left_over a b = if nat_eq b 0 then a else with_sign (is_negative a) (magnitude a % magnitude b)
+
 abbrev pub op_value : OpKind → ℕ → ℕ → ℕ
 op_value Add a b = plus a b
 op_value Sub a b = minus a b
@@ -56,9 +83,9 @@ op_value Mul a b = (a * b) % 2 ^ 32
 op_value Mulh a b = high_half (signed a *ℤ signed b)
 op_value Mulhsu a b = high_half (signed a *ℤ pos b)
 op_value Mulhu a b = a * b / 2 ^ 32
-op_value Div a b = pattern (quotient (signed a) (signed b))
+op_value Div a b = divided a b
 op_value Divu a b = if nat_eq b 0 then 2 ^ 32 - 1 else a / b
-op_value Rem a b = pattern (remainder (signed a) (signed b))
+op_value Rem a b = left_over a b
 op_value Remu a b = if nat_eq b 0 then a else a % b
 
 abbrev pub imm_value : ImmKind → ℕ → ℕ → ℕ
@@ -102,3 +129,16 @@ load_value Lh v = pattern (signed_part 65536 v)
 load_value Lw v = v
 load_value Lbu v = v
 load_value Lhu v = v
+
+-- ---- law: of the numbers of two words an operation gives the word of the number that every language here gives
+
+abbrev pub Computes : OpKind → (ℤ → ℤ → ℤ) → Type 0
+Computes kind f = (a b : ℕ) → a < 2 ^ 32 → b < 2 ^ 32 → op_value kind a b ≡ pattern (f (signed a) (signed b))
+
+pub record OperationsAgree : Type 0 where
+  pub add_is : Computes Add sum
+  pub sub_is : Computes Sub difference
+  pub mul_is : Computes Mul product
+  pub div_is : Computes Div quotient
+  pub rem_is : Computes Rem remainder
+  pub slt_is : Computes Slt less

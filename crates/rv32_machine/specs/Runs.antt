@@ -1,8 +1,6 @@
 -- Runs of a program: what it writes, what it reads, and where it stands after so many steps.
-use Rattle.std.specs.Prelude.{◌≡◌, ℕ, zero, suc, ◌+◌, ◌-◌, ◌≤◌, List, [], ◌++◌, length, drop, Bool, true, false, Option, Some, slice_get, Result, IfErr}
-use Rattle.grin_io.specs.Causes.{Rose}
-use Rattle.grin_io.specs.declared.outside.Fault.{Fault}
-use Rattle.grin_io.specs.declared.outside.Fault.TheVariants.{Read, Write}
+use Rattle.std.specs.Prelude.{◌≡◌, ℕ, zero, suc, ◌+◌, ◌-◌, List, [], ◌∷◌, ◌++◌, length, drop, Bool, true, false, Option, Some, slice_get}
+use Rattle.std.specs.List.{concat}
 use Rattle.rv32_machine.specs.declared.machine.Stop.{Stop}
 use Rattle.rv32_machine.specs.declared.machine.Stop.TheVariants.{Steps, Exit, Trap}
 use Rattle.rv32_machine.specs.declared.machine.TrapKind.{TrapKind}
@@ -40,6 +38,21 @@ unfoldable pub run : ℕ → (input : List ℕ) → State → Run
 run zero input s = stands input (Going s)
 run (suc n) input s = onward (run n) input s (step s)
 
+-- the pieces that an outcome puts: the bytes of a write call, also if there are none
+abbrev pub piece_of : Outcome → List (List ℕ)
+piece_of (Written address len bytes t) = bytes ∷ []
+piece_of _ = []
+
+-- the pieces that one further step of a run puts
+abbrev pub next_piece : End → List (List ℕ)
+next_piece (Going s) = piece_of (step s)
+next_piece _ = []
+
+-- the pieces that a run puts in so many steps, one for each write call, in order
+unfoldable pub pieces : ℕ → (input : List ℕ) → State → List (List ℕ)
+pieces zero input s = []
+pieces (suc n) input s = pieces n input s ++ next_piece (run n input s).end
+
 -- how many bytes of its input a run used
 abbrev pub used : (input : List ℕ) → Run → ℕ
 used input r = length input - length r.left
@@ -66,62 +79,10 @@ is_end Steps = false
 is_end (Exit code) = true
 is_end (Trap kind pc) = true
 
--- of the content that an object tells, if it does
-abbrev pub Told : Option (List ℕ) → (List ℕ → Type 0) → Type 0
-Told content P = (bytes : List ℕ) → content ≡ Some bytes → P bytes
-
 -- the machine and the source stand where a run stands
 pub record Stays (r : Run) (stop : Stop) (new : Stand) (left : Option (List ℕ)) : Type 0 where
   pub stands : StandsAt r.end stop new
   pub left_is : left ≡ Some r.left
-
--- from one state to another, a sink went by puts that it took whole; these are their bytes, in order
-pub data Puts {K : Type 0} (gives : K → List ℕ → Bool → K → Type 0) (from : K) : List ℕ → K → Type 0 where
-  none : Puts gives from [] from
-  more : {bytes piece : List ℕ} {to next : K} → Puts gives from bytes to → gives to piece true next → Puts gives from (bytes ++ piece) next
-
--- a sink took just these bytes, by whole puts
-pub record TookAll {K : Type 0} (gives : K → List ℕ → Bool → K → Type 0) (taken : K → Option (List ℕ)) (old new : K) (bytes : List ℕ) : Type 0 where
-  pub content : Told (taken old) (λ before. taken new ≡ Some (before ++ bytes))
-  pub puts : Puts gives old bytes new
-
--- a sink took some of the bytes that were due, from their front on
-abbrev pub TookPart : {K : Type 0} → (taken : K → Option (List ℕ)) → (old new : K) → (due : List ℕ) → Type 0
-TookPart taken old new due =
-    Told (taken old) (λ before. (part : List ℕ) × ((rest : List ℕ) × (part ++ rest ≡ due) × (taken new ≡ Some (before ++ part))))
-
--- whole puts were all that was asked of a sink; they are of bytes that were due
-pub record Paused {K : Type 0} (gives : K → List ℕ → Bool → K → Type 0) (old new : K) (due : List ℕ) : Type 0 where
-  pub bytes : List ℕ
-  pub rest : List ℕ
-  pub due_is : bytes ++ rest ≡ due
-  pub puts : Puts gives old bytes new
-
--- behind such puts came one that failed, and with its piece they are bytes that were due
-pub record Refused {K : Type 0} (gives : K → List ℕ → Bool → K → Type 0) (old new : K) (due : List ℕ) : Type 0 where
-  pub bytes : List ℕ
-  pub piece : List ℕ
-  pub rest : List ℕ
-  pub last : K
-  pub due_is : bytes ++ (piece ++ rest) ≡ due
-  pub puts : Puts gives old bytes last
-  pub refused : gives last piece false new
-
--- what was asked of the sink, by the fault that ended the run
-abbrev pub Broke : {K : Type 0} → Fault → (gives : K → List ℕ → Bool → K → Type 0) → (old new : K) → (due : List ℕ) → Type 0
-Broke Read gives old new due = Paused gives old new due
-Broke Write gives old new due = Refused gives old new due
-
--- the count of the object that a fault names rose
-abbrev pub Raised : Fault → (input input' out out' : ℕ) → Type 0
-Raised Read input input' out out' = Rose input input'
-Raised Write input input' out out' = Rose out out'
-
--- the counts of a source and a sink never fall, and a fault is answered only where that object's count rose
-pub record Faults {T : Type 0} (result : Result T Fault) (input input' out out' : ℕ) : Type 0 where
-  pub input_later : input ≤ input'
-  pub out_later : out ≤ out'
-  pub raised : IfErr result (λ fault. Raised fault input input' out out')
 
 -- ---- laws
 
@@ -142,6 +103,10 @@ EndStays = (m n : ℕ) (input : List ℕ) (s : State) → has_ended (run m input
 -- with more steps a run only writes more
 abbrev pub OutputGrows : Type 0
 OutputGrows = (m n : ℕ) (input : List ℕ) (s : State) → (more : List ℕ) × ((run (m + n) input s).out ≡ (run m input s).out ++ more)
+
+-- the bytes of the pieces that a run puts are its output
+abbrev pub PiecesAreTheOutput : Type 0
+PiecesAreTheOutput = (n : ℕ) (input : List ℕ) (s : State) → concat (pieces n input s) ≡ (run n input s).out
 
 -- what is left of the input is its rest behind the bytes that were used, and with more steps a run only uses more
 abbrev pub InputIsUsedInOrder : Type 0

@@ -1,8 +1,7 @@
 //! What the operations compute, on words of 32 bits.
 
 ghost use Rattle.std.specs.Prelude.{◌≡◌, ◌<◌, ◌^◌, ◌*ℤ◌, pos};
-ghost use Rattle.numbers.specs.Numbers.{quotient, remainder};
-ghost use Rattle.rv32_machine.specs.Arithmetic.{op_value, imm_value, shift_value, is_taken, load_size, load_value, store_size, shift_right_signed, less_signed, plus, signed, pattern, high_half, bit};
+ghost use Rattle.rv32_machine.specs.Arithmetic.{op_value, divided, left_over, imm_value, shift_value, is_taken, load_size, load_value, store_size, shift_right_signed, less_signed, plus, signed, pattern, high_half, bit};
 
 use rv32_isa::{BranchKind, ImmKind, LoadKind, OpKind, ShiftKind, StoreKind};
 
@@ -32,7 +31,7 @@ fn shift_right_signed(a: u32, k: u32) -> u32
 }
 
 fn quotient(a: u32, b: u32) -> u32
-    ensures { result ≡ pattern (quotient (signed a) (signed b)) }
+    ensures { result ≡ divided a b }
 {
     if b == 0 {
         u32::MAX
@@ -44,7 +43,7 @@ fn quotient(a: u32, b: u32) -> u32
 }
 
 fn remainder(a: u32, b: u32) -> u32
-    ensures { result ≡ pattern (remainder (signed a) (signed b)) }
+    ensures { result ≡ left_over a b }
 {
     if b == 0 {
         a

@@ -1,6 +1,12 @@
-//! Laws of runs, which hold of every state and input.
+//! Laws of the operations, and of runs, which hold of every state and input.
 
-ghost use Rattle.rv32_machine.specs.Runs.{RunsCompose, EndStays, OutputGrows, InputIsUsedInOrder};
+ghost use Rattle.rv32_machine.specs.Arithmetic.{OperationsAgree};
+ghost use Rattle.rv32_machine.specs.Runs.{RunsCompose, EndStays, OutputGrows, PiecesAreTheOutput, InputIsUsedInOrder};
+
+/// The operations on words compute what the languages here compute of the words' numbers.
+pub fn operations_agree()
+    ensures { OperationsAgree }
+{}
 
 /// So many steps and then so many more are all of them together.
 pub fn runs_compose()
@@ -15,6 +21,11 @@ pub fn end_stays()
 /// With more steps a run only writes more.
 pub fn output_grows()
     ensures { OutputGrows }
+{}
+
+/// The bytes of the pieces that a run puts are its output.
+pub fn pieces_are_the_output()
+    ensures { PiecesAreTheOutput }
 {}
 
 /// A run uses the bytes of its input in their order, and with more steps only more of them.

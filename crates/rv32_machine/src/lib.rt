@@ -9,5 +9,8 @@ mod run;
 #[cfg(test)]
 mod tests;
 
-pub use laws::{end_stays, input_is_used_in_order, output_grows, runs_compose};
+pub use laws::{
+    end_stays, input_is_used_in_order, operations_agree, output_grows, pieces_are_the_output,
+    runs_compose,
+};
 pub use machine::{Machine, StepResult, Stop, TrapKind};

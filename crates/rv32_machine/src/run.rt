@@ -3,17 +3,18 @@
 ghost use Rattle.std.specs.Prelude.{◌≡◌, ℕ, List, false, true, drop, slice_get, is_ok, IsSome, IfOk, IfErr, OnOk, OnErr};
 ghost use Rattle.grin_io.specs.Causes.{HasCause};
 ghost use Rattle.grin_io.specs.Content.{Takes};
+ghost use Rattle.grin_io.specs.Changes.{Told, of_sink, of_source, TookAll, Broke, Faults};
 ghost use Rattle.grin_io.specs.declared.outside.Fault.{Fault};
 ghost use Rattle.rv32_machine.specs.Memory.{range_bytes};
-ghost use Rattle.rv32_machine.specs.Steps.{IsRunning, IsAt, given, state_of};
-ghost use Rattle.rv32_machine.specs.Runs.{run, Told, Stays, TookAll, TookPart, Broke, Faults, is_end};
+ghost use Rattle.rv32_machine.specs.Steps.{IsRunning, IsAt, given, step, state_of};
+ghost use Rattle.rv32_machine.specs.Runs.{run, pieces, piece_of, Stays, is_end};
 
 use crate::machine::{Machine, StepResult, Stop};
 use grin_io::{Failed, Fault, Sink, Source};
 
 impl Machine {
     /// Does at most `steps` instructions. Each byte that the program reads is one read of the source, and the bytes of
-    /// each of its write calls are one put. After `Steps` the program has not ended, and a later call goes on; after every
+    /// each of its write calls are one put, also where there are none. After `Steps` the program has not ended, and a later call goes on; after every
     /// other answer it is over, and a fault of the source or the sink is the last thing that was asked of them.
     pub fn run<I: Source, K: Sink>(
         &mut self,
@@ -23,10 +24,9 @@ impl Machine {
     ) -> Result<Stop, Fault>
         requires { IsRunning self.old }
         ensures stands { IfOk result (λ stop. Told (I.left input.old) (λ i. Stays (run steps i (state_of self.old)) stop self.new (I.left input.new))) }
-        ensures output { IfOk result (λ stop. Told (I.left input.old) (λ i. TookAll K.put_gives K.taken out.old out.new (run steps i (state_of self.old)).out)) }
-        ensures part { OnErr result (Told (I.left input.old) (λ i. TookPart K.taken out.old out.new (run steps i (state_of self.old)).out)) }
-        ensures fault { IfErr result (λ fault. Told (I.left input.old) (λ i. Broke fault K.put_gives out.old out.new (run steps i (state_of self.old)).out)) }
-        ensures cause { Faults result (I.faults input.old) (I.faults input.new) (K.faults out.old) (K.faults out.new) }
+        ensures output { OnOk result (Told (I.left input.old) (λ i. TookAll (of_sink K.put_gives K.taken K.faults out.old out.new) (pieces steps i (state_of self.old)))) }
+        ensures fault { IfErr result (λ fault. Told (I.left input.old) (λ i. Broke fault (of_sink K.put_gives K.taken K.faults out.old out.new) (pieces steps i (state_of self.old)))) }
+        ensures cause { Faults result (of_source I.left I.faults input.old input.new) (of_sink K.put_gives K.taken K.faults out.old out.new) }
         ensures ended { IfOk result (λ stop. self.new.over ≡ is_end stop) }
         ensures broken { OnErr result (self.new.over ≡ true) }
         ensures answered { self.new.waiting ≡ false }
@@ -44,10 +44,9 @@ impl Machine {
     fn turn<I: Source, K: Sink>(&mut self, input: &mut I, out: &mut K) -> Result<Stop, Fault>
         requires { IsRunning self.old }
         ensures stands { IfOk result (λ stop. Told (I.left input.old) (λ i. Stays (run 1 i (state_of self.old)) stop self.new (I.left input.new))) }
-        ensures output { IfOk result (λ stop. Told (I.left input.old) (λ i. TookAll K.put_gives K.taken out.old out.new (run 1 i (state_of self.old)).out)) }
-        ensures part { OnErr result (Told (I.left input.old) (λ i. TookPart K.taken out.old out.new (run 1 i (state_of self.old)).out)) }
-        ensures fault { IfErr result (λ fault. Told (I.left input.old) (λ i. Broke fault K.put_gives out.old out.new (run 1 i (state_of self.old)).out)) }
-        ensures cause { Faults result (I.faults input.old) (I.faults input.new) (K.faults out.old) (K.faults out.new) }
+        ensures output { OnOk result (TookAll (of_sink K.put_gives K.taken K.faults out.old out.new) (piece_of (step (state_of self.old)))) }
+        ensures fault { IfErr result (λ fault. Broke fault (of_sink K.put_gives K.taken K.faults out.old out.new) (piece_of (step (state_of self.old)))) }
+        ensures cause { Faults result (of_source I.left I.faults input.old input.new) (of_sink K.put_gives K.taken K.faults out.old out.new) }
         ensures ended { IfOk result (λ stop. self.new.over ≡ is_end stop) }
         ensures broken { OnErr result (self.new.over ≡ true) }
         ensures answered { self.new.waiting ≡ false }

@@ -17,7 +17,7 @@ use Rattle.rv32_steps.proofs.Fetch.{in_second, in_third, no_right, elsewhere}
 use Rattle.rv32_steps.proofs.Words.{words_length, read_word, put_word}
 
 -- a segment with these bytes that may be written
-abbrev bytes_segment : ℕ → List ℕ → Stretch
+abbrev pub bytes_segment : ℕ → List ℕ → Stretch
 bytes_segment first bytes = record { first = first; write = true; exec = false; bytes = bytes }
 
 aligned : (first k : ℕ) → first % 4 ≡ 0 → nat_eq ((first + 4 * k) % 4) 0 ≡ true

@@ -15,7 +15,7 @@ use Rattle.rv32_steps.specs.Laws.{Called, WriteCallsWrite, ReadCallsTake, ReadCa
 use Rattle.rv32_steps.proofs.Moves.{on_input, one_write, one_read, one_exit}
 
 -- by the number in x17
-dispatch : State → ℕ → ℕ → ℕ → ℕ → Outcome
+unfoldable pub dispatch : State → ℕ → ℕ → ℕ → ℕ → Outcome
 dispatch s number file address len =
     if nat_eq number 93 then Ended file
     else if nat_eq number 64 then write_call s file address len

@@ -1,10 +1,8 @@
 pub mod Moves
 pub mod Fetch
-pub mod Instructions
 pub mod Words
 pub mod Access
 pub mod Control
 pub mod Calls
-pub mod Plain
-pub mod Blocks
 pub mod Straight
+pub mod Bytes

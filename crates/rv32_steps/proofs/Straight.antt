@@ -14,13 +14,13 @@ use Rattle.rv32_steps.specs.Leads.{at, Leads}
 use Rattle.rv32_steps.specs.Code.{Holds, Stand}
 use Rattle.rv32_steps.specs.Data.{words_bytes, Bases, Words, word_segment, memory_of, LaidOut, slot, IsSlot, IsWord, word_at, with_word}
 use Rattle.rv32_steps.specs.Straight.{value, Asks, AllAsk, regs_after, words_after, straight_regs, straight_words}
-use Rattle.rv32_steps.specs.Laws.{StraightCodeRuns}
+use Rattle.rv32_steps.specs.Laws.{InstructionsAct, StraightCodeRuns}
 use Rattle.rv32_steps.proofs.Moves.{stays, goes, one}
 use Rattle.rv32_steps.proofs.Words.{words_length, are_set}
 use Rattle.rv32_steps.proofs.Access.{lw_second, lw_third, sw_second, sw_third}
 
 -- the words of the heap are below the stack, and those of the stack are not
-in_heap : (c : Stretch) (b : Bases) (w : Words) (a : ℕ) → LaidOut c b w → IsSlot b.heap w.heap a → nat_lt a b.stack ≡ true
+pub in_heap : (c : Stretch) (b : Bases) (w : Words) (a : ℕ) → LaidOut c b w → IsSlot b.heap w.heap a → nat_lt a b.stack ≡ true
 in_heap c b w a ok is =
     let low = ok.heap_below in
     let place = is.0 in
@@ -28,7 +28,7 @@ in_heap c b w a ok is =
     let below : a < b.stack = omega arith in
     grind (arith, nat_tests)
 
-in_stack : (b : Bases) (w : Words) (a : ℕ) → IsSlot b.stack w.stack a → nat_lt a b.stack ≡ false
+pub in_stack : (b : Bases) (w : Words) (a : ℕ) → IsSlot b.stack w.stack a → nat_lt a b.stack ≡ false
 in_stack b w a is = let place = is.0 in let high : b.stack ≤ a = omega arith in grind (arith, nat_tests)
 
 -- a store keeps the segments apart
@@ -55,10 +55,10 @@ stack_set c b w k v ok lt = record {
 }
 
 -- the end of the heap's segment
-heap_end : (c : Stretch) (b : Bases) (w : Words) → LaidOut c b w → b.heap + length (words_bytes w.heap) ≤ b.stack
+pub heap_end : (c : Stretch) (b : Bases) (w : Words) → LaidOut c b w → b.heap + length (words_bytes w.heap) ≤ b.stack
 heap_end c b w ok = let low = ok.heap_below in omega (arith, words_length w.heap)
 
-code_end : (c : Stretch) (b : Bases) (w : Words) → LaidOut c b w → end_of c ≤ b.stack
+pub code_end : (c : Stretch) (b : Bases) (w : Words) → LaidOut c b w → end_of c ≤ b.stack
 code_end c b w ok = let low = ok.code_below in let high = ok.heap_below in omega arith
 
 module _ (c : Stretch) (b : Bases) (rest : List Stretch) where
@@ -84,38 +84,41 @@ module _ (c : Stretch) (b : Bases) (rest : List Stretch) where
         | inr h ↦ sw_third c (word_segment b.heap w.heap) pc regs b.stack w.stack rest rs2 rs1 (slot b.stack a) imm ok.fixed (heap_end c b w ok) ok.stack_four h.1 h.0 ∙ ap choice (sym (in_stack b w a h))
       ]
 
-  still_apart : (w : Words) (a v : ℕ) → LaidOut c b w → v < 2 ^ 32 → LaidOut c b (with_word b w a v)
+  pub still_apart : (w : Words) (a v : ℕ) → LaidOut c b w → v < 2 ^ 32 → LaidOut c b (with_word b w a v)
   still_apart w a v ok lt = by_place (nat_lt a b.stack)
     where
       by_place : (t : Bool) → LaidOut c b (if t then (record { heap = set w.heap (slot b.heap a) v; stack = w.stack }) else (record { heap = w.heap; stack = set w.stack (slot b.stack a) v }))
       by_place true = heap_set c b w (slot b.heap a) v ok lt
       by_place false = stack_set c b w (slot b.stack a) v ok lt
 
-  -- an instruction that goes on
-  goes_on : (pc : ℕ) (regs regs' : ℕ → ℕ) (w w' : Words) (i : Instr) → Holds c pc i → act (at regs pc (memory_of c b w rest)) i ≡ Next (at regs' (plus pc 4) (memory_of c b w' rest)) → Leads 1 (at regs pc (memory_of c b w rest)) [] (at regs' (pc + 4) (memory_of c b w' rest))
-  goes_on pc regs regs' w w' i h e =
-      one _ _ (h.steps regs (word_segment b.heap w.heap ∷ word_segment b.stack w.stack ∷ rest) ∙ e ∙ ap (λ q. Next (at regs' q (memory_of c b w' rest))) h.next)
+  -- what one instruction of straight code does
+  pub acts_on : (i : Instr) (regs : ℕ → ℕ) (pc : ℕ) (w : Words) → LaidOut c b w → Asks b i regs w → (act (at regs pc (memory_of c b w rest)) i ≡ Next (at (regs_after b i regs w) (plus pc 4) (memory_of c b (words_after b i regs w) rest))) × LaidOut c b (words_after b i regs w)
+  acts_on (Lui rd imm) regs pc w ok asks = (refl, ok)
+  acts_on (OpImm kind rd rs1 imm) regs pc w ok asks = (refl, ok)
+  acts_on (Shift kind rd rs1 amount) regs pc w ok asks = (refl, ok)
+  acts_on (Op kind rd rs1 rs2) regs pc w ok asks = (refl, ok)
+  acts_on (Load Lw rd rs1 imm) regs pc w ok asks = (loads regs pc w rd rs1 imm ok asks, ok)
+  acts_on (Store Sw rs2 rs1 imm) regs pc w ok asks = (stores regs pc w rs2 rs1 imm ok asks.0, still_apart w _ _ ok asks.1)
+  acts_on (Load Lb rd rs1 imm) regs pc w ok asks = absurd asks
+  acts_on (Load Lh rd rs1 imm) regs pc w ok asks = absurd asks
+  acts_on (Load Lbu rd rs1 imm) regs pc w ok asks = absurd asks
+  acts_on (Load Lhu rd rs1 imm) regs pc w ok asks = absurd asks
+  acts_on (Store Sb rs2 rs1 imm) regs pc w ok asks = absurd asks
+  acts_on (Store Sh rs2 rs1 imm) regs pc w ok asks = absurd asks
+  acts_on (Auipc rd imm) regs pc w ok asks = absurd asks
+  acts_on (Jal rd off) regs pc w ok asks = absurd asks
+  acts_on (Jalr rd rs1 imm) regs pc w ok asks = absurd asks
+  acts_on (Branch kind rs1 rs2 off) regs pc w ok asks = absurd asks
+  acts_on (Fence top rs1 rd) regs pc w ok asks = absurd asks
+  acts_on Ecall regs pc w ok asks = absurd asks
+  acts_on Ebreak regs pc w ok asks = absurd asks
 
   each : (pc : ℕ) (regs : ℕ → ℕ) (w : Words) (i : Instr) → Holds c pc i → LaidOut c b w → Asks b i regs w → Leads 1 (at regs pc (memory_of c b w rest)) [] (at (regs_after b i regs w) (pc + 4) (memory_of c b (words_after b i regs w) rest)) × LaidOut c b (words_after b i regs w)
-  each pc regs w (Lui rd imm) h ok asks = (goes_on pc regs _ w w _ h refl, ok)
-  each pc regs w (OpImm kind rd rs1 imm) h ok asks = (goes_on pc regs _ w w _ h refl, ok)
-  each pc regs w (Shift kind rd rs1 amount) h ok asks = (goes_on pc regs _ w w _ h refl, ok)
-  each pc regs w (Op kind rd rs1 rs2) h ok asks = (goes_on pc regs _ w w _ h refl, ok)
-  each pc regs w (Load Lw rd rs1 imm) h ok asks = (goes_on pc regs _ w w _ h (loads regs pc w rd rs1 imm ok asks), ok)
-  each pc regs w (Store Sw rs2 rs1 imm) h ok asks = (goes_on pc regs _ w _ _ h (stores regs pc w rs2 rs1 imm ok asks.0), still_apart w _ _ ok asks.1)
-  each pc regs w (Load Lb rd rs1 imm) h ok asks = absurd asks
-  each pc regs w (Load Lh rd rs1 imm) h ok asks = absurd asks
-  each pc regs w (Load Lbu rd rs1 imm) h ok asks = absurd asks
-  each pc regs w (Load Lhu rd rs1 imm) h ok asks = absurd asks
-  each pc regs w (Store Sb rs2 rs1 imm) h ok asks = absurd asks
-  each pc regs w (Store Sh rs2 rs1 imm) h ok asks = absurd asks
-  each pc regs w (Auipc rd imm) h ok asks = absurd asks
-  each pc regs w (Jal rd off) h ok asks = absurd asks
-  each pc regs w (Jalr rd rs1 imm) h ok asks = absurd asks
-  each pc regs w (Branch kind rs1 rs2 off) h ok asks = absurd asks
-  each pc regs w (Fence top rs1 rd) h ok asks = absurd asks
-  each pc regs w Ecall h ok asks = absurd asks
-  each pc regs w Ebreak h ok asks = absurd asks
+  each pc regs w i h ok asks =
+      let does = acts_on i regs pc w ok asks in
+      let step_is = h.steps regs (word_segment b.heap w.heap ∷ word_segment b.stack w.stack ∷ rest) in
+      let next = ap (λ q. Next (at (regs_after b i regs w) q (memory_of c b (words_after b i regs w) rest))) h.next in
+      (one _ _ (step_is ∙ does.0 ∙ next), does.1)
 
   -- to a place behind the code that is known by an equation
   pub straight : (is : List Instr) (pc to : ℕ) (regs : ℕ → ℕ) (w : Words) → to ≡ pc + 4 * length is → LaidOut c b w → AllAsk b is regs w → Stand c pc is → Leads (length is) (at regs pc (memory_of c b w rest)) [] (at (straight_regs b is regs w) to (memory_of c b (straight_words b is regs w) rest)) × LaidOut c b (straight_words b is regs w)
@@ -131,3 +134,6 @@ module _ (c : Stretch) (b : Bases) (rest : List Stretch) where
 
 pub straight_code_runs : StraightCodeRuns
 straight_code_runs c b rest is pc regs w ok stand asks = (straight c b rest is pc (pc + 4 * length is) regs w refl ok asks stand).0
+
+pub instructions_act : InstructionsAct
+instructions_act c b rest i regs pc w ok asks = acts_on c b rest i regs pc w ok asks

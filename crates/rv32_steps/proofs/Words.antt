@@ -1,17 +1,7 @@
 -- Memory that is used by words.
-use Rattle.std.proofs.Common.{◌≡◌, ℕ, zero, suc, ◌+◌, ◌-◌, ◌*◌, ◌/◌, ◌%◌, ◌^◌, ◌<◌, ◌≤◌, List, [], ◌∷◌, ◌++◌, length, take, drop, get_or, set, true, false, refl, ap, ◌∙◌, arith}
-use Rattle.std.specs.Prelude.{ℤ, nat_eq, ◌&&◌, if◌then◌else◌}
-use Rattle.std.proofs.lemmas.Bool.Decides.{nat_tests}
-use Rattle.rv32_isa.specs.declared.instr.Instr.TheVariants.{Load, Store}
-use Rattle.rv32_isa.specs.declared.instr.LoadKind.TheVariants.{Lw}
-use Rattle.rv32_isa.specs.declared.instr.StoreKind.TheVariants.{Sw}
-use Rattle.rv32_machine.specs.declared.memory.Right.TheVariants.{Read, Write}
-use Rattle.rv32_machine.specs.declared.machine.TrapKind.TheVariants.{MisalignedAccess}
-use Rattle.rv32_machine.specs.Memory.{Stretch, allows, is_in, end_of, access, bytes_of, number_of, put_over}
-use Rattle.rv32_machine.specs.Arithmetic.{plus, pattern, load_value}
-use Rattle.rv32_machine.specs.Steps.{Next, Trapped, set_reg, stored, loaded, put}
-use Rattle.rv32_steps.proofs.Moves.{at, Leads, one}
-use Rattle.rv32_steps.proofs.Fetch.{Holds, in_second, four_back}
+use Rattle.std.proofs.Common.{◌≡◌, ℕ, zero, suc, ◌+◌, ◌*◌, ◌/◌, ◌%◌, ◌^◌, ◌<◌, List, [], ◌∷◌, ◌++◌, length, take, drop, get_or, set, replicate, refl, sym, ap, ◌∙◌, arith}
+use Rattle.rv32_machine.specs.Memory.{bytes_of, number_of, put_over}
+use Rattle.rv32_steps.proofs.Fetch.{four_back}
 pub use Rattle.rv32_steps.specs.Data.{words_bytes, AreWords, word_segment}
 
 pub words_length : (ws : List ℕ) → length (words_bytes ws) ≡ 4 * length ws
@@ -80,39 +70,17 @@ are_set [] k v h lt = tt
 are_set (w ∷ ws) zero v h lt = (lt, h.1)
 are_set (w ∷ ws) (suc k) v h lt = (h.0, are_set ws k v h.1 lt)
 
-module _ (c : Stretch) (pc : ℕ) (regs : ℕ → ℕ) (first : ℕ) (ws : List ℕ) (rest : List Stretch) where
-  pub lw : (rd rs1 k : ℕ) (imm : ℤ) → Holds c pc (Load Lw rd rs1 imm) → end_of c ≤ first → first % 4 ≡ 0 → AreWords ws → k < length ws → plus (if nat_eq rs1 0 then 0 else regs rs1) (pattern imm) ≡ first + 4 * k → Leads 1 (at regs pc (c ∷ word_segment first ws ∷ rest)) [] (at (set_reg regs rd (get_or ws k 0)) (pc + 4) (c ∷ word_segment first ws ∷ rest))
-  lw rd rs1 k imm h low four are lt ea =
-      let m = c ∷ word_segment first ws ∷ rest in
-      let st = at regs pc m in
-      let a = first + 4 * k in
-      let aligned : nat_eq (a % 4) 0 ≡ true = let z : a % 4 ≡ 0 = omega arith in grind (arith, nat_tests) in
-      let apart : is_in a c ≡ false = grind (arith, nat_tests) in
-      let fits : a + 4 ≤ first + length (words_bytes ws) = omega (arith, words_length ws) in
-      let off : a - first ≡ 4 * k = omega arith in
-      one _ _ (h.steps regs (word_segment first ws ∷ rest)
-      ∙ ap (λ x. if nat_eq (x % 4) 0 then loaded st rd (load_value Lw) 4 (access Read m x 4) else Trapped (MisalignedAccess x)) ea
-      ∙ ap (λ b. if b then loaded st rd (load_value Lw) 4 (access Read m a 4) else Trapped (MisalignedAccess a)) aligned
-      ∙ ap (loaded st rd (load_value Lw) 4) (in_second Read c (word_segment first ws) rest a 4 apart refl (omega arith) fits (omega arith))
-      ∙ ap (λ o. put st rd (number_of (take 4 (drop o (words_bytes ws))))) off
-      ∙ ap (put st rd) (read_word ws k are lt)
-      ∙ ap (λ p. Next (at (set_reg regs rd (get_or ws k 0)) p m)) h.next)
+-- a byte stored over a word that is zero makes the word that byte
+pub put_byte : (ws : List ℕ) (k b : ℕ) → k < length ws → get_or ws k 0 ≡ 0 → b < 256 → put_over (words_bytes ws) (4 * k) (bytes_of 1 b) ≡ words_bytes (set ws k b)
+put_byte ws k b lt none small =
+    let same : with_low_byte (get_or ws k 0) b ≡ b = ap (λ w. with_low_byte w b) none ∙ omega arith in
+    put_low_byte ws k b lt ∙ ap (λ v. words_bytes (set ws k v)) same
 
-  pub sw : (rs2 rs1 k v : ℕ) (imm : ℤ) → Holds c pc (Store Sw rs2 rs1 imm) → c.write ≡ false → first % 4 ≡ 0 → k < length ws → plus (if nat_eq rs1 0 then 0 else regs rs1) (pattern imm) ≡ first + 4 * k → (if nat_eq rs2 0 then 0 else regs rs2) ≡ v → Leads 1 (at regs pc (c ∷ word_segment first ws ∷ rest)) [] (at regs (pc + 4) (c ∷ word_segment first (set ws k v) ∷ rest))
-  sw rs2 rs1 k v imm h cw four lt ea ev =
-      let m = c ∷ word_segment first ws ∷ rest in
-      let st = at regs pc m in
-      let a = first + 4 * k in
-      let aligned : nat_eq (a % 4) 0 ≡ true = let z : a % 4 ≡ 0 = omega arith in grind (arith, nat_tests) in
-      let apart : allows Write c && is_in a c ≡ false = ap (λ b. b && is_in a c) cw in
-      let fits : a + 4 ≤ first + length (words_bytes ws) = omega (arith, words_length ws) in
-      let off : a - first ≡ 4 * k = omega arith in
-      let val = if nat_eq rs2 0 then 0 else regs rs2 in
-      one _ _ (h.steps regs (word_segment first ws ∷ rest)
-      ∙ ap (λ x. if nat_eq (x % 4) 0 then stored st (bytes_of 4 val) (access Write m x 4) else Trapped (MisalignedAccess x)) ea
-      ∙ ap (λ b. if b then stored st (bytes_of 4 val) (access Write m a 4) else Trapped (MisalignedAccess a)) aligned
-      ∙ ap (λ x. stored st (bytes_of 4 x) (access Write m a 4)) ev
-      ∙ ap (stored st (bytes_of 4 v)) (in_second Write c (word_segment first ws) rest a 4 apart refl (omega arith) fits (omega arith))
-      ∙ ap (λ o. Next (at regs (plus pc 4) (c ∷ (let s : Stretch = record { first = first; write = true; exec = false; bytes = put_over (words_bytes ws) o (bytes_of 4 v) } in s) ∷ rest))) off
-      ∙ ap (λ b. Next (at regs (plus pc 4) (c ∷ (let s : Stretch = record { first = first; write = true; exec = false; bytes = b } in s) ∷ rest))) (put_word ws k v lt)
-      ∙ ap (λ p. Next (at regs p (c ∷ word_segment first (set ws k v) ∷ rest))) h.next)
+-- zeros are words of zero
+pub zero_words : (n : ℕ) → words_bytes (replicate n 0) ≡ replicate (4 * n) 0
+zero_words zero = refl
+zero_words (suc n) = ap (λ l. 0 ∷ 0 ∷ 0 ∷ 0 ∷ l) (zero_words n) ∙ ap (λ k. replicate {A = ℕ} k 0) (sym (four_more n))
+
+pub zeros_are_words : (n : ℕ) → AreWords (replicate n 0)
+zeros_are_words zero = tt
+zeros_are_words (suc n) = (omega arith, zeros_are_words n)

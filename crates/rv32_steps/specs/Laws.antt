@@ -1,5 +1,5 @@
 -- What the machine does with the code of a compiler.
-use Rattle.std.specs.Prelude.{◌≡◌, ℕ, ℤ, pos, ◌+◌, ◌*◌, ◌%◌, ◌^◌, ◌<◌, List, [], ◌∷◌, ◌++◌, length, true, false}
+use Rattle.std.specs.Prelude.{◌≡◌, ℕ, ℤ, pos, ◌+◌, ◌*◌, ◌%◌, ◌^◌, ◌<◌, List, [], ◌∷◌, ◌++◌, length, replicate, Some, true, false}
 use Rattle.rv32_isa.specs.declared.instr.Instr.{Instr}
 use Rattle.rv32_isa.specs.declared.instr.Instr.TheVariants.{Jal, Jalr, Branch, Ecall}
 use Rattle.rv32_isa.specs.declared.instr.BranchKind.{BranchKind}
@@ -7,11 +7,11 @@ use Rattle.rv32_machine.specs.declared.memory.Right.TheVariants.{Read, Write}
 use Rattle.rv32_machine.specs.declared.memory.Access.TheVariants.{At}
 use Rattle.rv32_machine.specs.Memory.{Stretch, end_of, access, bytes_at, bytes_of, stored_at}
 use Rattle.rv32_machine.specs.Arithmetic.{plus, pattern, is_taken}
-use Rattle.rv32_machine.specs.Steps.{State, set_reg}
+use Rattle.rv32_machine.specs.Steps.{State, Next, Written, Asked, act, given, set_reg}
 use Rattle.rv32_steps.specs.Leads.{at, Leads, LeadsOn, ExitsOn}
 use Rattle.rv32_steps.specs.Code.{code_bytes, AllInRange, Holds, Stand}
-use Rattle.rv32_steps.specs.Data.{Bases, Words, memory_of, LaidOut}
-use Rattle.rv32_steps.specs.Straight.{value, AllAsk, straight_regs, straight_words}
+use Rattle.rv32_steps.specs.Data.{words_bytes, AreWords, Bases, Words, memory_of, LaidOut, IsWord, word_at, with_word}
+use Rattle.rv32_steps.specs.Straight.{value, Asks, regs_after, words_after, AllAsk, straight_regs, straight_words}
 
 -- stretches of a run join
 abbrev pub StretchesJoin : Type 0
@@ -29,6 +29,14 @@ CodeStands =
     (c : Stretch) (is : List Instr)
     → c.exec ≡ true → c.bytes ≡ code_bytes is → c.first % 4 ≡ 0 → end_of c < 2 ^ 32 → AllInRange is
     → Stand c c.first is
+
+-- an instruction of straight-line code changes registers and words as `regs_after` and `words_after` say, wherever it stands
+abbrev pub InstructionsAct : Type 0
+InstructionsAct =
+    (c : Stretch) (b : Bases) (rest : List Stretch) (i : Instr) (regs : ℕ → ℕ) (pc : ℕ) (w : Words)
+    → LaidOut c b w → Asks b i regs w
+    → (act (at regs pc (memory_of c b w rest)) i ≡ Next (at (regs_after b i regs w) (plus pc 4) (memory_of c b (words_after b i regs w) rest)))
+    × LaidOut c b (words_after b i regs w)
 
 -- straight-line code is done to its end, one step each instruction
 abbrev pub StraightCodeRuns : Type 0
@@ -68,6 +76,36 @@ pub record Called (number file address len : ℕ) (regs : ℕ → ℕ) : Type 0 
   pub file_is : regs 10 ≡ file
   pub address_is : regs 11 ≡ address
   pub len_is : regs 12 ≡ len
+
+-- ---- calls of one byte, which stands in a word
+
+-- a write call of one byte writes the low byte of the word at its address
+abbrev pub BytesAreWritten : Type 0
+BytesAreWritten =
+    (c : Stretch) (b : Bases) (rest : List Stretch) (regs : ℕ → ℕ) (pc : ℕ) (w : Words) (a : ℕ)
+    → LaidOut c b w → IsWord b w a → Called 64 1 a 1 regs
+    → act (at regs pc (memory_of c b w rest)) Ecall
+    ≡ Written a 1 (word_at b w a % 256 ∷ []) (at (set_reg regs 10 1) (plus pc 4) (memory_of c b w rest))
+
+-- a read call of one byte asks for it; a word that was zero becomes the byte, and at the input's end it stays zero
+abbrev pub BytesAreAsked : Type 0
+BytesAreAsked =
+    (c : Stretch) (b : Bases) (rest : List Stretch) (regs : ℕ → ℕ) (pc : ℕ) (w : Words) (a : ℕ)
+    → LaidOut c b w → IsWord b w a → Called 63 0 a 1 regs
+    → act (at regs pc (memory_of c b w rest)) Ecall ≡ Asked a
+
+abbrev pub BytesAreTaken : Type 0
+BytesAreTaken =
+    (c : Stretch) (b : Bases) (rest : List Stretch) (regs : ℕ → ℕ) (pc : ℕ) (w : Words) (a byte : ℕ)
+    → LaidOut c b w → IsWord b w a → word_at b w a ≡ 0 → byte < 256 → regs 11 ≡ a
+    → (given (at regs pc (memory_of c b w rest)) (Some byte)
+    ≡ at (set_reg regs 10 1) (plus pc 4) (memory_of c b (with_word b w a byte) rest))
+    × LaidOut c b (with_word b w a byte)
+
+-- segments of zeros are words of zero
+abbrev pub ZerosAreWords : Type 0
+ZerosAreWords =
+    (n : ℕ) → (words_bytes (replicate n 0) ≡ replicate (4 * n) 0) × AreWords (replicate n 0)
 
 -- a write call writes the bytes at its range
 abbrev pub WriteCallsWrite : Type 0

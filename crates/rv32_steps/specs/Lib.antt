@@ -3,3 +3,5 @@ pub mod Code
 pub mod Data
 pub mod Straight
 pub mod Laws
+pub mod Seen
+pub mod Trace

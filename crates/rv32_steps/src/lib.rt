@@ -2,7 +2,7 @@
 //! straight-line code, jumps, branches and calls do what they say. All of it is laws, for the proofs of code generators.
 #![tactic(auto)]
 
-ghost use Rattle.rv32_steps.specs.Laws.{StretchesJoin, StretchesKeepTheInput, CodeStands, StraightCodeRuns, JumpsGo, ReturnsGoBack, BranchesGo, BranchesStay, WriteCallsWrite, ReadCallsTake, ReadCallsEnd, ExitCallsEnd};
+ghost use Rattle.rv32_steps.specs.Laws.{StretchesJoin, StretchesKeepTheInput, CodeStands, InstructionsAct, StraightCodeRuns, ZerosAreWords, BytesAreWritten, BytesAreAsked, BytesAreTaken, JumpsGo, ReturnsGoBack, BranchesGo, BranchesStay, WriteCallsWrite, ReadCallsTake, ReadCallsEnd, ExitCallsEnd};
 
 /// Stretches of a run join, and what reads no byte is one on every input.
 pub fn stretches_join()
@@ -15,9 +15,12 @@ pub fn code_stands()
     ensures { CodeStands }
 {}
 
-/// Straight-line code over registers, heap and stack is done to its end, one step each instruction.
+/// Straight-line code over registers, heap and stack is done to its end, one step each instruction, and each instruction
+/// does the same wherever it stands. A segment of zeros is one of words.
 pub fn straight_code_runs()
-    ensures { StraightCodeRuns }
+    ensures each { InstructionsAct }
+    ensures all { StraightCodeRuns }
+    ensures zeros { ZerosAreWords }
 {}
 
 /// Jumps, returns, and branches by their test, go where they say.
@@ -26,6 +29,14 @@ pub fn jumps_go()
     ensures returns_back { ReturnsGoBack }
     ensures taken { BranchesGo }
     ensures not_taken { BranchesStay }
+{}
+
+/// A call of one byte finds it in a word: a write call writes the low byte of the word, and a read call puts the byte where
+/// a word is zero.
+pub fn bytes_stand_in_words()
+    ensures written { BytesAreWritten }
+    ensures asked { BytesAreAsked }
+    ensures taken { BytesAreTaken }
 {}
 
 /// Write calls write, read calls take a byte or tell the input's end, and exit calls end the run.

@@ -1,4 +1,4 @@
-//! Stages of small programs that were worked by hand, and the sizes of large ones.
+//! Rows for the stages: programs that were worked by hand, and the sizes of large ones.
 #![tactic(auto)]
 
 #[cfg(test)]

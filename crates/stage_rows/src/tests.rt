@@ -2,12 +2,13 @@
 
 ghost use Rattle.std.specs.Prelude.{IfOk};
 ghost use Rattle.arity_check.specs.Program.{program};
-ghost use Rattle.grin_stages.specs.Stage.{IsChecked};
+ghost use Rattle.arity_check.specs.Accepted.{IsValid};
 
 use apply_inline::expanded_size;
 use arity_check::check::check;
 use arity_check::normal::Checked;
 use core_reader::read;
+use core_reader::size::size;
 use flow_system::system::system;
 use grin_opt::PassName;
 use grin_stages::{CompileRefusal, stage};
@@ -25,7 +26,7 @@ const LISTS: &str = "data Nil 0; data Cons 2; ";
 
 /// The normal form of a text that breaks no rule.
 fn checked(alloc: Global, text: &str) -> Result<Checked, Fail>
-    ensures { IfOk result (λ p. IsChecked (program p)) }
+    ensures { IfOk result (λ p. IsValid (program p)) }
 {
     let core = read(alloc, text.as_bytes())?;
     Ok(check(alloc, core)?)
@@ -62,7 +63,8 @@ fn largest(alloc: Global, text: &str) -> Result<u64, Fail> {
     Ok(largest)
 }
 
-/// A text in which k functions are delayed, and each of their results is given to one function.
+/// A text in which k functions are delayed, and each of their results is given to one function. Once inlined, its program
+/// has the size 9 k k + 14 k + 42.
 fn many_delayed(alloc: Global, k: u32) -> Result<String, AllocError> {
     let mut text = String::from_str(alloc, LISTS)?;
     for i in 0..k {
@@ -79,17 +81,86 @@ fn many_delayed(alloc: Global, k: u32) -> Result<String, AllocError> {
     Ok(text)
 }
 
+/// A program with applications, behind the prelude: `k` is given its arguments one at a time.
+const APPLIED: &str = "k x y = x; ap f x y = f x y; main = ap k (Cons 65 Nil) Nil;";
+
+/// Its stage in which evaluations and applications are inlined.
+const APPLIED_STAGE: &str = "global main = (Fmain)
+
+k v0 v1 =
+  v2 <- fetch v0
+  case v2 of
+    (CCons v3 v4) ->
+      unit v2
+
+ap v0 v1 v2 =
+  v3 <- fetch v0
+  v4 <- case v3 of
+    (P2k) ->
+      unit v3
+  v5 <- case v4 of
+    (P2k) ->
+      unit (P1k v1)
+  case v5 of
+    (P1k v6) ->
+      call k v6 v2
+
+main =
+  store
+    v0 = (P2k)
+    v1 = (CInt 65)
+    v2 = (CNil)
+    v3 = (CCons v1 v2)
+    v4 = (CNil)
+  call ap v0 v3 v4
+
+@print v0 =
+  v1 <- fetch v0
+  v2 <- case v1 of
+    (CNil) ->
+      unit v1
+    (CCons v3 v4) ->
+      unit v1
+    (Fmain) ->
+      v5 <- call main
+      update v0 v5
+      unit v5
+  case v2 of
+    (CNil) ->
+      unit (CNil)
+    (CCons v6 v7) ->
+      v8 <- fetch v6
+      v9 <- case v8 of
+        (CInt v10) ->
+          unit v8
+      case v9 of
+        (CInt v11) ->
+          write v11
+          call @print v7
+        else ->
+          fail
+    else ->
+      fail
+";
+
 #[test]
-fn stages_come_again(rt: HostRuntime) -> Result<(), Fail> {
+fn applications_are_cases_over_the_functions_that_they_meet(rt: HostRuntime) -> Result<(), Fail> {
     let alloc = rt.alloc();
-    let text = format!(in alloc;
-        "{LISTS}twice f x = f (f x); id x = x; main = Cons (twice id 65) Nil;"
-    )?;
-    for after in [PassName::Translate, PassName::Eval, PassName::Apply] {
-        let once = listed(alloc, text.as_str(), after)?;
-        let again = listed(alloc, text.as_str(), after)?;
-        assert_eq!(rt; once.as_slice(), again.as_slice());
-    }
+    let text = format!(in alloc; "{LISTS}{APPLIED}")?;
+    let listing = listed(alloc, text.as_str(), PassName::Apply)?;
+    assert_eq!(rt; listing.as_slice(), APPLIED_STAGE.as_bytes());
+    Ok(())
+}
+
+#[test]
+fn texts_have_a_size(rt: HostRuntime) -> Result<(), Fail> {
+    let alloc = rt.alloc();
+    let text = format!(in alloc; "{LISTS}data T 12; main = Nil;")?;
+    let core = read(alloc, text.as_bytes())?;
+    assert_eq!(rt; size(&core), 8);
+    let p = check(alloc, core)?;
+    assert_eq!(rt; p.cons.as_slice().len(), 3);
+    assert_eq!(rt; p.funs.as_slice().len(), 1);
     Ok(())
 }
 
@@ -99,10 +170,26 @@ fn programs_have_a_size_once_inlined(rt: HostRuntime) -> Result<(), Fail> {
     let text = format!(in alloc; "{LISTS}main = Nil;")?;
     assert_eq!(rt; expanded(alloc, text.as_str())?, 37);
     assert_eq!(rt; largest(alloc, text.as_str())?, 36);
-    for (k, size) in [(1, 65), (2, 106), (3, 165), (20, 3922), (119, 129157)] {
+    for (k, size) in [
+        (1, 65),
+        (2, 106),
+        (3, 165),
+        (20, 3922),
+        (84, 64722),
+        (119, 129157),
+    ] {
         let text = many_delayed(alloc, k)?;
         assert_eq!(rt; expanded(alloc, text.as_str())?, size);
     }
+    Ok(())
+}
+
+#[test]
+fn a_large_program_has_its_last_stage(rt: HostRuntime) -> Result<(), Fail> {
+    let alloc = rt.alloc();
+    let text = many_delayed(alloc, 84)?;
+    let p = checked(alloc, text.as_str())?;
+    assert!(rt; stage(alloc, &p, PassName::Apply).is_ok());
     Ok(())
 }
 

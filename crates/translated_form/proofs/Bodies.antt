@@ -7,7 +7,7 @@ use Rattle.arity_check.specs.Program.{Program, Function}
 use Rattle.core_meaning.specs.Evaluation.{params, params_of, nil, cons}
 use Rattle.grin_syntax.specs.Binders.{numbers_of}
 use Rattle.grin_syntax.specs.Tree.{Code}
-use Rattle.grin_syntax.specs.Formed.{AllOf, InScope, ActFormed, CodeFormed, ProcedureFormed}
+use Rattle.grin_syntax.specs.Formed.{AllOf, Scope, InScope, ActFormed, CodeFormed, ProcedureFormed}
 use Rattle.grin_translate.specs.declared.tags.Delay.{Delay}
 use Rattle.grin_translate.specs.declared.tags.Delay.TheVariants.{Calls, Applies, Operates, Reads}
 use Rattle.grin_translate.specs.Tags.{numbers_from, delays_in, is_delayed, takes_input, delays, delay_params}
@@ -18,9 +18,10 @@ use Rattle.grin_translate.proofs.Places.{all_append}
 use Rattle.grin_translate.proofs.Found.{has_calls, has_reads}
 use Rattle.grin_translate.proofs.Lookups.{length-numbers_from}
 use Rattle.grin_translate.proofs.Expressions.{any_has, Waits}
-use Rattle.translated_form.proofs.Lists.{all_at, all_if, all_numbers, all_mapped, has_at}
+use Rattle.grin_syntax.proofs.Scopes.{all_get, first_in}
+use Rattle.translated_form.proofs.Lists.{all_if, all_numbers, all_mapped, has_at}
 use Rattle.translated_form.proofs.Delays.{IsThere, all_there}
-use Rattle.translated_form.proofs.Scopes.{in_here, in_later, scoped_params}
+use Rattle.translated_form.proofs.Scopes.{in_later, scoped_params}
 use Rattle.translated_form.proofs.Named.{number_known, constructor_known, waits_known, print_known}
 use Rattle.translated_form.proofs.Blocks.{on_number_formed, form_formed, block_formed}
 
@@ -32,12 +33,12 @@ module _ (p : Program) where
   module _ (ok : WellFormed p) where
     -- in the scope of so many parameters
     abbrev BodyFormed : ℕ → ℕ → Code → Type 0
-    BodyFormed base n b = CodeFormed (tr p) (numbers_of (map (local p base) (numbers_from 0 n))) b
+    BodyFormed base n b = CodeFormed (tr p) (record { nodes = []; words = numbers_of (map (local p base) (numbers_from 0 n)) }) b
 
     fun_formed : (f base : ℕ) (fun : Function) → slice_get p.funs f ≡ Some fun → BodyFormed base (params p f) (fun_body p base (slice_get p.funs f))
     fun_formed f base fun e =
         subst (λ o. BodyFormed base (params_of p o) (fun_body p base o)) (sym e)
-        (block_formed p base fun.body 0 (λ x. x < fun.params) _ (scoped_params p base fun.params) (all_at (FunOk p) p.funs f fun ok.bodies e) (waits_all f fun e))
+        (block_formed p base fun.body 0 (λ x. x < fun.params) _ (scoped_params p base fun.params) (all_get (FunOk p) p.funs f fun ok.bodies e) (waits_all f fun e))
 
     apply_formed : (m base : ℕ) → m < 13 → BodyFormed base (suc m) (delay_body p base (Applies m))
     apply_formed m base few =
@@ -57,19 +58,18 @@ module _ (p : Program) where
         let head : ℕ = (local p base 0).0 in
         let tail : ℕ = (local p base 1).0 in
         let s1 : List ℕ = byte ∷ [] in
-        let s2 : List ℕ = value ∷ s1 in
-        let s3 : List ℕ = tail ∷ s2 in
-        let number_cell : InScope (head ∷ s3) byte = in_later byte head s3 (in_later byte tail s2 (in_later byte value s1 (in_here byte []))) in
-        let pair : InScope (head ∷ s3) tail = in_later tail head s3 (in_here tail s2) in (
+        let s2 : List ℕ = tail ∷ s1 in
+        let number_cell : InScope (head ∷ s2) byte = in_later byte head s2 (in_later byte tail s1 (first_in byte [])) in
+        let pair : InScope (head ∷ s2) tail = in_later tail head s2 (first_in tail s1) in (
           tt,
           (
-            (number_known p, (in_here byte [], tt)),
+            (number_known p, (first_in byte [], tt)),
             (
-              in_here value s1,
+              first_in value [],
               (
                 tt,
                 (constructor_known p (nil p) 0 ok.nil_fields, tt),
-                (tt, (((number_known p, (number_cell, tt)), ((waits_known p Reads (has_reads p reads), tt), tt)), (constructor_known p (cons p) 2 ok.cons_fields, (in_here head s3, (pair, tt)))), tt),
+                (tt, (((number_known p, (number_cell, tt)), ((waits_known p Reads (has_reads p reads), tt), tt)), (constructor_known p (cons p) 2 ok.cons_fields, (first_in head s2, (pair, tt)))), tt),
               ),
             ),
           ),
@@ -91,23 +91,21 @@ module _ (p : Program) where
         let node : ℕ = (temp p base 3).0 in
         let number : ℕ = (temp p base 4).0 in
         let s0 : List ℕ = list ∷ [] in
-        let s1 : List ℕ = value ∷ s0 in
-        let s2 : List ℕ = tail ∷ s1 in
-        let s3 : List ℕ = head ∷ s2 in
-        let s4 : List ℕ = node ∷ s3 in
-        let s5 : List ℕ = number ∷ s4 in (
-          in_here list [],
+        let s1 : List ℕ = tail ∷ s0 in
+        let s2 : List ℕ = head ∷ s1 in
+        let scope : Scope = record { nodes = node ∷ (value ∷ []); words = s2 } in (
+          first_in list [],
           (
-            in_here value s0,
+            first_in value [],
             (
               constructor_known p (nil p) 0 ok.nil_fields,
               (constructor_known p (nil p) 0 ok.nil_fields, tt),
               (
                 constructor_known p (cons p) 2 ok.cons_fields,
                 (
-                  in_here head s2,
-                  on_number_formed p base (temp p base 3) (temp p base 4) (write_block p base) s4 (in_here node s3)
-                      (in_here number s4, (print_known p, (in_later tail number s4 (in_later tail node s3 (in_later tail head s2 (in_here tail s1))), tt))),
+                  first_in head s1,
+                  on_number_formed p base (temp p base 3) (temp p base 4) (write_block p base) scope (first_in node (value ∷ []))
+                      (first_in number s2, (print_known p, (in_later tail number s2 (in_later tail head s1 (first_in tail s0)), tt))),
                 ),
                 (tt, tt, tt),
               ),
@@ -121,8 +119,8 @@ module _ (p : Program) where
         let input : ℕ = (local p base 0).0 in
         let main : ℕ = (local p base 1).0 in
         let s1 : List ℕ = main ∷ [] in (
-          ((waits_known p Reads (has_reads p reads), tt), ((waits_known p (Calls p.main) (has_calls p p.main ok.main.0 ok.main.1), (in_here input s1, tt)), tt)),
-          (print_known p, (in_later main input s1 (in_here main []), tt)),
+          ((waits_known p Reads (has_reads p reads), tt), ((waits_known p (Calls p.main) (has_calls p p.main ok.main.0 ok.main.1), (first_in input s1, tt)), tt)),
+          (print_known p, (in_later main input s1 (first_in main []), tt)),
         )
 
     delayed_formed : (ds : List Delay) (base : ℕ) → AllOf (IsThere p) ds → AllOf (ProcedureFormed (tr p)) (delayed_procs p base ds)

@@ -18,7 +18,8 @@ use Rattle.grin_translate.specs.Translation.{procedure, delay_body, span, delaye
 use Rattle.grin_translate.proofs.Places.{all_append, all_map}
 use Rattle.grin_translate.proofs.Lookups.{length-numbers_from}
 use Rattle.translated_form.specs.Laws.{HasFewWords}
-use Rattle.translated_form.proofs.Lists.{all_at, all_if, all_mapped, all_weaker}
+use Rattle.grin_syntax.proofs.Scopes.{all_get}
+use Rattle.translated_form.proofs.Lists.{all_if, all_mapped, all_weaker}
 use Rattle.translated_form.proofs.Delays.{IsThere, all_there}
 use Rattle.translated_form.proofs.Limits.{Limited, valid_is_limited}
 
@@ -41,7 +42,7 @@ module _ (p : Program) (limited : Limited p) where
   few_params_of (Some f) h = h f refl
 
   pub few_params : (f : ℕ) → params p f ≤ 12
-  few_params f = few_params_of (slice_get p.funs f) (λ g e. all_at (λ g. g.params ≤ 12) p.funs f g limited.few_params e)
+  few_params f = few_params_of (slice_get p.funs f) (λ g e. all_get (λ g. g.params ≤ 12) p.funs f g limited.few_params e)
 
   pub few_delay_params : (d : Delay) → IsThere p d → delay_params p d ≤ 13
   few_delay_params (Calls f) h = let l = few_params f in omega (arith, l)
@@ -59,7 +60,7 @@ module _ (p : Program) (limited : Limited p) where
   NarrowTag k = IsNarrow (tag_of p k)
 
   constructor_narrow : (c : ℕ) → NarrowTag (Constructor c)
-  constructor_narrow c = con_narrow (slice_get p.cons c) (λ con e. all_at (λ c. c.fields ≤ 12) p.cons c con limited.few_fields e)
+  constructor_narrow c = con_narrow (slice_get p.cons c) (λ con e. all_get (λ c. c.fields ≤ 12) p.cons c con limited.few_fields e)
 
   waits_narrow : (d : Delay) → IsThere p d → NarrowTag (Waits d)
   waits_narrow d there = record { few = few_delay_params d there; few_of_value = omega arith }

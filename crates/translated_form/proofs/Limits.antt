@@ -36,4 +36,4 @@ valid_is_limited q v = record {
 }
 
 pub valid_is_well_formed : (q : Program) → IsValid q → WellFormed q
-valid_is_well_formed q v = core.valid_is_well_formed v.program q v.normal v.unbroken (different_places v.program.names v.different)
+valid_is_well_formed q v = core.valid_is_well_formed v.program q v.normal v.unbroken (different_places v.program.names v.readable.different)

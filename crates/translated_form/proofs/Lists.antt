@@ -1,15 +1,10 @@
 -- What holds of each item of a list.
-use Rattle.std.proofs.Common.{◌≡◌, ℕ, zero, suc, ◌+◌, ◌≤◌, ◌<◌, Bool, true, false, cond, List, [], ◌∷◌, map, filter, length, Some, slice_get, refl, sym, subst, arith}
+use Rattle.std.proofs.Common.{◌≡◌, ℕ, zero, suc, ◌+◌, ◌≤◌, ◌<◌, Bool, true, false, cond, List, [], ◌∷◌, map, filter, length, Some, slice_get, refl, sym, arith}
 use Rattle.std.proofs.lemmas.Option.{same_Some, none-some}
 use Rattle.grin_syntax.specs.Formed.{AllOf}
 use mathlib.Core.Logic.{inl, inr}
 use Rattle.grin_translate.specs.Tags.{numbers_from}
 use Rattle.grin_translate.proofs.Places.{Has}
-
-pub all_at : {A : Type 0} (P : A → Type 0) (xs : List A) (i : ℕ) (x : A) → AllOf P xs → slice_get xs i ≡ Some x → P x
-all_at P [] i x a e = absurd (none-some x e)
-all_at P (y ∷ xs) zero x a e = subst P (same_Some y x e) a.0
-all_at P (y ∷ xs) (suc i) x a e = all_at P xs i x a.1 e
 
 pub all_weaker : {A : Type 0} (P Q : A → Type 0) (xs : List A) → ((x : A) → P x → Q x) → AllOf P xs → AllOf Q xs
 all_weaker P Q [] h a = tt

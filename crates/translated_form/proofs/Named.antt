@@ -8,7 +8,7 @@ use Rattle.arity_check.specs.declared.normal.Flat.{Flat}
 use Rattle.arity_check.specs.declared.normal.Flat.TheVariants as flat
 use Rattle.arity_check.specs.Program.{Program}
 use Rattle.core_meaning.specs.Evaluation.{params, params_of, global}
-use Rattle.grin_syntax.specs.Formed.{AllOf, TagKnown, ProcKnown, GlobalKnown, WordFormed, ValFormed}
+use Rattle.grin_syntax.specs.Formed.{AllOf, Scope, TagKnown, ProcKnown, GlobalKnown, WordFormed, ValFormed}
 use Rattle.grin_translate.specs.declared.tags.Delay.{Delay}
 use Rattle.grin_translate.specs.declared.tags.Delay.TheVariants.{Calls, Applies, Operates}
 use Rattle.grin_translate.specs.declared.tags.Kind.{Kind}
@@ -64,7 +64,7 @@ module _ (p : Program) where
 
   -- ---- words and nodes
 
-  module _ (base : ℕ) (S : ℕ → Type 0) (scope : List ℕ) (scoped : Scoped p base S scope) where
+  module _ (base : ℕ) (S : ℕ → Type 0) (scope : Scope) (scoped : Scoped p base S scope.words) where
     pub word_formed : (x : Var) → VarOk p S x → WordFormed (tr p) scope (word p base x)
     word_formed (Local x) h = scoped.each x h
     word_formed (Global f) h = global_known f h

@@ -1,21 +1,18 @@
 -- What is in scope where more is bound.
-use Rattle.std.proofs.Common.{◌≡◌, ℕ, ◌<◌, List, [], ◌∷◌, ◌++◌, map, refl, sym, ap, subst, arith}
-use Rattle.std.proofs.lemmas.Bool.{eq-eqb}
+use Rattle.std.proofs.Common.{◌≡◌, ℕ, ◌<◌, List, [], ◌∷◌, ◌++◌, map, sym, ap, subst, arith}
 use mathlib.Core.Logic.{◌⊎◌, inl, inr}
 use Rattle.arity_check.specs.declared.normal.Bound.{Bound}
 use Rattle.arity_check.specs.Program.{Program}
 use Rattle.grin_syntax.specs.Binders.{numbers_of, cell_vars}
 use Rattle.grin_syntax.specs.Formed.{InScope}
+use Rattle.grin_syntax.proofs.Scopes.{first_in}
 use Rattle.grin_translate.specs.Tags.{numbers_from}
 use Rattle.grin_translate.specs.Blocks.{local, cell_of}
 use Rattle.grin_translate.specs.WellFormed.{In, InGroup}
 use Rattle.grin_translate.proofs.Places.{Has, has_number_from}
 
-pub in_here : (x : ℕ) (scope : List ℕ) → InScope (x ∷ scope) x
-in_here x scope = rw (eq-eqb x x refl) (omega arith)
-
 pub in_this : (x y : ℕ) (scope : List ℕ) → x ≡ y → InScope (y ∷ scope) x
-in_this x y scope e = subst (InScope (y ∷ scope)) (sym e) (in_here y scope)
+in_this x y scope e = subst (InScope (y ∷ scope)) (sym e) (first_in y scope)
 
 pub in_later : (x y : ℕ) (scope : List ℕ) → InScope scope x → InScope (y ∷ scope) x
 in_later x y scope h = omega (arith, h)
@@ -25,12 +22,9 @@ in_right x [] scope h = h
 in_right x (y ∷ ys) scope h = in_later x y (ys ++ scope) (in_right x ys scope h)
 
 module _ (p : Program) (base : ℕ) where
-  -- the variables of these locals are in scope
+  -- the variables of these locals are among those in scope
   pub record Scoped (S : ℕ → Type 0) (scope : List ℕ) : Type 0 where
     pub each : (x : ℕ) → S x → InScope scope (local p base x).0
-
-  pub scoped_later : {S : ℕ → Type 0} {scope : List ℕ} (y : ℕ) → Scoped S scope → Scoped S (y ∷ scope)
-  scoped_later {scope = scope} y b = record { each = λ x s. in_later (local p base x).0 y scope (b.each x s) }
 
   pub scoped_local : {S : ℕ → Type 0} {scope : List ℕ} (y : ℕ) → Scoped S scope → Scoped (λ x. S x ⊎ (x ≡ y)) ((local p base y).0 ∷ scope)
   scoped_local {S} {scope} y b = record { each = λ x h. by_case x h }

@@ -1,31 +1,22 @@
 -- The global cells, the start and its argument in a translated program.
-use Rattle.std.proofs.Common.{◌≡◌, ℕ, zero, suc, ◌+◌, Bool, true, false, cond, not, nat_eq, List, [], ◌∷◌, ◌++◌, length, codes, Option, Some, None, IfSome, slice_get, refl, sym, ap, ◌∙◌, subst, arith, eqb-true}
+use Rattle.std.proofs.Common.{◌≡◌, ℕ, zero, suc, ◌+◌, Bool, true, false, cond, not, nat_eq, List, [], ◌∷◌, ◌++◌, length, codes, Some, None, slice_get, refl, sym, ap, ◌∙◌, subst, arith, eqb-true}
 use Rattle.arity_check.specs.Program.{Program, Function}
 use Rattle.core_meaning.specs.Evaluation.{params, params_of, global}
 use Rattle.grin_syntax.specs.declared.program.Tag.{Tag}
 use Rattle.grin_syntax.specs.declared.program.TagKind.TheVariants as kind
 use Rattle.grin_syntax.specs.declared.program.GlobalCell.{GlobalCell}
 use Rattle.grin_syntax.specs.Tree.{Procedure}
-use Rattle.grin_syntax.specs.Formed.{AllOf, TagKnown, ArgumentKnown, argument_words}
-use Rattle.grin_meaning.specs.Values.{and_then, fields_of}
-use Rattle.flow_system.specs.Covers.{Started}
+use Rattle.grin_syntax.specs.Formed.{AllOf, GlobalFormed, ArgumentKnown, argument_words}
 use Rattle.grin_translate.specs.declared.tags.Delay.TheVariants.{Calls}
 use Rattle.grin_translate.specs.declared.tags.Kind.{Kind}
 use Rattle.grin_translate.specs.declared.tags.Kind.TheVariants.{Number, Waits}
 use Rattle.grin_translate.specs.Tags.{takes_input, delays, kinds, tag, tag_of}
 use Rattle.grin_translate.specs.Translation.{global_cells, procedure, print, print_body, start_body, delayed_procs, rest, tr}
 use Rattle.grin_translate.specs.WellFormed.{HasParams, WellFormed}
-use Rattle.grin_translate.proofs.Places.{Has, all_append}
+use Rattle.grin_translate.proofs.Places.{all_append}
 use Rattle.grin_translate.proofs.Found.{has_calls, has_waits, tag_found}
-use Rattle.translated_form.proofs.Lists.{all_at, all_if, item_at}
-use Rattle.translated_form.proofs.Named.{waits_known, long_delayed, global_known}
-
-if_some : {A : Type 0} (P : A → Type 0) (xs : List A) (i : ℕ) → AllOf P xs → IfSome (slice_get xs i) P
-if_some P xs i a = by_item (slice_get xs i) refl
-  where
-    by_item : (o : Option _) → slice_get xs i ≡ o → IfSome o P
-    by_item None e = tt
-    by_item (Some x) e = all_at P xs i x a e
+use Rattle.translated_form.proofs.Lists.{all_if}
+use Rattle.translated_form.proofs.Named.{long_delayed, global_known}
 
 after_all : {A : Type 0} (xs ys : List A) (i j : ℕ) → j ≡ length xs + i → slice_get (xs ++ ys) j ≡ slice_get ys i
 after_all [] ys i j e = let same : j ≡ i = omega (arith, e) in ap (slice_get ys) same
@@ -51,16 +42,13 @@ module _ (p : Program) where
   each_global : (P : GlobalCell → Type 0) → ((f : ℕ) (g : Function) → slice_get p.funs f ≡ Some g → g.params ≡ 0 → P (cell_of_function f g)) → AllOf P (tr p).globals
   each_global P h = all_globals P h p.funs 0 (λ i g e. let here : 0 + i ≡ i = omega arith in rw here e)
 
-  pub globals_formed : AllOf (λ c. TagKnown (tr p) c.tag) (tr p).globals
-  globals_formed = each_global (λ c. TagKnown (tr p) c.tag) (λ f g e z. waits_known p (Calls f) (has_calls p f g e))
+  global_formed : (f : ℕ) (g : Function) → slice_get p.funs f ≡ Some g → g.params ≡ 0 → GlobalFormed (tr p) (cell_of_function f g)
+  global_formed f g e none =
+      let k : Kind = Waits (Calls f) in
+      (tag_of p k, tag_found p k (has_waits p (Calls f) (has_calls p f g e)), ap (params_of p) e ∙ none)
 
-  fields_are : (k : Kind) → Has k (kinds p) → fields_of (tr p) (tag p k).0 ≡ Some (tag_of p k).fields
-  fields_are k h = ap (λ o. and_then o (λ t. Some t.fields)) (tag_found p k h)
-
-  no_fields : (i : ℕ) → IfSome (slice_get (tr p).globals i) (λ c. fields_of (tr p) c.tag.0 ≡ Some 0)
-  no_fields i =
-      if_some (λ c. fields_of (tr p) c.tag.0 ≡ Some 0) (tr p).globals i
-      (each_global (λ c. fields_of (tr p) c.tag.0 ≡ Some 0) (λ f g e z. fields_are (Waits (Calls f)) (has_waits p (Calls f) (has_calls p f g e)) ∙ ap Some (ap (params_of p) e ∙ z)))
+  pub globals_formed : AllOf (GlobalFormed (tr p)) (tr p).globals
+  globals_formed = each_global (GlobalFormed (tr p)) global_formed
 
   pub number_formed : (t : Tag) × (slice_get (tr p).tags 0 ≡ Some t) × (t.kind ≡ kind.Con) × (t.name ≡ codes "Int") × (t.fields ≡ 1)
   unfolding kinds
@@ -100,13 +88,3 @@ module _ (p : Program) where
         by_test : (b : Bool) → takes_input p ≡ b → ArgumentKnown (tr p) (cond b None (Some (global p p.main)))
         by_test true e = tt
         by_test false e = global_known p p.main (main_known e)
-
-    argument_there : IfSome (tr p).argument (λ i. (c : GlobalCell) × (slice_get (tr p).globals i ≡ Some c))
-    argument_there = by_test (takes_input p) refl
-      where
-        by_test : (b : Bool) → takes_input p ≡ b → IfSome (cond b None (Some (global p p.main))) (λ i. (c : GlobalCell) × (slice_get (tr p).globals i ≡ Some c))
-        by_test true e = tt
-        by_test false e = item_at (tr p).globals (global p p.main) (global_known p p.main (main_known e))
-
-    pub started : Started (tr p)
-    started = record { no_fields = no_fields; argument_there = argument_there }

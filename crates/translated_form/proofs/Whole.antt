@@ -4,12 +4,13 @@ use Rattle.arity_check.specs.Program.{Program}
 use Rattle.arity_check.specs.Numbered.{NewBindingsAreNumbered}
 use Rattle.grin_syntax.specs.Formed.{Formed}
 use Rattle.flow_system.specs.Covers.{Started}
+use Rattle.flow_system.proofs.Starting.{formed_is_started}
 use Rattle.grin_translate.specs.Translation.{tr}
 use Rattle.grin_translate.specs.WellFormed.{WellFormed}
 use Rattle.translated_form.proofs.Limits.{valid_is_well_formed}
 use Rattle.translated_form.proofs.Bodies.{procedures_formed}
 use Rattle.translated_form.proofs.Parts.{tags_formed}
-use Rattle.translated_form.proofs.Tables.{globals_formed, number_formed, start_formed, argument_formed, started}
+use Rattle.translated_form.proofs.Tables.{globals_formed, number_formed, start_formed, argument_formed}
 use Rattle.translated_form.proofs.UniquePrograms.{variables_once, sites_once}
 
 pub valid_is_formed : NewBindingsAreNumbered → (p : Program) → IsValid p → Formed (tr p)
@@ -26,5 +27,5 @@ valid_is_formed numbered p valid =
       argument = argument_formed p ok;
     }
 
-pub valid_is_started : (p : Program) → IsValid p → Started (tr p)
-valid_is_started p valid = started p (valid_is_well_formed p valid)
+pub valid_is_started : NewBindingsAreNumbered → (p : Program) → IsValid p → Started (tr p)
+valid_is_started numbered p valid = formed_is_started (tr p) (valid_is_formed numbered p valid)

@@ -1,14 +1,15 @@
 -- What is unnested binds the same variables and has the same sites, and stays well formed.
-use Rattle.std.proofs.Common.{◌≡◌, ℕ, List, [], ◌∷◌, ◌++◌, map, length, Option, Some, slice_get, refl, sym, ap, ◌∙◌, subst}
+use Rattle.std.proofs.Common.{◌≡◌, ◌≤◌, List, [], ◌∷◌, ◌++◌, map, length, slice_get, refl, sym, ap, ◌∙◌, subst}
 use Rattle.std.proofs.lemmas.List.{length-map}
 use Rattle.std.proofs.lemmas.Option.{slice_get-map}
 use Rattle.std.specs.Option.{option_map}
 use Rattle.grin_syntax.specs.declared.program.Proc.{Proc}
 use Rattle.grin_syntax.specs.declared.program.Grin.{Grin}
 use Rattle.grin_syntax.specs.Tree.{procedure_of, program_of, Code, end, store, bind, Act, unit, fetch, fetch_word, update, eval, apply, call, prim, read, write, case, nested, fail, Arms, no_arm, arm, Procedure, Program}
-use Rattle.grin_syntax.specs.Binders.{numbers_of, target_vars, shape_vars, cell_vars, act_vars, code_vars, arms_vars, procs_vars, act_sites, code_sites, arms_sites, procs_sites}
-use Rattle.grin_syntax.specs.Formed.{AllOf, Formed, ActFormed, CodeFormed, ArmsFormed, ProcedureFormed}
-use Rattle.grin_syntax.proofs.FormedAgain.{with_procs, known_again, formed_again}
+use Rattle.grin_syntax.specs.Binders.{times, numbers_of, target_vars, shape_vars, cell_vars, act_vars, code_vars, arms_vars, procs_vars, act_sites, code_sites, arms_sites, procs_sites}
+use Rattle.grin_syntax.specs.Formed.{AllOf, Scope, with_words, with_target, params_scope, Formed, ActFormed, CodeFormed, ArmsFormed, ProcedureFormed}
+use Rattle.grin_syntax.specs.SameOutside.{names_of, SameOutside}
+use Rattle.grin_syntax.proofs.Scopes.{with_procs, known_again, same_sites, formed_with}
 use Rattle.grin_meaning.specs.Rewritten.{rewritten, rewritten_procedure}
 use Rattle.unnest.specs.Unnested.{as_act, unnested_act, unnested_code, unnested_arms}
 
@@ -90,7 +91,7 @@ module _ (p : Program) (procs : List Procedure) (same_count : length procs ≡ l
   abbrev after : Program
   after = with_procs p procs same_count
 
-  as_act_formed : (scope : List ℕ) (b : Code) → CodeFormed after scope b → ActFormed after scope (as_act b)
+  as_act_formed : (scope : Scope) (b : Code) → CodeFormed after scope b → ActFormed after scope (as_act b)
   unfolding ActFormed
   as_act_formed scope (end o) h = h
   as_act_formed scope (store cs b) h = h
@@ -99,7 +100,7 @@ module _ (p : Program) (procs : List Procedure) (same_count : length procs ≡ l
   mutual
     unfolding unnested_act ActFormed
 
-    act_formed : (scope : List ℕ) (o : Act) → ActFormed p scope o → ActFormed after scope (unnested_act o)
+    act_formed : (scope : Scope) (o : Act) → ActFormed p scope o → ActFormed after scope (unnested_act o)
     act_formed scope (case v as') h = (h.0, arms_formed scope as' h.1)
     act_formed scope (nested b) h = as_act_formed scope (unnested_code b) (code_formed scope b h)
     act_formed scope (unit v) h = h
@@ -114,27 +115,35 @@ module _ (p : Program) (procs : List Procedure) (same_count : length procs ≡ l
     act_formed scope (write a) h = h
     act_formed scope fail h = h
 
-    code_formed : (scope : List ℕ) (b : Code) → CodeFormed p scope b → CodeFormed after scope (unnested_code b)
+    code_formed : (scope : Scope) (b : Code) → CodeFormed p scope b → CodeFormed after scope (unnested_code b)
     code_formed scope (end o) h = act_formed scope o h
-    code_formed scope (store cs b) h = (h.0, code_formed (cell_vars cs ++ scope) b h.1)
-    code_formed scope (bind t o b) h = (act_formed scope o h.0, code_formed (target_vars t ++ scope) b h.1)
+    code_formed scope (store cs b) h = (h.0, code_formed (with_words (cell_vars cs) scope) b h.1)
+    code_formed scope (bind t o b) h = (act_formed scope o h.0, code_formed (with_target t scope) b h.1)
 
-    arms_formed : (scope : List ℕ) (as' : Arms) → ArmsFormed p scope as' → ArmsFormed after scope (unnested_arms as')
+    arms_formed : (scope : Scope) (as' : Arms) → ArmsFormed p scope as' → ArmsFormed after scope (unnested_arms as')
     arms_formed scope no_arm h = tt
-    arms_formed scope (arm s b as') h = (h.0, code_formed (shape_vars s ++ scope) b h.1, arms_formed scope as' h.2)
+    arms_formed scope (arm s b as') h = (h.0, code_formed (with_words (shape_vars s) scope) b h.1, arms_formed scope as' h.2)
 
   bodies_formed : (qs : List Procedure) → AllOf (ProcedureFormed p) qs → AllOf (ProcedureFormed after) (map (rewritten_procedure unnested_code) qs)
   bodies_formed [] h = tt
-  bodies_formed (q ∷ qs) h = (code_formed (numbers_of q.params) q.body h.0, bodies_formed qs h.1)
+  bodies_formed (q ∷ qs) h = (code_formed (params_scope q) q.body h.0, bodies_formed qs h.1)
 
 unnesting_formed : (g : Program) → Formed g → Formed (rewritten unnested_code g)
 unnesting_formed g f =
-    let count : length (map (rewritten_procedure unnested_code) g.procs) ≡ length g.procs = length-map g.procs (rewritten_procedure unnested_code) in
-    formed_again g (map (rewritten_procedure unnested_code) g.procs) count f (vars_stay g.procs) (sites_stay g.procs)
-    (bodies_formed g (map (rewritten_procedure unnested_code) g.procs) count g.procs f.procedures) (
+    let procs : List Procedure = map (rewritten_procedure unnested_code) g.procs in
+    let count : length procs ≡ length g.procs = length-map g.procs (rewritten_procedure unnested_code) in
+    formed_with g procs count f (λ x. subst (λ xs. times x xs ≤ 1) (sym (vars_stay g.procs)) (f.variables_once x)) (same_sites g procs count (sites_stay g.procs) f.sites_once)
+    (bodies_formed g procs count g.procs f.procedures) (
       rewritten_procedure unnested_code f.start.0,
       (slice_get-map (rewritten_procedure unnested_code) g.procs g.start.0 ∙ ap (option_map (rewritten_procedure unnested_code)) f.start.1, f.start.2),
     )
 
 pub pass_formed : (g : Grin) (ps : List Proc) → map procedure_of ps ≡ map (rewritten_procedure unnested_code) (map procedure_of g.procs) → Formed (program_of g) → Formed (program_of (record g { procs = ps }))
 pass_formed g ps e f = subst (λ qs. Formed (record (program_of g) { procs = qs })) (sym e) (unnesting_formed (program_of g) f)
+
+names_stay : (qs : List Procedure) → names_of (map (rewritten_procedure unnested_code) qs) ≡ names_of qs
+names_stay [] = refl
+names_stay (q ∷ qs) = ap (λ ns. q.name ∷ ns) (names_stay qs)
+
+pub pass_outside : (g : Grin) (ps : List Proc) → map procedure_of ps ≡ map (rewritten_procedure unnested_code) (map procedure_of g.procs) → SameOutside (program_of g) (program_of (record g { procs = ps }))
+pass_outside g ps e = record { same_tags = refl; same_globals = refl; same_start = refl; same_argument = refl; same_names = ap names_of e ∙ names_stay (map procedure_of g.procs) }

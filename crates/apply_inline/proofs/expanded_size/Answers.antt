@@ -1,7 +1,7 @@
 use Rattle.std.proofs.Common.{◌≡◌, map, ap, arith}
 use Rattle.grin_syntax.specs.Tree.{procedure_of, program_of}
-use Rattle.flow_system.specs.Size.{total}
-use Rattle.flow_system.specs.Inlining.{inlined_size}
+use Rattle.apply_inline.specs.Size.{total}
+use Rattle.apply_inline.specs.Inlining.{inlined_size}
 use Rattle.points_to.specs.Found.{found}
 use Rattle.apply_inline.specs.Expanded.{expanded_procedure}
 use Rattle.apply_inline.proofs.Measured.{measured}

@@ -2,7 +2,8 @@ use Rattle.std.proofs.Common.{◌≡◌, map, ap, refl, sym, ◌∙◌, rules}
 use Rattle.std.proofs.lemmas.Iterator.Adapters.{YieldsList-from_vec}
 use Rattle.std.proofs.lemmas.Iterator.Consumers.{YieldsList-end}
 use Rattle.grin_syntax.specs.Tree.{program_of, procedure_of}
-use Rattle.flow_system.specs.Inlining.{past_procs, eval_inlined}
+use Rattle.grin_syntax.specs.Fresh.{past_procs}
+use Rattle.eval_inline.specs.Inlining.{eval_inlined}
 use Rattle.points_to.specs.Found.{found}
 use Rattle.eval_inline.proofs.Pieces.{map_same}
 use Rattle.eval_inline.proofs.Statements.{one_more_proc}

@@ -1,4 +1,4 @@
-use Rattle.low_code.proofs.Steady.{more_units_extend}
+use Rattle.low_code.proofs.MoreUnits.{more_units_extend}
 use Rattle.low_code.proofs.more_units_extend.Goals as goal
 
 pub returns : goal.returns

@@ -1,5 +1,5 @@
 use Rattle.std.proofs.Common.{◌≡◌, take}
-use Rattle.flow_system.specs.Size.{cells_size}
+use Rattle.apply_inline.specs.Size.{cells_size}
 use Rattle.apply_inline.specs.Expanded.{capped}
 use Rattle.apply_inline.proofs.expanded.cells_size.Given as goal
 

@@ -1,10 +1,12 @@
-use Rattle.std.proofs.Common.{◌≡◌, ◌≤◌, length, map, sym, subst, Err, Ok, arith}
+use Rattle.std.proofs.Common.{◌≡◌, ◌≤◌, [], length, map, sym, subst, Err, Ok, arith}
 use Rattle.std.proofs.lemmas.Result.{err_from_is_err_and}
 use Rattle.core_reader.specs.Tree.{Program, data_of, function}
 use Rattle.core_reader.specs.Text.{IsText}
+use Rattle.core_reader.specs.Different.{AreDifferent}
 use Rattle.core_reader.specs.Readable.{IsReadable}
 use Rattle.core_reader.specs.Lexed.{texts_of}
 use Rattle.core_reader.specs.Parsed.{ReadsProgram}
+use Rattle.core_reader.proofs.Readability.{different_from}
 use Rattle.core_reader.proofs.Answers.{found, refused, too_long, program_of}
 use Rattle.core_reader.proofs.reader.read.Goals as goal
 
@@ -19,6 +21,11 @@ returns-in_err-declarations-clause-refused c =
     let lexemes = c.in_ok-lexed.lexed.lexemes.items in
     let parsed : ReadsProgram lexemes (Err e) = subst (λ w. ReadsProgram w (Err e)) c.as_slice.ensures.value c.in_err-declarations.ensures in
     rw (q.1, q.2) (refused c.args.text.now lexemes (texts_of c.in_ok-lexed.lexed.names.keys) e short c.in_ok-lexed.ensures parsed)
+
+pub copied-requires : goal.copied-requires
+copied-requires c =
+    let l = c.in_ok-lexed.ensures in
+    subst AreDifferent (sym l.named) (different_from [] l.pieces tt)
 
 pub returns-clause-found : goal.returns-clause-found
 returns-clause-found c =

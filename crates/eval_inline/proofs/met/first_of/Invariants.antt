@@ -3,7 +3,7 @@ use Rattle.flow_system.specs.declared.fact.Element.TheVariants.{Tag as tag}
 use Rattle.flow_system.specs.declared.fact.Place.TheVariants.{Site as site}
 use Rattle.flow_system.specs.declared.fact.Part.TheVariants.{Tags as tags}
 use Rattle.flow_system.specs.Solution.{among}
-use Rattle.flow_system.specs.Inlining.{some_of}
+use Rattle.eval_inline.specs.Inlining.{some_of}
 use Rattle.points_to.specs.Found.{found}
 use Rattle.eval_inline.specs.Met.{IsFirst}
 use Rattle.eval_inline.proofs.met.first_of.Given as goal

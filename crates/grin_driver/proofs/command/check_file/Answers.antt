@@ -1,5 +1,6 @@
 use Rattle.std.proofs.Common.{ℕ, List, arith}
 use mathlib.Core.Logic.{inr}
+use Rattle.grin_io.specs.Changes.{of_shelf, of_sink}
 use Rattle.grin_driver.specs.Checking.{Checks}
 use Rattle.grin_driver.proofs.Files.{of_file}
 use Rattle.grin_driver.proofs.Checks.{checks_long}
@@ -7,7 +8,7 @@ use Rattle.grin_driver.proofs.command.check_file.Goals as goal
 
 pub returns-in-Ok-clause-answer : goal.returns-in-Ok-clause-answer
 returns-in-Ok-clause-answer g c =
-    let says = λ (text : List ℕ). Checks g.K.Sink.put_gives g.K.Sink.taken g.K.Sink.faults c.args.out.now c.check_text.new.out text c.check_text.result in
-    inr (of_file 1048577 _ c.args.file.now c.in-Ok.text.items says
-    (λ text full long h. checks_long g.K.Sink.put_gives g.K.Sink.taken g.K.Sink.faults c.args.out.now c.check_text.new.out c.in-Ok.text.items text (omega (arith, full)) (omega (arith, long)) c.check_text.result h)
+    let says = λ (text : List ℕ). Checks (of_sink g.K.Sink.put_gives g.K.Sink.taken g.K.Sink.faults c.args.out.now c.check_text.new.out) text c.check_text.result in
+    inr (of_file (of_shelf g.F.Shelf.content g.F.Shelf.faults c.args.shelf.now c.read_file.new.shelf) 1048577 c.args.file.now c.in-Ok.text.items says
+    (λ text full long h. checks_long (of_sink g.K.Sink.put_gives g.K.Sink.taken g.K.Sink.faults c.args.out.now c.check_text.new.out) c.in-Ok.text.items text (omega (arith, full)) (omega (arith, long)) c.check_text.result h)
     c.in-Ok.ensures.read (rw c.as_slice.ensures.value at c.check_text.ensures.checks))

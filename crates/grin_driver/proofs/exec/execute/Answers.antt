@@ -1,13 +1,14 @@
+use Rattle.grin_io.specs.Changes.{of_source, of_sink}
 use Rattle.grin_io.specs.declared.outside.Fault.TheVariants.{Read, Write}
 use Rattle.grin_driver.proofs.Execution.{failed}
 use Rattle.grin_driver.proofs.exec.execute.Goals as goal
 
 pub returns-in-Err-Read-clause-executes : goal.returns-in-Err-Read-clause-executes
 returns-in-Err-Read-clause-executes g c =
-    failed g.I.Source.left g.I.Source.faults c.args.input.now c.run.new.input g.K.Sink.put_gives g.K.Sink.taken g.K.Sink.faults c.args.out.now c.run.new.out c.args.program.now c.in-Ok.machine c.args.steps Read
-    c.in-Ok.ensures (rw c.in-Err-Read.field-0-is at c.in-Err-Read.ensures.cause.raised) c.in-Err-Read.ensures.part (rw c.in-Err-Read.field-0-is at c.in-Err-Read.ensures.fault)
+    failed (of_source g.I.Source.left g.I.Source.faults c.args.input.now c.run.new.input) (of_sink g.K.Sink.put_gives g.K.Sink.taken g.K.Sink.faults c.args.out.now c.run.new.out) c.args.program.now c.in-Ok.machine c.args.steps Read
+    c.in-Ok.ensures (rw c.in-Err-Read.field-0-is at c.in-Err-Read.ensures.cause.raised) (rw c.in-Err-Read.field-0-is at c.in-Err-Read.ensures.fault)
 
 pub returns-clause-executes : goal.returns-clause-executes
 returns-clause-executes g c =
-    failed g.I.Source.left g.I.Source.faults c.args.input.now c.run.new.input g.K.Sink.put_gives g.K.Sink.taken g.K.Sink.faults c.args.out.now c.run.new.out c.args.program.now c.in-Ok.machine c.args.steps Write
-    c.in-Ok.ensures (rw c.in-Err-Write.field-0-is at c.in-Err-Write.ensures.cause.raised) c.in-Err-Write.ensures.part (rw c.in-Err-Write.field-0-is at c.in-Err-Write.ensures.fault)
+    failed (of_source g.I.Source.left g.I.Source.faults c.args.input.now c.run.new.input) (of_sink g.K.Sink.put_gives g.K.Sink.taken g.K.Sink.faults c.args.out.now c.run.new.out) c.args.program.now c.in-Ok.machine c.args.steps Write
+    c.in-Ok.ensures (rw c.in-Err-Write.field-0-is at c.in-Err-Write.ensures.cause.raised) (rw c.in-Err-Write.field-0-is at c.in-Err-Write.ensures.fault)

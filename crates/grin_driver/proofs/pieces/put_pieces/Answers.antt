@@ -21,7 +21,7 @@ pub returns-in_err-put-clause-broke : goal.returns-in_err-put-clause-broke
 returns-in_err-put-clause-broke g c =
     let steps = c.in-Some.ensures.steps in
     let put = c.in_err-put.ensures in
-    on_err c.from_residual.result (piece_failed _ _ _ _ _ _ _ _ _ _ c.pieces.invariant.3 steps.1.0 put.exactly put.content put.cause.failed)
+    on_err c.from_residual.result (piece_failed _ _ _ _ _ _ _ _ _ _ c.pieces.invariant.3 steps.1.0 (rw c.pieces.invariant.2 at steps.1.1) steps.1.2 put.exactly put.content put.cause.failed)
 
 pub returns-clause-took : goal.returns-clause-took
 returns-clause-took g c = all_put _ _ _ _ _ _ _ c.pieces.invariant.3 (nil_from_length _ c.in-None.ensures.steps.1.0)

@@ -3,7 +3,7 @@ use Rattle.std.proofs.lemmas.Iterator.Adapters.{YieldsList-from_vec}
 use Rattle.std.proofs.lemmas.Iterator.Consumers.{YieldsList-end}
 use Rattle.grin_syntax.specs.declared.program.Op.TheVariants.{Case}
 use Rattle.grin_syntax.specs.Tree.{act_of, before_of, program_of}
-use Rattle.flow_system.specs.Inlining.{apply_act, apply_act_room, apply_code, apply_code_room}
+use Rattle.apply_inline.specs.Inlining.{apply_act, apply_act_room, apply_code, apply_code_room}
 use Rattle.points_to.specs.Found.{found}
 use Rattle.eval_inline.proofs.Pieces.{map_same}
 use Rattle.apply_inline.proofs.Loops.{AllApply, case_done, case_room, one_more, one_more_alt, store_applies, store_room, bind_applies, bind_room}

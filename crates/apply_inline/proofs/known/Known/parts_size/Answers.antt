@@ -1,7 +1,7 @@
 use Rattle.std.proofs.Common.{◌≡◌, map, take, sym, ap, ◌∙◌, arith}
 use Rattle.std.specs.List.{filter}
 use Rattle.grin_syntax.specs.Tree.{program_of}
-use Rattle.flow_system.specs.Inlining.{parts_of}
+use Rattle.apply_inline.specs.Inlining.{parts_of}
 use Rattle.points_to.specs.Found.{found}
 use Rattle.apply_inline.specs.Applied.{meets_part}
 use Rattle.apply_inline.specs.Expanded.{capped, parts_size}

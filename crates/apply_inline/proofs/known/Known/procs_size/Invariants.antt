@@ -1,6 +1,6 @@
 use Rattle.std.proofs.Common.{◌≡◌, map, take}
 use Rattle.grin_syntax.specs.Tree.{procedure_of, program_of}
-use Rattle.flow_system.specs.Size.{total}
+use Rattle.apply_inline.specs.Size.{total}
 use Rattle.points_to.specs.Found.{found}
 use Rattle.apply_inline.specs.Expanded.{capped, expanded_procedure}
 use Rattle.apply_inline.proofs.known.Known.procs_size.Given as goal

@@ -1,0 +1,7 @@
+//! Rows for the translation and the analysis: programs that were worked by hand.
+#![tactic(auto)]
+
+#[cfg(test)]
+mod solutions;
+#[cfg(test)]
+mod translations;

@@ -1,6 +1,0 @@
-use Rattle.std.proofs.Common.{◌≡◌, ◌+◌}
-use Rattle.flow_system.specs.Inlining.{variables}
-use Rattle.eval_inline.proofs.fresh.Fresh.variables.Given as goal
-
-abbrev pub invariant-loop : goal.invariant-loop
-invariant-loop l = record { some : l.made ≡ variables l.initial.self.next l.counter; taken : l.self.next ≡ l.initial.self.next + l.counter }

@@ -1,6 +1,0 @@
-use Rattle.std.proofs.Common.{◌≡◌, take}
-use Rattle.flow_system.specs.Inlining.{past_cells}
-use Rattle.eval_inline.proofs.fresh.past_cells.Given as goal
-
-abbrev pub invariant-loop-cell : goal.invariant-loop-cell
-invariant-loop-cell l = l.past ≡ past_cells (take l.cell-index l.cells)

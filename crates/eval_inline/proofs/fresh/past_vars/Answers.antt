@@ -1,6 +1,0 @@
-use Rattle.std.proofs.Common.{rules}
-use Rattle.eval_inline.proofs.Past.{past_vars_next}
-use Rattle.eval_inline.proofs.fresh.past_vars.Goals as goal
-
-pub loop-var-preserved : goal.loop-var-preserved
-loop-var-preserved c = past_vars_next c.args.vars.now c.loop-var.var-index (record { 0 = 0 }) _ _ c.loop-var-test.true (search rules) c.loop-var.invariant

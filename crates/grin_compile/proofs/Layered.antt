@@ -1,0 +1,133 @@
+-- Placed items that were selected for low code are code for what the low code tells.
+use Rattle.std.proofs.Common.{◌≡◌, ℕ, zero, suc, ◌+◌, ◌*◌, ◌≤◌, ◌<◌, true, Option, None, List, [], ◌∷◌, ◌++◌, map, length, refl, sym, ap, ◌∙◌, subst, arith}
+use Rattle.std.proofs.lemmas.Grind.{common_steps}
+use Rattle.headline.specs.Carries.{IsBytes, Begins, Told, Meaning, Reaches, Comes, Carries, Tells}
+use Rattle.elf32.specs.File.{program}
+use Rattle.low_code.specs.Tree.{Program}
+use Rattle.low_code.specs.Run.{run, limited, world_of, NeverMissing}
+use Rattle.low_code.specs.Told.{of_low, entered_by_low}
+use Rattle.low_code.proofs.Limits.{limits_only_stop}
+use Rattle.low_code.proofs.MoreUnits.{one_entry_a_unit}
+use Rattle.register_alloc.specs.Assignment.{Assignment, words_at}
+use Rattle.rv32_machine.specs.Steps.{State, start_of}
+use Rattle.rv32_steps.specs.Seen.{of_machine}
+use Rattle.rv32_steps.specs.Trace.{trace, procedures_at, Forward}
+use Rattle.rv32_items.specs.declared.Item.{Item}
+use Rattle.rv32_items.specs.Course.{Layout, Point, End as CourseEnd, Going, Exited, Stopped, state_at, course, NeverTrapsOn}
+use Rattle.rv32_items.specs.Placed.{Placed}
+use Rattle.rv32_items.specs.Told.{of_items}
+use Rattle.rv32_items.specs.Laws.{addresses_of, Meets}
+use Rattle.rv32_items.proofs.Enters.{items_enter}
+use Rattle.rv32_items.proofs.Reached.{items_are_reached}
+use Rattle.rv32_items.proofs.Forward.{items_go_forward}
+use Rattle.rv32_select.specs.Selects as select
+use Rattle.rv32_select.specs.Selects.{Selects, start_at}
+use Rattle.grin_compile.specs.Layers.{HeapOver, FramesOver, StackOver, Runs, IsCompiled, LayersCompose}
+use Rattle.grin_compile.proofs.Composed.{reaches_kept, comes_kept}
+use Rattle.grin_compile.proofs.Selected.{comes, reaches}
+use Rattle.grin_compile.proofs.Images.{starts, different, in_code}
+
+mapped_length : {A B : Type 0} (f : A → B) (xs : List A) → length (map f xs) ≡ length xs
+mapped_length f [] = refl
+mapped_length f (x ∷ xs) = ap suc (mapped_length f xs)
+
+-- a front that is as long as the whole
+whole : (xs ys : List ℕ) → Begins xs ys → length ys ≤ length xs → ys ≡ xs
+whole xs ys b l = b.1 ∙ ap (λ z. xs ++ z) (none b.0 (omega (arith, added xs b.0, ap length b.1, l))) ∙ nothing_more xs
+  where
+    none : (zs : List ℕ) → length zs ≡ 0 → zs ≡ []
+    none [] h = refl
+    none (z ∷ zs) h = absurd (omega arith)
+
+    added : (xs ys : List ℕ) → length (xs ++ ys) ≡ length xs + length ys
+    added xs ys = grind (arith, common_steps)
+
+    nothing_more : (xs : List ℕ) → xs ++ [] ≡ xs
+    nothing_more xs = grind (arith, common_steps)
+
+module _ (told : Meaning) (entered : List ℕ → ℕ → List ℕ) (l : Program) (a : Assignment) (frame cells stack : ℕ) (items : List Item) (words : List ℕ)
+    (tells : (i : List ℕ) → IsBytes i → (n : ℕ) → Tells (told i n) (of_low l (words_at a) i n))
+    (enters : (i : List ℕ) → IsBytes i → (n : ℕ) → entered_by_low l (words_at a) i n ≡ entered i n)
+    (frames : (i : List ℕ) → IsBytes i → (n : ℕ) → 4 * (of_low l (words_at a) i n).depth ≤ frame * ((told i n).depth + 1))
+    (never : NeverMissing l) (s : Selects l a cells stack items) (placed : Placed items words) where
+  abbrev lay : Layout
+  lay = placed.lay
+
+  abbrev start : Point
+  start = start_at l.width cells stack lay
+
+  abbrev addresses : List ℕ
+  addresses = addresses_of lay items s.begins
+
+  module _ (i : List ℕ) (bytes : IsBytes i) where
+    never_traps : NeverTrapsOn lay items i start
+    never_traps n kind e = subst (select.Finishes i (limited l (words_at a) cells stack i (length (procedures_at s.begins (course lay items n i start).passed))) (course lay items n i start)) e (s.follows lay placed.rises i bytes n).finish
+
+    meets : (m : ℕ) → (n : ℕ) × Meets lay items s.begins i start m n
+    meets m = items_enter items words placed start i s.begins (_, refl) never_traps refl s.stand s.flows.instruction_behind m
+
+    kept : (n : ℕ) → HeapOver cells (of_low l (words_at a) i n) → HeapOver cells (told i n)
+    kept n h = let t = (tells i bytes n).cells in omega (arith, h, t)
+
+    framed : (n : ℕ) → FramesOver stack (of_low l (words_at a) i n) → StackOver frame stack (told i n)
+    framed n h = let f = frames i bytes n in omega (arith, h, f)
+
+    -- what so many steps show is what as many units tell as procedures were met
+    shown : (m : ℕ) → Comes (HeapOver cells) (StackOver frame stack) (told i) (length (procedures_at addresses (trace m i (state_at lay items start)))) (of_machine (state_at lay items start) i m)
+    shown m =
+        let k = meets m in
+        let c = course lay items k.0 i start in
+        let n = length (procedures_at s.begins c.passed) in
+        let low = comes l a cells stack never i bytes s.begins c (s.follows lay placed.rises i bytes k.0) in
+        let up = comes_kept (told i) (of_low l (words_at a) i) (HeapOver cells) (StackOver frame stack) (HeapOver cells) (FramesOver stack) n (of_items lay items start i k.0) (tells i bytes) (kept n) (framed n) low in
+        let count : n ≡ length (procedures_at addresses (trace m i (state_at lay items start))) = ap length (sym k.1.entered) in
+        subst (λ j. Comes (HeapOver cells) (StackOver frame stack) (told i) j (of_machine (state_at lay items start) i m)) count
+        (subst (Comes (HeapOver cells) (StackOver frame stack) (told i) n) (sym k.1.seen) up)
+
+    -- the procedures that were met are those that low code enters
+    met : (m : ℕ) → let ps = procedures_at addresses (trace m i (state_at lay items start)) in ps ≡ entered i (length ps)
+    met m =
+        let k = meets m in
+        let c = course lay items k.0 i start in
+        let n = length (procedures_at s.begins c.passed) in
+        let f = s.follows lay placed.rises i bytes k.0 in
+        let within = (limits_only_stop l (words_at a) cells stack i n).0 in
+        let all = one_entry_a_unit l (words_at a) (record { cells = None; stack = None }) i n in
+        let many : length (world_of (limited l (words_at a) cells stack i n)).entered ≡ n = ap length (sym f.entered) in
+        let same : (world_of (run l (words_at a) i n)).entered ≡ (world_of (limited l (words_at a) cells stack i n)).entered =
+        whole _ _ within.entered (omega (arith, all, many)) in
+        let ps : procedures_at s.begins c.passed ≡ entered i n = f.entered ∙ sym same ∙ enters i bytes n in
+        subst (λ qs. qs ≡ entered i (length qs)) (sym k.1.entered) ps
+
+    reached : (n : ℕ) → (m : ℕ) × Reaches (told i n) (of_machine (state_at lay items start) i m)
+    reached n =
+        let r = s.arrives lay placed.rises i bytes n in
+        let low = reaches l a cells stack never i bytes n (course lay items r.0 i start) r.1 in
+        let m = items_are_reached items words placed start i (_, refl) never_traps r.0 in
+        (m.0, subst (Reaches (told i n)) (sym m.1.1) (reaches_kept (told i n) (of_low l (words_at a) i n) (of_items lay items start i r.0) (tells i bytes n) low))
+
+  abbrev image : State
+  image = start_of (program words (4 * l.width * cells) stack)
+
+  begun : state_at lay items start ≡ image
+  begun = sym (starts items words placed l.width cells stack)
+
+  pub compiled : IsCompiled told entered (length l.procs) frame cells (4 * l.width * cells) stack words
+  compiled = record {
+    addresses = addresses;
+    one_each = mapped_length _ s.begins ∙ s.one_each;
+    different = different items words placed s.begins s.stand s.flows.instruction_behind s.different;
+    in_code = in_code items words placed s.begins s.stand s.flows.instruction_behind;
+    carries = subst (λ t. Carries (HeapOver cells) (StackOver frame stack) told (of_machine t)) begun (record {
+      reaches = reached;
+      comes = λ i bytes m. (length (procedures_at addresses (trace m i (state_at lay items start))), shown i bytes m);
+    });
+    runs = λ i bytes m. subst (λ t. Runs told entered addresses frame cells stack t i m) begun (record {
+      enters = met i bytes m;
+      comes = shown i bytes m;
+      forward = items_go_forward items words placed start i s.begins (_, refl) refl (λ n. s.home lay placed.rises i bytes n) s.stand s.flows m;
+    });
+  }
+
+pub layers_compose : LayersCompose
+layers_compose told entered l a frame cells stack items words tells enters frames never s placed = compiled told entered l a frame cells stack items words tells enters frames never s placed

@@ -1,0 +1,4 @@
+pub mod Composed
+pub mod Selected
+pub mod Images
+pub mod Layered

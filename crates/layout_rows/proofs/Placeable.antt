@@ -1,0 +1,115 @@
+-- What is spread between two labels can be placed.
+use Rattle.std.proofs.Common.{◌≡◌, ℕ, zero, suc, ◌+◌, ◌≤◌, ◌⊎◌, Bool, true, false, nat_eq, List, [], ◌∷◌, ◌++◌, replicate, Option, Some, None, slice_get, inl, inr, refl, sym, ap, ◌∙◌, subst, arith}
+use Rattle.std.specs.Prelude.{if◌then◌else◌}
+use Rattle.std.proofs.lemmas.Option.{same_Some}
+use Rattle.rv32_items.specs.declared.Item.{Item}
+use Rattle.rv32_items.specs.declared.Item.TheVariants.{Label, Plain, Branch, Jump}
+use Rattle.rv32_items.specs.Placed.{size, size_of, times, target_of, IsPlain, AllPlain, LabelsStand}
+use Rattle.layout_rows.specs.Spread.{idle, spread, GoesThere}
+
+-- ---- what holds of each item
+
+abbrev Each : (Item → Type 0) → List Item → Type 0
+Each P [] = Unit {0}
+Each P (i ∷ is) = P i × Each P is
+
+each_get : (P : Item → Type 0) (is : List Item) (n : ℕ) (i : Item) → Each P is → slice_get is n ≡ Some i → P i
+each_get P [] n i h e = cc
+each_get P (j ∷ is) zero i h e = subst P (same_Some _ _ e) h.0
+each_get P (j ∷ is) (suc n) i h e = each_get P is n i h.1 e
+
+each_append : (P : Item → Type 0) (xs ys : List Item) → Each P xs → Each P ys → Each P (xs ++ ys)
+each_append P [] ys hx hy = hy
+each_append P (x ∷ xs) ys hx hy = (hx.0, each_append P xs ys hx.1 hy)
+
+each_idle : (P : Item → Type 0) (n : ℕ) → P idle → Each P (replicate n idle)
+each_idle P zero h = tt
+each_idle P (suc n) h = (h, each_idle P n h)
+
+each_spread : (P : Item → Type 0) (before after : ℕ) (i : Item) → P (Label 0) → P idle → P i → P (Label 1) → Each P (spread before after i)
+each_spread P before after i first still here last =
+    each_append P (Label 0 ∷ replicate before idle) (i ∷ (replicate after idle ++ Label 1 ∷ [])) (first, each_idle P before still)
+    (here, each_append P (replicate after idle) (Label 1 ∷ []) (each_idle P after still) (last, tt))
+
+-- ---- labels
+
+times_append : (l : ℕ) (xs ys : List Item) → times l (xs ++ ys) ≡ times l xs + times l ys
+times_append l [] ys = omega arith
+times_append l (Plain i ∷ xs) ys = times_append l xs ys
+times_append l (Branch c a b t ∷ xs) ys = times_append l xs ys
+times_append l (Jump k t ∷ xs) ys = times_append l xs ys
+times_append l (Label k ∷ xs) ys = go (nat_eq k l) (times_append l xs ys)
+  where
+    go : (b : Bool) → times l (xs ++ ys) ≡ times l xs + times l ys → (if b then suc (times l (xs ++ ys)) else times l (xs ++ ys)) ≡ (if b then suc (times l xs) else times l xs) + times l ys
+    go true e = omega arith
+    go false e = e
+
+times_idle : (l n : ℕ) → times l (replicate n idle) ≡ 0
+times_idle l zero = refl
+times_idle l (suc n) = times_idle l n
+
+times_other : (l : ℕ) (i : Item) (is : List Item) → GoesThere i → times l (i ∷ is) ≡ times l is
+times_other l (Label k) is (inl h) = cc
+times_other l (Label k) is (inr h) = cc
+times_other l (Plain i) is h = refl
+times_other l (Branch c a b t) is h = refl
+times_other l (Jump k t) is h = refl
+
+times_spread : (l before after : ℕ) (i : Item) → GoesThere i → times l (spread before after i) ≡ times l (Label 0 ∷ []) + times l (Label 1 ∷ [])
+times_spread l before after i goes =
+    let first = times_append l (Label 0 ∷ []) (replicate before idle) in
+    let z = times_idle l before in
+    let all = times_append l (Label 0 ∷ replicate before idle) (i ∷ (replicate after idle ++ Label 1 ∷ [])) in
+    let other = times_other l i (replicate after idle ++ Label 1 ∷ []) goes in
+    let last = times_append l (replicate after idle) (Label 1 ∷ []) in
+    let y = times_idle l after in
+    omega arith
+
+pub labels_stand : (before after : ℕ) (i : Item) → GoesThere i → LabelsStand (spread before after i)
+labels_stand before after i goes n l j e t =
+    let P : Item → Type 0 = λ j. target_of j ≡ Some l → (l ≡ 0) ⊎ (l ≡ 1) in
+    let which = each_get P (spread before after i) n j (each_spread P before after i (λ h. cc) (λ h. cc) (there goes) (λ h. cc)) e t in
+    times_spread l before after i goes ∙ counts which
+  where
+    there : GoesThere i → target_of i ≡ Some l → (l ≡ 0) ⊎ (l ≡ 1)
+    there (inl a) h = inl (same_Some _ _ (sym h ∙ a))
+    there (inr a) h = inr (same_Some _ _ (sym h ∙ a))
+
+    counts : (l ≡ 0) ⊎ (l ≡ 1) → times l (Label 0 ∷ []) + times l (Label 1 ∷ []) ≡ 1
+    counts (inl z) = ap (λ k. times k (Label 0 ∷ []) + times k (Label 1 ∷ [])) z
+    counts (inr o) = ap (λ k. times k (Label 0 ∷ []) + times k (Label 1 ∷ [])) o
+
+pub all_plain : (before after : ℕ) (i : Item) → GoesThere i → AllPlain (spread before after i)
+all_plain before after i goes n j e = each_get IsPlain (spread before after i) n j (each_spread IsPlain before after i tt tt (plain i goes) tt) e
+  where
+    plain : (i : Item) → GoesThere i → IsPlain i
+    plain (Label k) goes = tt
+    plain (Plain i) (inl h) = cc
+    plain (Plain i) (inr h) = cc
+    plain (Branch c a b t) goes = tt
+    plain (Jump k t) goes = tt
+
+-- ---- size
+
+size_append : (xs ys : List Item) → size_of (xs ++ ys) ≡ size_of xs + size_of ys
+size_append [] ys = omega arith
+size_append (x ∷ xs) ys = let e = size_append xs ys in omega arith
+
+size_idle : (n : ℕ) → size_of (replicate n idle) ≡ n
+size_idle zero = refl
+size_idle (suc n) = let e = size_idle n in omega arith
+
+size_three : (i : Item) → size i ≤ 3
+size_three (Label l) = omega arith
+size_three (Plain i) = omega arith
+size_three (Branch c a b t) = omega arith
+size_three (Jump k t) = omega arith
+
+pub size_spread : (before after : ℕ) (i : Item) → size_of (spread before after i) ≤ before + after + 3
+size_spread before after i =
+    let a = size_append (Label 0 ∷ replicate before idle) (i ∷ (replicate after idle ++ Label 1 ∷ [])) in
+    let b = size_append (replicate after idle) (Label 1 ∷ []) in
+    let x = size_idle before in
+    let y = size_idle after in
+    let s = size_three i in
+    omega arith

@@ -1,0 +1,4 @@
+pub mod Items
+pub mod Emitting
+pub mod Alternatives
+pub mod Operations

@@ -1,0 +1,6 @@
+use Rattle.std.proofs.Common.{rules, ◌≡◌, ◌≤◌, ◌<◌, ◌+◌, ℕ, suc, List, [], ◌∷◌, ◌++◌, map, length, take, drop, get_or, Some, None, IfOk, OnOk, refl, sym, ap, ◌∙◌, subst, arith}
+use Rattle.low_translate.proofs.Items.{fitted_next}
+use Rattle.low_translate.proofs.words.fit.Goals as goal
+
+pub loop-i-preserved : goal.loop-i-preserved
+loop-i-preserved c = fitted_next c.loop-i.i c.args.words.now _ _ _ c.loop-i.invariant c.nth.ensures c.in_ok-push.ensures.ok

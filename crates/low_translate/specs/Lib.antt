@@ -1,0 +1,5 @@
+pub mod Told
+pub mod Lowers
+pub mod Translation
+pub mod Lowered
+pub mod Emitted

@@ -1,0 +1,105 @@
+-- When low code is the translation of a program: how many words each procedure gives, and where further numbers begin.
+use Rattle.std.specs.Prelude.{ℤ, pos, negsuc, ℕ, ◌+◌, ◌^◌, ◌≡◌, ◌<◌, ◌≤◌, List, [], ◌∷◌, length}
+use Rattle.grin_syntax.specs.declared.program.Word as W
+use Rattle.grin_syntax.specs.declared.program.Word.TheVariants as word
+use Rattle.grin_syntax.specs.declared.program.Val as V
+use Rattle.grin_syntax.specs.declared.program.Val.TheVariants as val
+use Rattle.grin_syntax.specs.declared.program.Shape as S
+use Rattle.grin_syntax.specs.declared.program.Shape.TheVariants as shape
+use Rattle.grin_syntax.specs.Tree as grin
+use Rattle.grin_syntax.specs.Tree.{Code, end, store, bind, Act, unit, fetch, fetch_word, update, eval, apply, call, prim, read, write, case, nested, fail, Arms, no_arm, arm, Procedure}
+use Rattle.grin_syntax.specs.Binders.{program_vars}
+use Rattle.grin_syntax.specs.Formed.{AllOf}
+use Rattle.grin_meaning.specs.Ready.{most_fields, most_value_fields, val_width}
+use Rattle.low_code.specs.Tree as low
+use Rattle.low_translate.specs.Translation.{results_of, program_code}
+
+-- ---- the numbers of a program have 32 bits
+
+abbrev pub Has32Bits : ℤ → Type 0
+Has32Bits (pos k) = k < 2 ^ 31
+Has32Bits (negsuc k) = k < 2 ^ 31
+
+abbrev pub WordRanged : W.Word → Type 0
+WordRanged (word.Lit k) = Has32Bits k
+WordRanged _ = Unit {0}
+
+abbrev pub ValRanged : V.Val → Type 0
+ValRanged (val.NodeVar x) = Unit {0}
+ValRanged (val.Node t ws) = AllOf WordRanged ws
+ValRanged (val.Vector ws) = AllOf WordRanged ws
+ValRanged (val.One w) = WordRanged w
+
+abbrev pub ShapeRanged : S.Shape → Type 0
+ShapeRanged (shape.Int k) = Has32Bits k
+ShapeRanged _ = Unit {0}
+
+abbrev pub PlainRanged : Act → Type 0
+PlainRanged (unit v) = ValRanged v
+PlainRanged (fetch w) = WordRanged w
+PlainRanged (fetch_word w i) = WordRanged w
+PlainRanged (update w v) = WordRanged w × ValRanged v
+PlainRanged (call f ws) = AllOf WordRanged ws
+PlainRanged (prim f a b) = WordRanged a × WordRanged b
+PlainRanged (write w) = WordRanged w
+PlainRanged _ = Unit {0}
+
+-- the last alternative of a case needs no test
+abbrev pub TestRanged : S.Shape → Arms → Type 0
+TestRanged s no_arm = Unit {0}
+TestRanged s (arm _ _ _) = ShapeRanged s
+
+unfoldable mutual
+  pub ActRanged : Act → Type 0
+  ActRanged (case v as') = ValRanged v × ArmsRanged as'
+  ActRanged (nested b) = CodeRanged b
+  ActRanged o = PlainRanged o
+
+  pub CodeRanged : Code → Type 0
+  CodeRanged (end o) = ActRanged o
+  CodeRanged (store cs b) = AllOf (λ c. ValRanged c.val) cs × CodeRanged b
+  CodeRanged (bind t o b) = ActRanged o × CodeRanged b
+
+  pub ArmsRanged : Arms → Type 0
+  ArmsRanged no_arm = Unit {0}
+  ArmsRanged (arm s b as') = TestRanged s as' × CodeRanged b × ArmsRanged as'
+
+-- ---- the words that procedures give
+
+-- the ends of a procedure that gives r words: none has more, where a node has so many, and a tail call gives as many
+module _ (node_width : ℕ) (results : List ℕ) (r : ℕ) where
+  unfoldable mutual
+    pub ActGives : Act → Type 0
+    ActGives (unit v) = val_width node_width v ≤ r
+    ActGives (fetch w) = node_width ≤ r
+    ActGives (fetch_word w i) = 1 ≤ r
+    ActGives (prim f a b) = 1 ≤ r
+    ActGives read = 1 ≤ r
+    ActGives (call f ws) = results_of results f.0 ≡ r
+    ActGives (case v as') = ArmsGive as'
+    ActGives (nested b) = CodeGives b
+    ActGives _ = Unit {0}
+
+    pub CodeGives : Code → Type 0
+    CodeGives (end o) = ActGives o
+    CodeGives (store cs b) = CodeGives b
+    CodeGives (bind t o b) = CodeGives b
+
+    pub ArmsGive : Arms → Type 0
+    ArmsGive no_arm = Unit {0}
+    ArmsGive (arm s b as') = CodeGives b × ArmsGive as'
+
+abbrev pub EachGives : (node_width : ℕ) → (results : List ℕ) → List ℕ → List Procedure → Type 0
+EachGives node_width results [] [] = Unit {0}
+EachGives node_width results (r ∷ rs) (q ∷ qs) = CodeGives node_width results r q.body × EachGives node_width results rs qs
+EachGives node_width results _ _ = ⊥
+
+-- l is the translation of g
+pub record IsLowered (g : grin.Program) (l : low.Program) : Type 0 where
+  pub results : List ℕ
+  pub gives : EachGives (1 + most_value_fields g.tags) results results g.procs
+  pub few : AllOf (λ r. r ≤ 13) results
+  pub first : ℕ
+  pub above : AllOf (λ x. x < first) (program_vars g)
+  pub ranged : AllOf (λ q. CodeRanged q.body) g.procs
+  pub is : l ≡ program_code (1 + most_fields g.tags) results first g

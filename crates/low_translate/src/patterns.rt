@@ -1,0 +1,54 @@
+// Tests of patterns.
+
+ghost use Rattle.std.specs.Prelude.{◌≡◌, List, ◌++◌, IfOk, OnOk, IsTrue, ◌↔◌};
+ghost use Rattle.low_code.specs.declared.program.LowTest.{LowTest};
+ghost use Rattle.low_translate.specs.Translation.{is_number, tested, tests};
+ghost use Rattle.low_translate.specs.Lowered.{ShapeRanged};
+
+use crate::words::nth;
+use grin_syntax::Shape;
+use low_code::{LowTest, Operand};
+use seq::Seq;
+use std::alloc::{AllocError, Global};
+
+// Whether an operand is this number.
+fn is_known(word: Operand, number: u32) -> bool
+    ensures { result ≡ is_number word number }
+{
+    match word {
+        Operand::Num(k) => k == number,
+        Operand::Var(_) => false,
+        Operand::Cell(_) => false,
+    }
+}
+
+// Puts a test behind the others, unless it is of the number itself.
+fn add_test(tests: &mut Seq<LowTest>, left: Operand, right: u32) -> Result<(), AllocError>
+    ensures { OnOk result ((more : List LowTest) → tests.new ++ more ≡ tests.old ++ tested left right more) }
+{
+    if !is_known(left, right) {
+        tests.push(LowTest { left, right })?;
+    }
+    Ok(())
+}
+
+/// The tests of a pattern on the words of a value.
+pub(crate) fn tests_of(
+    alloc: Global,
+    words: &[Operand],
+    pattern: &Shape,
+) -> Result<Seq<LowTest>, AllocError>
+    ensures is { IfOk result (λ list. list ≡ tests words.now pattern.now) }
+    ensures ranged { OnOk result (ShapeRanged pattern.now) }
+{
+    let mut made = Seq::new(alloc);
+    match pattern {
+        Shape::Node(tag, _) => add_test(&mut made, nth(words, 0), tag.0)?,
+        Shape::Int(k) => {
+            add_test(&mut made, nth(words, 0), 0)?;
+            add_test(&mut made, nth(words, 1), k.cast_unsigned())?;
+        }
+        Shape::Else => {}
+    }
+    Ok(made)
+}

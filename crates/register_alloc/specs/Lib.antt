@@ -1,0 +1,10 @@
+pub mod Assignment
+pub mod Live
+pub mod Written
+pub mod Fits
+pub mod Reach
+pub mod Rounds
+pub mod Slots
+pub mod Calls
+pub mod Gathered
+pub mod Given

@@ -1,0 +1,5 @@
+pub mod Course
+pub mod Told
+pub mod Placed
+pub mod Flows
+pub mod Laws

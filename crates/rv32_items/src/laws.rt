@@ -1,0 +1,19 @@
+// What the machine does with words that are placed for items.
+
+ghost use Rattle.rv32_items.specs.Laws.{ItemsShow, ItemsAreReached, ItemsEnter, ItemsGoForward};
+
+/// Where the items never trap, the machine shows what they show, and in at most three steps an item.
+pub fn items_show()
+    ensures show { ItemsShow }
+    ensures reached { ItemsAreReached }
+{}
+
+/// The machine enters the addresses of just the labels that the course passes, each with an instruction right behind it.
+pub fn items_enter()
+    ensures { ItemsEnter }
+{}
+
+/// Where each return goes behind the last call that is open, the machine goes forward.
+pub fn items_go_forward()
+    ensures { ItemsGoForward }
+{}

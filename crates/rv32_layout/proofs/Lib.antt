@@ -1,0 +1,7 @@
+pub mod Counts
+pub mod Steps
+pub mod Reach
+pub mod Does
+pub mod Laid
+pub mod Table
+pub mod Encodes

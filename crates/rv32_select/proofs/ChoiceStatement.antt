@@ -1,0 +1,355 @@
+-- Choices: tests of words, and the arm that is taken.
+use Rattle.std.proofs.Common.{◌≡◌, ◌≢◌, ℕ, zero, suc, ◌+◌, ◌*◌, ◌^◌, ◌<◌, ◌≤◌, List, [], ◌∷◌, ◌++◌, map, length, Bool, true, false, not, Some, None, ◌⊎◌, inl, inr, refl, sym, ap, ◌∙◌, subst, arith, length-append}
+use Rattle.std.specs.Prelude.{Option, nat_eq, if◌then◌else◌, slice_get}
+use Rattle.rv32_isa.specs.declared.instr.Instr.{Instr}
+use Rattle.rv32_machine.specs.Steps.{set_reg}
+use Rattle.rv32_steps.specs.Straight.{value}
+use Rattle.parallel_move.specs.declared.Spot.{Spot}
+use Rattle.parallel_move.specs.declared.Spot.TheVariants.{Reg, Slot, Scratch}
+use Rattle.low_code.specs.declared.program.LowTest.{LowTest}
+use Rattle.low_code.specs.Tree.{Code, choose, Arms, otherwise, arm, Procedure, Program}
+use Rattle.low_code.specs.Formed.{is_among, uses, arms_uses, used_by, used_by_tests, variables}
+use Rattle.low_code.specs.Values.{Word, number, Env, World, Answer, need, and_then}
+use Rattle.low_code.specs.Run.{Calls, code, arms, operand, number_in, holds}
+use Rattle.register_alloc.specs.Fits.{slots_of}
+use Rattle.register_alloc.specs.Assignment.{Assignment, place_of, words_at}
+use Rattle.rv32_items.specs.declared.Cond.TheVariants.{Ne}
+use Rattle.rv32_items.specs.declared.Item.{Item}
+use Rattle.rv32_items.specs.declared.Item.TheVariants.{Label, Branch}
+use Rattle.rv32_items.specs.Course.{Layout, Point, label_from}
+use Rattle.rv32_select.specs.declared.source.Source.{Source}
+use Rattle.rv32_select.specs.declared.source.Source.TheVariants.{Number}
+use Rattle.rv32_select.specs.declared.source.Way.{Way}
+use Rattle.rv32_select.specs.declared.source.Way.TheVariants.{Returns, Follows, Jumps}
+use Rattle.rv32_select.specs.Emit.{plain, held, hold, test_items}
+use Rattle.rv32_select.specs.IsSelected.{source, tests_items, first_label, further, EmitsArms}
+use Rattle.rv32_select.proofs.Courses.{Goes, Stands, front, back, stays}
+use Rattle.rv32_select.proofs.Straight.{Data, with_reg, Good, Does, does_on, at}
+use Rattle.rv32_select.proofs.JumpStretches.{with_regs, branches, goes_on}
+use Rattle.rv32_select.proofs.FrameViews.{spots, Kept, kept_on, in_frame}
+use Rattle.rv32_select.proofs.OperandsRead.{read, Readable, IsPlace, Held, holds as held_by, held_stays}
+use Rattle.rv32_select.proofs.Computed.{hold_kept, hold_seen}
+use Rattle.rv32_select.proofs.Relation.{bases, word_of, HoldsWorld, Stood, Ran, ran_on, quiet, Does', does_after, does_map, Given, Needed}
+use Rattle.rv32_select.proofs.PlaceFacts.{TestsSmall, NotAmong, Different, IsOwn, AllOwn, ArmsFine, ProcedureFine, Setting}
+use Rattle.rv32_select.proofs.BlockFacts.{room, Block, Simulates, InRegisters, Ready, among_left, among_right, world_kept}
+use Rattle.rv32_select.proofs.OneBound.{Cut, cut, ready_at, plain_ran, operand_read}
+use Rattle.rv32_select.proofs.WordStatements.{stood_same, number_there}
+use Rattle.rv32_select.proofs.Stops.{good_far, passes_label}
+use Rattle.rv32_select.proofs.BlockEnds.{world_same}
+use Rattle.rv32_select.proofs.EmittedLabels.{emits_up}
+use Rattle.rv32_select.proofs.JoinStatement.{stood_weaken}
+
+module _ (l : Program) (a : Assignment) (cells stack : ℕ) (lay : Layout) (items : List Item) (begins : List ℕ) (s : Setting l a cells stack lay items begins) (calls_n : Calls) (n : ℕ)
+    (f : ℕ) (q : Procedure) (pf : ProcedureFine l a f q) (j m : ℕ) (outer : List ℕ) (d0 : Data) (u : ℕ) where
+  -- the arms of a choice in the items
+  pub record ArmsBlock (as' : Arms) (to : List Spot) (way : Way) (Must : ℕ → Word → Type 0) (k k' : ℕ) (block : List Item) (pos : ℕ) (scope later : List ℕ) (env : Env) (top : ℕ) (under : Option ℕ) (d : Data) (w : World) : Type 0 where
+    pub emits : EmitsArms l a cells stack (words_at a f) (slots_of (place_of a) (variables q)) to way as' k k' block
+    pub stands : Stands items pos block
+    pub ready : Ready l a cells stack lay items begins way (pos + length block)
+    pub above : first_label l a cells stack ≤ k
+    pub fine : ArmsFine l a f pf.slots (slots_of (place_of a) (variables q)) scope as' later
+    pub scoped : (x : ℕ) (v : Word) → env x ≡ Some v → is_among x scope ≡ true
+    pub owned : (x : ℕ) → is_among x scope ≡ true → IsOwn l a f (slots_of (place_of a) (variables q)) (place_of a x)
+    pub must : (x : ℕ) (v : Word) → Must x v → (is_among x scope ≡ true) × (is_among x later ≡ true)
+    pub clear : (x : ℕ) (v : Word) → Must x v → NotAmong (place_of a x) to
+    pub to_own : AllOwn l a f (slots_of (place_of a) (variables q)) to
+    pub to_differ : Different to
+    pub in_registers : InRegisters l a cells stack lay items begins f q pf.slots j m outer d0 u n way to
+    pub stood : Stood l a cells stack lay f j pf.slots d0 (lay.address m) (λ x v. ((is_among x (arms_uses as') ≡ true) × (env x ≡ Some v)) ⊎ Must x v) d w
+    pub left : w.left ≤ n
+    pub top_is : top ≡ 1 + pf.slots + u
+    pub under_is : (v : ℕ) → under ≡ Some v → (v ≡ u) × (way ≡ Returns)
+
+  abbrev pub ArmsSimulates : (as' : Arms) (to : List Spot) (way : Way) (Must : ℕ → Word → Type 0) (pos : ℕ) (env : Env) (top : ℕ) (under : Option ℕ) (d : Data) (w : World) → Type 0
+  ArmsSimulates as' to way Must pos env top under d w =
+      Does' lay items begins (Given l a cells stack lay items f j pf.slots d0 m outer to way Must) (at (bases stack) lay items pos d) (m ∷ outer) w (arms l (words_at a) (room l a cells stack lay items begins) calls_n env top under as' w)
+
+  -- what stands in this frame stands behind a branch that is taken
+  stood_far : (p : ℕ) (Needs : ℕ → Word → Type 0) (d : Data) (w : World) → ((y : ℕ) (v : Word) → Needs y v → IsOwn l a f (slots_of (place_of a) (variables q)) (place_of a y))
+      → Stood l a cells stack lay f j pf.slots d0 (lay.address m) Needs d w → Stood l a cells stack lay f j pf.slots d0 (lay.address m) Needs (with_regs d (lay.far p d.regs)) w
+  stood_far p Needs d w owned st =
+      let d' = with_regs d (lay.far p d.regs) in
+      let far = λ (r : ℕ) (z0 : r ≢ 0) (z7 : r ≢ 7). s.rises.far_keeps p r d.regs z0 z7 in
+      let world = world_same l a cells stack lay d d' w st.world (good_far items lay (bases stack) s.rises p d st.world.good) (far 3 (omega arith) (omega arith)) (far 4 (omega arith) (omega arith)) refl refl in
+      stood_same l a cells stack lay f j pf.slots (slots_of (place_of a) (variables q)) d0 (lay.address m) Needs Needs d d' w w pf.enough st world (far 2 (omega arith) (omega arith)) refl (λ t. refl) seen (λ y v h. (h, owned y v h))
+    where
+      seen : (t : Spot) → IsPlace lay.code (bases stack) j pf.slots t → spots lay.code (bases stack) j pf.slots (with_regs d (lay.far p d.regs)) t ≡ spots lay.code (bases stack) j pf.slots d t
+      seen (Reg r) o = let lo = o.0.0 in s.rises.far_keeps p r d.regs (omega arith) (omega arith)
+      seen (Slot k) o = refl
+      seen Scratch o = absurd (o.1 refl)
+
+  -- ---- tests
+
+  -- where tests hold the machine is behind them, and else at the label
+  TestsDone : (c0 : Code) (env : Env) (Must : ℕ → Word → Type 0) (next p t : ℕ) (ts : List LowTest) (d : Data) (w : World) → Bool → Type 0
+  TestsDone c0 env Must next p t ts d w true =
+      (e : Data) × (Ran lay items begins (at (bases stack) lay items p d) (m ∷ outer) w (at (bases stack) lay items (p + length (tests_items l a cells stack next ts)) e) (m ∷ outer) w × Stood l a cells stack lay f j pf.slots d0 (lay.address m) (Needed c0 env Must) e w)
+  TestsDone c0 env Must next p t ts d w false =
+      (e : Data) × (Ran lay items begins (at (bases stack) lay items p d) (m ∷ outer) w (at (bases stack) lay items t e) (m ∷ outer) w × Stood l a cells stack lay f j pf.slots d0 (lay.address m) (Needed c0 env Must) e w)
+
+  -- one test
+  record OneTest (c0 : Code) (env : Env) (Must : ℕ → Word → Type 0) (next p t : ℕ) (x : LowTest) (d : Data) (w : World) (k : ℕ) : Type 0 where
+    pub to' : Data
+    pub stood : Stood l a cells stack lay f j pf.slots d0 (lay.address m) (Needed c0 env Must) to' w
+    pub same : nat_eq k x.right ≡ true → Ran lay items begins (at (bases stack) lay items p d) (m ∷ outer) w (at (bases stack) lay items (p + length (test_items next (source l a cells stack x.left) x.right)) to') (m ∷ outer) w
+    pub far : Data
+    pub stood_far' : Stood l a cells stack lay f j pf.slots d0 (lay.address m) (Needed c0 env Must) far w
+    pub other : nat_eq k x.right ≡ false → Ran lay items begins (at (bases stack) lay items p d) (m ∷ outer) w (at (bases stack) lay items t far) (m ∷ outer) w
+
+  one_test : (c0 : Code) (scope later : List ℕ) (env : Env) (Must : ℕ → Word → Type 0) (next p t : ℕ) (x : LowTest) (d : Data) (w : World) (k : ℕ) → Stands items p (test_items next (source l a cells stack x.left) x.right) → label_from 0 items next ≡ Some t
+      → Stood l a cells stack lay f j pf.slots d0 (lay.address m) (Needed c0 env Must) d w
+      → ((y : ℕ) (v : Word) → env y ≡ Some v → is_among y scope ≡ true) → ((y : ℕ) → is_among y scope ≡ true → IsOwn l a f (slots_of (place_of a) (variables q)) (place_of a y)) → ((y : ℕ) (v : Word) → Must y v → (is_among y scope ≡ true) × (is_among y later ≡ true))
+      → ((y : ℕ) → is_among y (used_by x.left) ≡ true → is_among y (uses c0) ≡ true) → TestsSmall (x ∷ []) → number_in l (words_at a) env x.left ≡ Some k → OneTest c0 env Must next p t x d w k
+  one_test c0 scope later env Must next p t x d w k stands to_label st scoped owned must incl small e =
+      let src = source l a cells stack x.left in
+      let r = operand_read l a cells stack lay items begins s calls_n n f q pf j m outer d0 u c0 scope env Must d w x.left (number k) st scoped owned incl small.0.0 (number_there (operand l (words_at a) env x.left) k e) in
+      let h = held_by lay.code (bases stack) j pf.slots 5 src d st.world.good st.frame (omega arith) (omega arith) r.0 in
+      let e1 = with_reg (with_reg d 7 h.seven) 5 h.own in
+      let k1 = hold_kept lay.code (bases stack) j pf.slots 5 src d h (omega arith) in
+      let h' = held_by lay.code (bases stack) j pf.slots 6 (Number x.right) e1 h.does.good (in_frame lay.code (bases stack) j pf.slots st.frame k1) (omega arith) (omega arith) small.0.1 in
+      let e2 = with_reg (with_reg e1 7 h'.seven) 6 h'.own in
+      let k2 = kept_on lay.code (bases stack) j pf.slots k1 (hold_kept lay.code (bases stack) j pf.slots 6 (Number x.right) e1 h' (omega arith)) in
+      let left_is : value e2.regs (held 5 src) ≡ k =
+      held_stays lay.code (bases stack) j pf.slots (set_reg e1.regs 7 h'.seven) 5 0 6 h'.own src r.0 (omega arith) (omega arith) (omega arith)
+      ∙ held_stays lay.code (bases stack) j pf.slots e1.regs 5 0 7 h'.seven src r.0 (omega arith) (omega arith) (omega arith)
+      ∙ h.value_is' ∙ r.1 in
+      let is = hold 5 src ++ hold 6 (Number x.right) in
+      let branch = Branch Ne (held 5 src) (held 6 (Number x.right)) next in
+      let s1 = front items p (plain is) (branch ∷ []) stands in
+      let s2 : Stands items (p + length (plain is)) (branch ∷ []) = back items p (plain is) (branch ∷ []) stands in
+      let ran = plain_ran l a cells stack lay items begins is p d e2 (m ∷ outer) w st.world.good (does_on lay.code (bases stack) h.does h'.does) s1 in
+      let pb = p + length (plain is) in
+      let world = world_kept l a cells stack lay j pf.slots d e2 w st.world h'.does.good k2 in
+      let seen = λ (y : Spot) (o : IsPlace lay.code (bases stack) j pf.slots y). hold_seen lay.code (bases stack) j pf.slots 6 (Number x.right) e1 h' (omega arith) (omega arith) y o ∙ hold_seen lay.code (bases stack) j pf.slots 5 src d h (omega arith) (omega arith) y o in
+      let own = λ (y : ℕ) (v : Word) (z : Needed c0 env Must y v). owned_of y v z in
+      let st2 = stood_same l a cells stack lay f j pf.slots (slots_of (place_of a) (variables q)) d0 (lay.address m) (Needed c0 env Must) (Needed c0 env Must) d e2 w w pf.enough st world k2.frame k2.words (λ y. refl) seen (λ y v z. (z, owned_of y v z)) in
+      let compare : nat_eq (value e2.regs (held 5 src)) (value e2.regs (held 6 (Number x.right))) ≡ nat_eq k x.right = λ i. nat_eq (left_is i) (h'.value_is' i) in
+      let behind : suc pb ≡ p + length (test_items next (source l a cells stack x.left) x.right) = let y = length-append (plain is) (branch ∷ []) in omega arith in
+      record {
+        to' = e2;
+        stood = st2;
+        same = λ z.
+            let step = goes_on (bases stack) lay items pb next (held 5 src) (held 6 (Number x.right)) Ne e2 w.input (m ∷ outer) s2.0 (ap not (compare ∙ z)) in
+            ran_on lay items begins ran (quiet lay items begins w w (subst (λ y. Goes lay items 1 w.input (at (bases stack) lay items pb e2) (m ∷ outer) [] [] w.input (at (bases stack) lay items y e2) (m ∷ outer)) behind step) refl refl refl refl refl);
+        far = with_regs e2 (lay.far pb e2.regs);
+        stood_far' = stood_far pb (Needed c0 env Must) e2 w owned_of st2;
+        other = λ z.
+            let step = branches (bases stack) lay items pb t next (held 5 src) (held 6 (Number x.right)) Ne e2 w.input (m ∷ outer) s2.0 to_label (ap not (compare ∙ z)) in
+            ran_on lay items begins ran (quiet lay items begins w w step refl refl refl refl refl);
+      }
+    where
+      owned_of : (y : ℕ) (v : Word) → Needed c0 env Must y v → IsOwn l a f (slots_of (place_of a) (variables q)) (place_of a y)
+      owned_of y v (inl h) = owned y (scoped y v h.1)
+      owned_of y v (inr h) = owned y (must y v h).0
+
+  tests_done : (c0 : Code) (scope later : List ℕ) (env : Env) (Must : ℕ → Word → Type 0) (next t : ℕ) (ts : List LowTest) (p : ℕ) (d : Data) (w : World) → Stands items p (tests_items l a cells stack next ts) → label_from 0 items next ≡ Some t
+      → Stood l a cells stack lay f j pf.slots d0 (lay.address m) (Needed c0 env Must) d w
+      → ((y : ℕ) (v : Word) → env y ≡ Some v → is_among y scope ≡ true) → ((y : ℕ) → is_among y scope ≡ true → IsOwn l a f (slots_of (place_of a) (variables q)) (place_of a y)) → ((y : ℕ) (v : Word) → Must y v → (is_among y scope ≡ true) × (is_among y later ≡ true))
+      → ((y : ℕ) → is_among y (used_by_tests ts) ≡ true → is_among y (uses c0) ≡ true) → TestsSmall ts → (b : Bool) → holds l (words_at a) env ts ≡ Some b → TestsDone c0 env Must next p t ts d w b
+  unfolding TestsDone
+  tests_done c0 scope later env Must next t [] p d w stands to_label st scoped owned must incl small true e =
+      let none : p ≡ p + 0 = omega arith in
+      let ran = quiet lay items begins w w (stays lay items w.input (at (bases stack) lay items p d) (m ∷ outer)) refl refl refl refl refl in
+      (d, (subst (λ y. Ran lay items begins (at (bases stack) lay items p d) (m ∷ outer) w (at (bases stack) lay items y d) (m ∷ outer) w) none ran, st))
+  tests_done c0 scope later env Must next t [] p d w stands to_label st scoped owned must incl small false e = absurd (cc)
+  tests_done c0 scope later env Must next t (x ∷ ts) p d w stands to_label st scoped owned must incl small b e =
+      by_number (λ d' p' st' stands' e'. tests_done c0 scope later env Must next t ts p' d' w stands' to_label st' scoped owned must (λ y h. incl y (among_right y (used_by x.left) (used_by_tests ts) h)) small.1 b e')
+      (number_in l (words_at a) env x.left) refl e
+    where
+      by_same : ((d' : Data) (p' : ℕ) → Stood l a cells stack lay f j pf.slots d0 (lay.address m) (Needed c0 env Must) d' w → Stands items p' (tests_items l a cells stack next ts) → holds l (words_at a) env ts ≡ Some b → TestsDone c0 env Must next p' t ts d' w b)
+          → (k : ℕ) → OneTest c0 env Must next p t x d w k → (z : Bool) → nat_eq k x.right ≡ z → elim z [ true ↦ holds l (words_at a) env ts | false ↦ Some false ] ≡ Some b → TestsDone c0 env Must next p t (x ∷ ts) d w b
+      by_same more k T false z e' = last b e'
+        where
+          last : (b : Bool) → Some false ≡ Some b → TestsDone c0 env Must next p t (x ∷ ts) d w b
+          last false e = (T.far, (T.other z, T.stood_far'))
+          last true e = absurd (cc)
+      by_same more k T true z e' =
+          let first = test_items next (source l a cells stack x.left) x.right in
+          let rest = tests_items l a cells stack next ts in
+          joined b (more T.to' (p + length (test_items next (source l a cells stack x.left) x.right)) T.stood (back items p (test_items next (source l a cells stack x.left) x.right) (tests_items l a cells stack next ts) stands) e')
+        where
+          joined : (b : Bool) → TestsDone c0 env Must next (p + length (test_items next (source l a cells stack x.left) x.right)) t ts T.to' w b → TestsDone c0 env Must next p t (x ∷ ts) d w b
+          joined false h = (h.0, (ran_on lay items begins (T.same z) h.1.0, h.1.1))
+          joined true h =
+              let first = test_items next (source l a cells stack x.left) x.right in
+              let rest = tests_items l a cells stack next ts in
+              let end : p + length first + length rest ≡ p + length (first ++ rest) = let y = length-append first rest in omega arith in
+              (h.0, (subst (λ y. Ran lay items begins (at (bases stack) lay items p d) (m ∷ outer) w (at (bases stack) lay items y h.0) (m ∷ outer) w) end (ran_on lay items begins (T.same z) h.1.0), h.1.1))
+
+      by_number : ((d' : Data) (p' : ℕ) → Stood l a cells stack lay f j pf.slots d0 (lay.address m) (Needed c0 env Must) d' w → Stands items p' (tests_items l a cells stack next ts) → holds l (words_at a) env ts ≡ Some b → TestsDone c0 env Must next p' t ts d' w b)
+          → (r : Option ℕ) → number_in l (words_at a) env x.left ≡ r → and_then r (λ k. elim (nat_eq k x.right) [ true ↦ holds l (words_at a) env ts | false ↦ Some false ]) ≡ Some b → TestsDone c0 env Must next p t (x ∷ ts) d w b
+      by_number more None e1 e2 = absurd (cc)
+      by_number more (Some k) e1 e2 =
+          let T = one_test c0 scope later env Must next p t x d w k (front items p (test_items next (source l a cells stack x.left) x.right) (tests_items l a cells stack next ts) stands) to_label st scoped owned must (λ y h. incl y (among_left y (used_by x.left) (used_by_tests ts) h)) (small.0, tt) e1 in
+          by_same more k T (nat_eq k x.right) refl e2
+
+  -- ---- arms
+
+  further_given : (to : List Spot) (way : Way) (Must : ℕ → Word → Type 0) (vs : List Word) (v : World) (p : Point) (c : List ℕ) → Given l a cells stack lay items f j pf.slots d0 m outer to (further way) Must vs v p c → Given l a cells stack lay items f j pf.slots d0 m outer to way Must vs v p c
+  further_given to Returns Must vs v p c h = h
+  further_given to (Follows k) Must vs v p c h = h
+  further_given to (Jumps k) Must vs v p c h = h
+
+  further_ready : (way : Way) (e e' : ℕ) → Ready l a cells stack lay items begins way e → Ready l a cells stack lay items begins (further way) e'
+  further_ready Returns e e' h = tt
+  further_ready (Follows k) e e' h = (e, h)
+  further_ready (Jumps k) e e' h = h
+
+  further_registers : (way : Way) (to : List Spot) → InRegisters l a cells stack lay items begins f q pf.slots j m outer d0 u n way to → InRegisters l a cells stack lay items begins f q pf.slots j m outer d0 u n (further way) to
+  further_registers Returns to h = h
+  further_registers (Follows k) to h = tt
+  further_registers (Jumps k) to h = tt
+
+  module _ (ts : List LowTest) (c : Code) (as' : Arms) (to : List Spot) (way : Way) (Must : ℕ → Word → Type 0) (k k' : ℕ) (block : List Item) (p : ℕ) (scope later : List ℕ) (env : Env) (top : ℕ) (under : Option ℕ) (d : Data) (w : World)
+      (b : ArmsBlock (arm ts c as') to way Must k k' block p scope later env top under d w) where
+    tests : List Item
+    tests = tests_items l a cells stack k ts
+
+    parts : Cut items p (tests_items l a cells stack k ts ++ (b.emits.1 ++ Label k ∷ [])) b.emits.3.0 block
+    parts = cut items p (tests_items l a cells stack k ts ++ (b.emits.1 ++ Label k ∷ [])) b.emits.3.0 block b.emits.3.1 b.stands
+
+    behind_tests : Stands items (p + length (tests_items l a cells stack k ts)) (b.emits.1 ++ Label k ∷ [])
+    behind_tests = back items p (tests_items l a cells stack k ts) (b.emits.1 ++ Label k ∷ []) parts.first
+
+    label_here : slice_get items (p + length (tests_items l a cells stack k ts) + length b.emits.1) ≡ Some (Label k)
+    label_here = (back items (p + length (tests_items l a cells stack k ts)) b.emits.1 (Label k ∷ []) behind_tests).0
+
+    needed : (y : ℕ) (v : Word) → Needed (choose (arm ts c as')) env Must y v → Needed (choose (arm ts c as')) env Must y v
+    needed y v h = h
+
+    pub arm_simulated : ((d' : Data) → Block l a cells stack lay items begins f q pf.slots j m outer d0 u n c to (further way) Must (suc k) b.emits.0 b.emits.1 (p + length (tests_items l a cells stack k ts)) scope later env top under d' w
+        → Simulates l a cells stack lay items begins f q pf.slots j m outer d0 u n calls_n c to (further way) Must (p + length (tests_items l a cells stack k ts)) env top under d' w)
+        → ((d' : Data) → ArmsBlock as' to way Must b.emits.0 k' b.emits.3.0 (p + length (tests_items l a cells stack k ts ++ (b.emits.1 ++ Label k ∷ []))) scope later env top under d' w
+        → ArmsSimulates as' to way Must (p + length (tests_items l a cells stack k ts ++ (b.emits.1 ++ Label k ∷ []))) env top under d' w)
+        → ArmsSimulates (arm ts c as') to way Must p env top under d w
+    unfolding arms TestsDone
+    arm_simulated block_done more = by_holds (holds l (words_at a) env ts) refl
+      where
+        c0 : Code
+        c0 = choose (arm ts c as')
+
+        G : List Word → World → Point → List ℕ → Type 0
+        G = Given l a cells stack lay items f j pf.slots d0 m outer to way Must
+
+        taken : holds l (words_at a) env ts ≡ Some true → Does' lay items begins (Given l a cells stack lay items f j pf.slots d0 m outer to way Must) (at (bases stack) lay items p d) (m ∷ outer) w (code l (words_at a) (room l a cells stack lay items begins) calls_n env top under c w)
+        taken e =
+            let T = tests_done (choose (arm ts c as')) scope later env Must k (p + length (tests_items l a cells stack k ts) + length b.emits.1) ts p d w (front items p (tests_items l a cells stack k ts) (b.emits.1 ++ Label k ∷ []) parts.first)
+            (s.once (p + length (tests_items l a cells stack k ts) + length b.emits.1) k label_here) b.stood b.scoped b.owned b.must (λ y h. among_left y (used_by_tests ts) (uses c ++ arms_uses as') h) b.fine.0 true e in
+            let weaker = λ (y : ℕ) (v : Word) (h : Needed c env Must y v). weaken_code y v h in
+            let done = block_done T.0 (record {
+              emits = b.emits.2;
+              stands = front items (p + length (tests_items l a cells stack k ts)) b.emits.1 (Label k ∷ []) behind_tests;
+              ready = further_ready way (p + length block) (p + length (tests_items l a cells stack k ts) + length b.emits.1) b.ready;
+              above = let le = b.above in omega arith;
+              fine = b.fine.1.0;
+              scoped = b.scoped;
+              owned = b.owned;
+              must = b.must;
+              clear = b.clear;
+              to_own = b.to_own;
+              to_differ = b.to_differ;
+              in_registers = further_registers way to b.in_registers;
+              stood = stood_weaken l a cells stack lay f j pf.slots d0 (lay.address m) (Needed (choose (arm ts c as')) env Must) (Needed c env Must) T.0 w weaken_code T.1.1;
+              left = b.left;
+              top_is = b.top_is;
+              under_is = λ v z. let is = b.under_is v z in (is.0, ap further is.1);
+            }) in
+            does_after lay items begins (Given l a cells stack lay items f j pf.slots d0 m outer to way Must) (code l (words_at a) (room l a cells stack lay items begins) calls_n env top under c w) T.1.0
+            (does_map lay items begins (Given l a cells stack lay items f j pf.slots d0 m outer to (further way) Must) (Given l a cells stack lay items f j pf.slots d0 m outer to way Must) (at (bases stack) lay items (p + length (tests_items l a cells stack k ts)) T.0) (m ∷ outer) w
+            (code l (words_at a) (room l a cells stack lay items begins) calls_n env top under c w) (further_given to way Must) done)
+          where
+            weaken_code : (y : ℕ) (v : Word) → Needed c env Must y v → Needed (choose (arm ts c as')) env Must y v
+            weaken_code y v (inl h) = inl (among_right y (used_by_tests ts) (uses c ++ arms_uses as') (among_left y (uses c) (arms_uses as') h.0), h.1)
+            weaken_code y v (inr h) = inr h
+
+        passed : holds l (words_at a) env ts ≡ Some false → Does' lay items begins (Given l a cells stack lay items f j pf.slots d0 m outer to way Must) (at (bases stack) lay items p d) (m ∷ outer) w (arms l (words_at a) (room l a cells stack lay items begins) calls_n env top under as' w)
+        passed e =
+            let place = p + length (tests_items l a cells stack k ts) + length b.emits.1 in
+            let T = tests_done (choose (arm ts c as')) scope later env Must k (p + length (tests_items l a cells stack k ts) + length b.emits.1) ts p d w (front items p (tests_items l a cells stack k ts) (b.emits.1 ++ Label k ∷ []) parts.first)
+            (s.once (p + length (tests_items l a cells stack k ts) + length b.emits.1) k label_here) b.stood b.scoped b.owned b.must (λ y h. among_left y (used_by_tests ts) (uses c ++ arms_uses as') h) b.fine.0 false e in
+            let pass = passes_label l a cells stack lay items begins s k place T.0 (m ∷ outer) w (let le = b.above in omega arith) label_here in
+            let behind : suc place ≡ p + length (tests_items l a cells stack k ts ++ (b.emits.1 ++ Label k ∷ [])) = let y = length-append (tests_items l a cells stack k ts) (b.emits.1 ++ Label k ∷ []) in let z = length-append b.emits.1 (Label k ∷ []) in omega arith in
+            let ran = ran_on lay items begins T.1.0 (subst (λ y. Ran lay items begins (at (bases stack) lay items place T.0) (m ∷ outer) w (at (bases stack) lay items y T.0) (m ∷ outer) w) behind pass) in
+            does_after lay items begins (Given l a cells stack lay items f j pf.slots d0 m outer to way Must) (arms l (words_at a) (room l a cells stack lay items begins) calls_n env top under as' w) ran
+            (more T.0 (record {
+              emits = b.emits.3.2;
+              stands = parts.more;
+              ready = ready_at l a cells stack lay items begins way (p + length block) (p + length (tests_items l a cells stack k ts ++ (b.emits.1 ++ Label k ∷ [])) + length b.emits.3.0) parts.end b.ready;
+              above = let le = b.above in let up = emits_up l a cells stack (words_at a f) (slots_of (place_of a) (variables q)) c to (further way) (suc k) b.emits.0 b.emits.1 b.emits.2 in omega arith;
+              fine = b.fine.1.1;
+              scoped = b.scoped;
+              owned = b.owned;
+              must = b.must;
+              clear = b.clear;
+              to_own = b.to_own;
+              to_differ = b.to_differ;
+              in_registers = b.in_registers;
+              stood = stood_weaken l a cells stack lay f j pf.slots d0 (lay.address m) (Needed (choose (arm ts c as')) env Must) (λ x v. ((is_among x (arms_uses as') ≡ true) × (env x ≡ Some v)) ⊎ Must x v) T.0 w weaken_arms T.1.1;
+              left = b.left;
+              top_is = b.top_is;
+              under_is = b.under_is;
+            }))
+          where
+            weaken_arms : (y : ℕ) (v : Word) → ((is_among y (arms_uses as') ≡ true) × (env y ≡ Some v)) ⊎ Must y v → Needed (choose (arm ts c as')) env Must y v
+            weaken_arms y v (inl h) = inl (among_right y (used_by_tests ts) (uses c ++ arms_uses as') (among_right y (uses c) (arms_uses as') h.0), h.1)
+            weaken_arms y v (inr h) = inr h
+
+        by_holds : (r : Option Bool) → holds l (words_at a) env ts ≡ r → Does' lay items begins (Given l a cells stack lay items f j pf.slots d0 m outer to way Must) (at (bases stack) lay items p d) (m ∷ outer) w
+            (need r w (λ yes. elim yes [ true ↦ code l (words_at a) (room l a cells stack lay items begins) calls_n env top under c w | false ↦ arms l (words_at a) (room l a cells stack lay items begins) calls_n env top under as' w ]))
+        by_holds None e = tt
+        by_holds (Some true) e = taken e
+        by_holds (Some false) e = passed e
+
+  -- a choice is its arms
+  pub choice : (as' : Arms) (to : List Spot) (way : Way) (Must : ℕ → Word → Type 0) (k k' : ℕ) (block : List Item) (p : ℕ) (scope later : List ℕ) (env : Env) (top : ℕ) (under : Option ℕ) (d : Data) (w : World)
+      → ArmsSimulates as' to way Must p env top under d w → Simulates l a cells stack lay items begins f q pf.slots j m outer d0 u n calls_n (choose as') to way Must p env top under d w
+  unfolding code
+  choice as' to way Must k k' block p scope later env top under d w h = h
+
+  pub arms_of : (as' : Arms) (to : List Spot) (way : Way) (Must : ℕ → Word → Type 0) (k k' : ℕ) (block : List Item) (p : ℕ) (scope later : List ℕ) (env : Env) (top : ℕ) (under : Option ℕ) (d : Data) (w : World)
+      → Block l a cells stack lay items begins f q pf.slots j m outer d0 u n (choose as') to way Must k k' block p scope later env top under d w → ArmsBlock as' to way Must k k' block p scope later env top under d w
+  arms_of as' to way Must k k' block p scope later env top under d w b = record {
+    emits = b.emits;
+    stands = b.stands;
+    ready = b.ready;
+    above = b.above;
+    fine = b.fine;
+    scoped = b.scoped;
+    owned = b.owned;
+    must = b.must;
+    clear = b.clear;
+    to_own = b.to_own;
+    to_differ = b.to_differ;
+    in_registers = b.in_registers;
+    stood = b.stood;
+    left = b.left;
+    top_is = b.top_is;
+    under_is = b.under_is;
+  }
+
+  -- the last arm is its block
+  pub last_arm : (c : Code) (to : List Spot) (way : Way) (Must : ℕ → Word → Type 0) (k k' : ℕ) (block : List Item) (p : ℕ) (scope later : List ℕ) (env : Env) (top : ℕ) (under : Option ℕ) (d : Data) (w : World)
+      → Simulates l a cells stack lay items begins f q pf.slots j m outer d0 u n calls_n c to way Must p env top under d w → ArmsSimulates (otherwise c) to way Must p env top under d w
+  unfolding arms
+  last_arm c to way Must k k' block p scope later env top under d w h = h
+
+  pub last_of : (c : Code) (to : List Spot) (way : Way) (Must : ℕ → Word → Type 0) (k k' : ℕ) (block : List Item) (p : ℕ) (scope later : List ℕ) (env : Env) (top : ℕ) (under : Option ℕ) (d : Data) (w : World)
+      → ArmsBlock (otherwise c) to way Must k k' block p scope later env top under d w → Block l a cells stack lay items begins f q pf.slots j m outer d0 u n c to way Must k k' block p scope later env top under d w
+  last_of c to way Must k k' block p scope later env top under d w b = record {
+    emits = b.emits;
+    stands = b.stands;
+    ready = b.ready;
+    above = b.above;
+    fine = b.fine;
+    scoped = b.scoped;
+    owned = b.owned;
+    must = b.must;
+    clear = b.clear;
+    to_own = b.to_own;
+    to_differ = b.to_differ;
+    in_registers = b.in_registers;
+    stood = b.stood;
+    left = b.left;
+    top_is = b.top_is;
+    under_is = b.under_is;
+  }

@@ -1,0 +1,303 @@
+-- How the machine's data stand for the state of a run of low code, and what it is that the machine does what a run does.
+use Rattle.std.proofs.Common.{◌≡◌, ◌≢◌, ℕ, zero, suc, ◌+◌, ◌-◌, ◌*◌, ◌/◌, ◌%◌, ◌^◌, ◌<◌, ◌≤◌, List, [], ◌∷◌, ◌++◌, length, get_or, Bool, true, false, Some, None, ◌⊎◌, inl, inr, refl, sym, ap, ◌∙◌, subst, arith, append_assoc}
+use Rattle.std.specs.Prelude.{Option, drop, slice_get}
+use Rattle.std.proofs.lemmas.Grind.{common_steps}
+use Rattle.headline.specs.Carries.{IsBytes}
+use Rattle.parallel_move.specs.declared.Spot.{Spot}
+use Rattle.parallel_move.specs.declared.Spot.TheVariants.{Reg, Slot, Scratch}
+use Rattle.parallel_move.specs.Moves.{Values}
+use Rattle.low_code.specs.Tree.{Code, Program}
+use Rattle.low_code.specs.Formed.{is_among, uses, all_variables}
+use Rattle.low_code.specs.Values.{Word, number, cell, Env, World, Stop, no_alternative, out_of_units, missing, heap_full, stack_full, Answer, gives, stops, then_do}
+use Rattle.low_code.specs.Run.{spent, written, byte_taken}
+use Rattle.register_alloc.specs.Assignment.{Assignment, place_of, may_change}
+use Rattle.rv32_steps.specs.Data.{Bases}
+use Rattle.rv32_steps.specs.Trace.{procedures_at, procedure_from}
+use Rattle.rv32_items.specs.declared.Item.{Item}
+use Rattle.rv32_items.specs.declared.Item.TheVariants.{Label}
+use Rattle.rv32_items.specs.Course.{Layout, Point, label_from}
+use Rattle.rv32_select.specs.declared.source.Way.{Way}
+use Rattle.rv32_select.specs.declared.source.Way.TheVariants.{Returns, Follows, Jumps}
+use Rattle.rv32_select.specs.IsSelected.{heap_base, stack_end}
+use Rattle.rv32_select.proofs.Courses.{Goes, Exits, stays, goes, exits}
+use Rattle.rv32_select.proofs.Straight.{Data, Good, at}
+use Rattle.rv32_select.proofs.FrameViews.{spots, InFrame}
+
+abbrev pub bases : (stack : ℕ) → Bases
+bases stack = record { heap = heap_base; stack = stack_end - stack }
+
+-- what stands in registers, whatever the frame
+abbrev pub regs_of : Data → Values
+regs_of d (Reg r) = d.regs r
+regs_of d (Slot k) = 0
+regs_of d Scratch = 0
+
+-- ---- words and cells
+
+-- a number stands for itself, a cell for its address
+abbrev pub word_of : (width : ℕ) → Word → ℕ
+word_of width (number k) = k
+word_of width (cell i) = heap_base + 4 * width * i
+
+-- spots hold words, one each
+abbrev pub AllHold : (width : ℕ) → List Spot → List Word → Values → Type 0
+AllHold width [] vs u = Unit {0}
+AllHold width (s ∷ ss) [] u = Unit {0}
+AllHold width (s ∷ ss) (v ∷ vs) u = (u s ≡ word_of width v) × AllHold width ss vs u
+
+-- the heap's words are those of the cells, one cell after the other, and zeros where none is taken
+pub record HoldsCells (width : ℕ) (heap : List ℕ) (cs : List (List Word)) : Type 0 where
+  pub full : (i : ℕ) (ws : List Word) → slice_get cs i ≡ Some ws → length ws ≡ width
+  pub words : (i k : ℕ) (ws : List Word) (v : Word) → slice_get cs i ≡ Some ws → slice_get ws k ≡ Some v → get_or heap (width * i + k) 0 ≡ word_of width v
+  pub zeros : (t : ℕ) → width * length cs ≤ t → get_or heap t 0 ≡ 0
+
+-- a register is the place of a variable, and procedure f leaves it
+pub record Keeps (l : Program) (a : Assignment) (f r : ℕ) : Type 0 where
+  pub variable : ℕ
+  pub among : is_among variable (all_variables l.procs) ≡ true
+  pub place : place_of a variable ≡ Reg r
+  pub low : 8 ≤ r
+  pub high : r < 32
+  pub unchanged : may_change a f r ≡ false
+
+module _ (l : Program) (a : Assignment) (cells stack : ℕ) (lay : Layout) where
+  -- the data beside a frame: the cells, the next cell and the heap's end, and what is left of the input
+  pub record HoldsWorld (d : Data) (w : World) : Type 0 where
+    pub good : Good lay.code (bases stack) d
+    pub cells_are : HoldsCells l.width d.heap w.cells
+    pub next : d.regs 3 ≡ heap_base + 4 * l.width * length w.cells
+    pub end : d.regs 4 ≡ heap_base + 4 * l.width * cells
+    pub room : length w.cells ≤ cells
+    pub globals : length l.globals ≤ length w.cells
+    pub input : IsBytes w.input
+    pub heap_words : length d.heap ≡ l.width * cells
+    pub stack_words : 4 * length d.stack ≡ stack
+
+  -- from d0 to d, procedure f has left the words of the stack from this one on, and such registers
+  pub record Untouched (f bound : ℕ) (d0 d : Data) : Type 0 where
+    pub above : (t : ℕ) → bound ≤ t → get_or d.stack t 0 ≡ get_or d0.stack t 0
+    pub others : (r : ℕ) → Keeps l a f r → d.regs r ≡ d0.regs r
+
+  -- within procedure f, whose frame's first word is the j-th of the stack and has so many slots: the places of the variables that
+  -- are needed have their words, and the return address is in the frame
+  pub record Stood (f j slots : ℕ) (d0 : Data) (link : ℕ) (Needs : ℕ → Word → Type 0) (d : Data) (w : World) : Type 0 where
+    pub world : HoldsWorld d w
+    pub frame : InFrame lay.code (bases stack) j slots d
+    pub home : get_or d.stack j 0 ≡ link
+    pub vars : (x : ℕ) (v : Word) → Needs x v → spots lay.code (bases stack) j slots d (place_of a x) ≡ word_of l.width v
+    pub untouched : Untouched f (j + (1 + slots)) d0 d
+
+  -- behind procedure f: its frame is gone, and results stand in their registers
+  pub record Back (f bound : ℕ) (d0 : Data) (to : List Spot) (vs : List Word) (d : Data) (w : World) : Type 0 where
+    pub world : HoldsWorld d w
+    pub sp : d.regs 2 ≡ (bases stack).stack + 4 * bound
+    pub untouched : Untouched f bound d0 d
+    pub results : AllHold l.width to vs (regs_of d)
+
+-- ---- the machine's way beside a run
+
+module _ (lay : Layout) (items : List Item) (begins : List ℕ) where
+  -- the machine goes from p to q while a run goes from w to w'
+  pub record Ran (p : Point) (calls : List ℕ) (w : World) (q : Point) (calls' : List ℕ) (w' : World) : Type 0 where
+    pub count : ℕ
+    pub bytes : List ℕ
+    pub labels : List ℕ
+    pub way : Goes lay items count w.input p calls bytes labels w'.input q calls'
+    pub out : w'.out ≡ w.out ++ bytes
+    pub entered : w'.entered ≡ w.entered ++ procedures_at begins labels
+    pub used : w'.used + length w'.input ≡ w.used + length w.input
+    pub left : w'.left ≤ w.left
+
+  -- and from p to an exit
+  pub record Ends (p : Point) (calls : List ℕ) (w w' : World) (code : ℕ) : Type 0 where
+    pub count : ℕ
+    pub bytes : List ℕ
+    pub labels : List ℕ
+    pub way : Exits lay items count w.input p calls bytes labels w'.input code
+    pub out : w'.out ≡ w.out ++ bytes
+    pub entered : w'.entered ≡ w.entered ++ procedures_at begins labels
+    pub used : w'.used + length w'.input ≡ w.used + length w.input
+
+  -- the machine stands at the label of a procedure, and no unit is left
+  pub record Waits (q : Point) (w : World) : Type 0 where
+    pub proc : ℕ
+    pub stands : slice_get items q.item ≡ Some (Label proc)
+    pub is_procedure : procedure_from 0 begins proc ≡ proc ∷ []
+    pub spent : w.left ≡ 0
+
+  -- what the machine does from p for a run from w that ends so; where the run gives words, this is to hold
+  abbrev pub Does' : (Given : List Word → World → Point → List ℕ → Type 0) → Point → List ℕ → World → Answer → Type 0
+  Does' Given p calls w (gives vs w') = (q : Point) × ((calls' : List ℕ) × (Ran p calls w q calls' w' × Given vs w' q calls'))
+  Does' Given p calls w (stops no_alternative w') = Ends p calls w w' 3
+  Does' Given p calls w (stops heap_full w') = Ends p calls w w' 4
+  Does' Given p calls w (stops stack_full w') = Ends p calls w w' 5
+  Does' Given p calls w (stops out_of_units w') = (q : Point) × ((calls' : List ℕ) × (Ran p calls w q calls' w' × Waits q w'))
+  Does' Given p calls w (stops missing w') = Unit {0}
+
+  procedures_append : (xs ys : List ℕ) → procedures_at begins (xs ++ ys) ≡ procedures_at begins xs ++ procedures_at begins ys
+  procedures_append [] ys = refl
+  procedures_append (x ∷ xs) ys = ap (λ l. procedure_from 0 begins x ++ l) (procedures_append xs ys) ∙ sym (append_assoc (procedure_from 0 begins x) (procedures_at begins xs) (procedures_at begins ys))
+
+  pub ran_on : {p q r : Point} {c d e : List ℕ} {w v u : World} → Ran p c w q d v → Ran q d v r e u → Ran p c w r e u
+  ran_on {p} {q} {r} {c} {d} {e} {w} {v} {u} h k = record {
+    count = h.count + k.count;
+    bytes = h.bytes ++ k.bytes;
+    labels = h.labels ++ k.labels;
+    way = goes lay items h.way k.way;
+    out = k.out ∙ ap (λ l. l ++ k.bytes) h.out ∙ append_assoc w.out h.bytes k.bytes;
+    entered = k.entered ∙ ap (λ l. l ++ procedures_at begins k.labels) h.entered
+        ∙ append_assoc w.entered (procedures_at begins h.labels) (procedures_at begins k.labels)
+        ∙ ap (λ l. w.entered ++ l) (sym (procedures_append h.labels k.labels));
+    used = k.used ∙ h.used;
+    left = let x = h.left in let y = k.left in omega arith;
+  }
+
+  pub ends_on : {p q : Point} {c d : List ℕ} {w v u : World} {code : ℕ} → Ran p c w q d v → Ends q d v u code → Ends p c w u code
+  ends_on {p} {q} {c} {d} {w} {v} {u} {code} h k = record {
+    count = h.count + k.count;
+    bytes = h.bytes ++ k.bytes;
+    labels = h.labels ++ k.labels;
+    way = exits lay items h.way k.way;
+    out = k.out ∙ ap (λ l. l ++ k.bytes) h.out ∙ append_assoc w.out h.bytes k.bytes;
+    entered = k.entered ∙ ap (λ l. l ++ procedures_at begins k.labels) h.entered
+        ∙ append_assoc w.entered (procedures_at begins h.labels) (procedures_at begins k.labels)
+        ∙ ap (λ l. w.entered ++ l) (sym (procedures_append h.labels k.labels));
+    used = k.used ∙ h.used;
+  }
+
+  -- a stretch first
+  pub does_after : (Given : List Word → World → Point → List ℕ → Type 0) {p q : Point} {c d : List ℕ} {w v : World} (x : Answer) → Ran p c w q d v → Does' Given q d v x → Does' Given p c w x
+  does_after Given (gives vs w') h k = (k.0, (k.1.0, (ran_on h k.1.1.0, k.1.1.1)))
+  does_after Given (stops no_alternative w') h k = ends_on h k
+  does_after Given (stops heap_full w') h k = ends_on h k
+  does_after Given (stops stack_full w') h k = ends_on h k
+  does_after Given (stops out_of_units w') h k = (k.0, (k.1.0, (ran_on h k.1.1.0, k.1.1.1)))
+  does_after Given (stops missing w') h k = tt
+
+  -- what holds where the run gives words may be said otherwise
+  pub does_map : (Given Given' : List Word → World → Point → List ℕ → Type 0) (p : Point) (c : List ℕ) (w : World) (x : Answer) → ((vs : List Word) (v : World) (q : Point) (d : List ℕ) → Given vs v q d → Given' vs v q d) → Does' Given p c w x → Does' Given' p c w x
+  does_map Given Given' p c w (gives vs v) h k = (k.0, (k.1.0, (k.1.1.0, h vs v k.0 k.1.0 k.1.1.1)))
+  does_map Given Given' p c w (stops no_alternative v) h k = k
+  does_map Given Given' p c w (stops heap_full v) h k = k
+  does_map Given Given' p c w (stops stack_full v) h k = k
+  does_map Given Given' p c w (stops out_of_units v) h k = k
+  does_map Given Given' p c w (stops missing v) h k = tt
+
+  -- and then what follows the words
+  pub does_then : (Given Given' : List Word → World → Point → List ℕ → Type 0) (p : Point) (c : List ℕ) (w : World) (x : Answer) (k : List Word → World → Answer) → Does' Given p c w x
+      → ((vs : List Word) (v : World) (q : Point) (d : List ℕ) → v.left ≤ w.left → Given vs v q d → Does' Given' q d v (k vs v)) → Does' Given' p c w (then_do x k)
+  does_then Given Given' p c w (gives vs v) k h more = does_after Given' (k vs v) h.1.1.0 (more vs v h.0 h.1.0 h.1.1.0.left h.1.1.1)
+  does_then Given Given' p c w (stops no_alternative v) k h more = h
+  does_then Given Given' p c w (stops heap_full v) k h more = h
+  does_then Given Given' p c w (stops stack_full v) k h more = h
+  does_then Given Given' p c w (stops out_of_units v) k h more = h
+  does_then Given Given' p c w (stops missing v) k h more = tt
+
+  nothing_more : (xs : List ℕ) → xs ≡ xs ++ []
+  nothing_more xs = grind (arith, common_steps)
+
+  -- a stretch without bytes and labels, beside which a run changes neither
+  pub quiet : {count : ℕ} {p q : Point} {c d : List ℕ} (w v : World) → Goes lay items count w.input p c [] [] w.input q d → v.out ≡ w.out → v.entered ≡ w.entered → v.input ≡ w.input → v.used ≡ w.used → v.left ≡ w.left → Ran p c w q d v
+  quiet {count} {p} {q} {c} {d} w v g out entered input used left = record {
+    count = count;
+    bytes = [];
+    labels = [];
+    way = subst (λ i. Goes lay items count w.input p c [] [] i q d) (sym input) g;
+    out = out ∙ nothing_more w.out;
+    entered = entered ∙ nothing_more w.entered;
+    used = let same = ap length input in omega arith;
+    left = omega arith;
+  }
+
+  -- a procedure is entered at its label
+  pub enters : {count : ℕ} {p q : Point} {c d : List ℕ} (f frames left : ℕ) (w : World) → procedure_from 0 begins f ≡ f ∷ [] → w.left ≡ suc left → Goes lay items count w.input p c [] (f ∷ []) w.input q d → Ran p c w q d (spent f frames left w)
+  enters {count} f frames left w is e g = record {
+    count = count;
+    bytes = [];
+    labels = f ∷ [];
+    way = g;
+    out = nothing_more w.out;
+    entered = ap (λ x. w.entered ++ (x ++ [])) (sym is);
+    used = refl;
+    left = omega arith;
+  }
+
+  -- a byte is written, and one is read or the input has ended
+  pub wrote : {count : ℕ} {p q : Point} {c d : List ℕ} (k : ℕ) (w : World) → Goes lay items count w.input p c (k % 256 ∷ []) [] w.input q d → Ran p c w q d (written k w)
+  wrote {count} k w g = record {
+    count = count;
+    bytes = k % 256 ∷ [];
+    labels = [];
+    way = g;
+    out = refl;
+    entered = nothing_more w.entered;
+    used = refl;
+    left = omega arith;
+  }
+
+  pub took : {count : ℕ} {p q : Point} {c d : List ℕ} (input : List ℕ) (w : World) → w.input ≡ input → Goes lay items count input p c [] [] (drop 1 input) q d → Ran p c w q d (byte_taken input w)
+  took {count} {p} {q} {c} {d} [] w e g = record {
+    count = count;
+    bytes = [];
+    labels = [];
+    way = subst (λ i. Goes lay items count i p c [] [] i q d) (sym e) g;
+    out = nothing_more w.out;
+    entered = nothing_more w.entered;
+    used = refl;
+    left = omega arith;
+  }
+  took {count} {p} {q} {c} {d} (x ∷ xs) w e g = record {
+    count = count;
+    bytes = [];
+    labels = [];
+    way = subst (λ i. Goes lay items count i p c [] [] xs q d) (sym e) g;
+    out = nothing_more w.out;
+    entered = nothing_more w.entered;
+    used = let same = ap length e in omega arith;
+    left = omega arith;
+  }
+
+  -- an exit at once
+  pub ends_now : {count : ℕ} {p : Point} {c : List ℕ} (w : World) (code : ℕ) → Exits lay items count w.input p c [] [] w.input code → Ends p c w w code
+  ends_now {count} w code g = record {
+    count = count;
+    bytes = [];
+    labels = [];
+    way = g;
+    out = nothing_more w.out;
+    entered = nothing_more w.entered;
+    used = refl;
+  }
+
+  -- and with labels that are no procedure's
+  pub quiet_labels : {count : ℕ} {p q : Point} {c d : List ℕ} (labels : List ℕ) (w : World) → procedures_at begins labels ≡ [] → Goes lay items count w.input p c [] labels w.input q d → Ran p c w q d w
+  quiet_labels {count} labels w none g = record {
+    count = count;
+    bytes = [];
+    labels = labels;
+    way = g;
+    out = nothing_more w.out;
+    entered = nothing_more w.entered ∙ ap (λ l. w.entered ++ l) (sym none);
+    used = refl;
+    left = omega arith;
+  }
+
+module _ (l : Program) (a : Assignment) (cells stack : ℕ) (lay : Layout) (items : List Item) where
+  -- where a block's words and the machine are behind it: returned from the procedure to item m, or at the item of a label. `Must`
+  -- says the words of the variables that are needed there
+  abbrev pub Given : (f j slots : ℕ) → (d0 : Data) → (m : ℕ) → (outer : List ℕ) → (to : List Spot) → Way → (Must : ℕ → Word → Type 0) → List Word → World → Point → List ℕ → Type 0
+  Given f j slots d0 m outer to Returns Must vs w q calls =
+      (d : Data) × ((q ≡ at (bases stack) lay items m d) × ((calls ≡ outer) × Back l a cells stack lay f (j + (1 + slots)) d0 to vs d w))
+  Given f j slots d0 m outer to (Follows n) Must vs w q calls =
+      (t : ℕ) × ((d : Data) × ((label_from 0 items n ≡ Some t) × ((q ≡ at (bases stack) lay items t d) × ((calls ≡ m ∷ outer)
+      × (Stood l a cells stack lay f j slots d0 (lay.address m) Must d w × AllHold l.width to vs (spots lay.code (bases stack) j slots d))))))
+  Given f j slots d0 m outer to (Jumps n) Must vs w q calls =
+      (t : ℕ) × ((d : Data) × ((label_from 0 items n ≡ Some t) × ((q ≡ at (bases stack) lay items t d) × ((calls ≡ m ∷ outer)
+      × (Stood l a cells stack lay f j slots d0 (lay.address m) Must d w × AllHold l.width to vs (spots lay.code (bases stack) j slots d))))))
+
+-- a variable that a block uses, and its word
+abbrev pub InUse : Code → Env → ℕ → Word → Type 0
+InUse c env x v = (is_among x (uses c) ≡ true) × (env x ≡ Some v)
+
+abbrev pub Needed : Code → Env → (Must : ℕ → Word → Type 0) → ℕ → Word → Type 0
+Needed c env Must x v = InUse c env x v ⊎ Must x v

@@ -1,0 +1,102 @@
+-- The machine does what runs of low code do: blocks by their structure, and calls by the units that are left.
+use Rattle.std.proofs.Common.{◌≡◌, ◌≢◌, ℕ, zero, suc, ◌+◌, ◌*◌, ◌<◌, ◌≤◌, List, [], ◌∷◌, ◌++◌, map, length, Some, None, ◌⊎◌, inl, inr, refl, sym, ap, ◌∙◌, subst, arith}
+use Rattle.std.specs.Prelude.{Option, slice_get}
+use Rattle.std.proofs.lemmas.Option.{slice_get_within}
+use Rattle.parallel_move.specs.declared.Spot.{Spot}
+use Rattle.low_code.specs.Tree.{Code, set, prim, load, save, take, put, get, call, join, give, tail, choose, fail, Arms, otherwise, arm, Procedure, Program}
+use Rattle.low_code.specs.Formed.{uses, arms_uses}
+use Rattle.low_code.specs.Values.{Word, Env, World, Answer, with_var, stops, out_of_units}
+use Rattle.low_code.specs.Run.{Calls, code, arms, calls}
+use Rattle.register_alloc.specs.Assignment.{Assignment, place_of, words_at}
+use Rattle.rv32_items.specs.declared.Item.{Item}
+use Rattle.rv32_items.specs.declared.Item.TheVariants.{Label}
+use Rattle.rv32_items.specs.Course.{Layout, Point, label_from, address_from}
+use Rattle.rv32_select.specs.declared.source.Way.{Way}
+use Rattle.rv32_select.specs.declared.source.Way.TheVariants.{Returns, Follows}
+use Rattle.rv32_select.specs.Emit.{result_spots}
+use Rattle.rv32_select.specs.IsSelected.{further, tests_items}
+use Rattle.rv32_select.proofs.Courses.{Stands, stays}
+use Rattle.rv32_select.proofs.Straight.{Data, at}
+use Rattle.rv32_select.proofs.Relation.{bases, Back, Does', Needed}
+use Rattle.rv32_select.proofs.PlaceFacts.{ProcedureFine, Setting}
+use Rattle.rv32_select.proofs.BlockFacts.{room, Block, Simulates, CallsSimulated}
+use Rattle.rv32_select.proofs.OneBound.{set_simulated}
+use Rattle.rv32_select.proofs.WordStatements.{prim_simulated, load_simulated, save_simulated}
+use Rattle.rv32_select.proofs.TakeStatement.{take_simulated}
+use Rattle.rv32_select.proofs.ByteStatements.{put_simulated, get_simulated}
+use Rattle.rv32_select.proofs.BlockEnds.{fail_simulated}
+use Rattle.rv32_select.proofs.GiveStatement.{give_simulated}
+use Rattle.rv32_select.proofs.TailStatement.{tail_simulated}
+use Rattle.rv32_select.proofs.CallStatement.{call_statement}
+use Rattle.rv32_select.proofs.JoinStatement.{inner, join_simulated}
+use Rattle.rv32_select.proofs.ChoiceStatement.{ArmsBlock, ArmsSimulates, arm_simulated, choice, arms_of, last_arm, last_of}
+use Rattle.rv32_select.proofs.ProcedureEntry.{NoMust}
+use Rattle.rv32_select.proofs.ProcedureCall.{waits_here, call_simulated}
+
+module _ (l : Program) (a : Assignment) (cells stack : ℕ) (lay : Layout) (items : List Item) (begins : List ℕ) (s : Setting l a cells stack lay items begins) (calls_n : Calls) (n : ℕ) (called : CallsSimulated l a cells stack lay items begins calls_n n)
+    (f : ℕ) (q : Procedure) (pf : ProcedureFine l a f q) (j m : ℕ) (outer : List ℕ) (d0 : Data) (u : ℕ) (found : address_from 0 items lay (lay.address m) ≡ Some m) (total : 4 * (j + (1 + pf.slots) + u) ≡ stack) where
+  mutual
+    pub simulate : (c : Code) (to : List Spot) (way : Way) (Must : ℕ → Word → Type 0) (k k' : ℕ) (block : List Item) (p : ℕ) (scope later : List ℕ) (env : Env) (top : ℕ) (under : Option ℕ) (d : Data) (w : World)
+        → Block l a cells stack lay items begins f q pf.slots j m outer d0 u n c to way Must k k' block p scope later env top under d w
+        → Simulates l a cells stack lay items begins f q pf.slots j m outer d0 u n calls_n c to way Must p env top under d w
+    simulate (set x o c) to way Must k k' block p scope later env top under d w b =
+        set_simulated l a cells stack lay items begins s calls_n n f q pf j m outer d0 u x o c to way Must k k' block p scope later env top under d w b
+        (λ v rest p' d' b'. simulate c to way Must k k' rest p' (x ∷ scope) later (with_var x v env) top under d' w b')
+    simulate (prim g x o o' c) to way Must k k' block p scope later env top under d w b =
+        prim_simulated l a cells stack lay items begins s calls_n n f q pf j m outer d0 u g x o o' c to way Must k k' block p scope later env top under d w b
+        (λ v rest p' d' b'. simulate c to way Must k k' rest p' (x ∷ scope) later (with_var x v env) top under d' w b')
+    simulate (load x o i c) to way Must k k' block p scope later env top under d w b =
+        load_simulated l a cells stack lay items begins s calls_n n f q pf j m outer d0 u x o i c to way Must k k' block p scope later env top under d w b
+        (λ v rest p' d' b'. simulate c to way Must k k' rest p' (x ∷ scope) later (with_var x v env) top under d' w b')
+    simulate (save o i o' c) to way Must k k' block p scope later env top under d w b =
+        save_simulated l a cells stack lay items begins s calls_n n f q pf j m outer d0 u o i o' c to way Must k k' block p scope later env top under d w b
+        (λ w' rest p' d' b'. simulate c to way Must k k' rest p' scope later env top under d' w' b')
+    simulate (take xs c) to way Must k k' block p scope later env top under d w b =
+        take_simulated l a cells stack lay items begins s calls_n n f q pf j m outer d0 u xs c to way Must k k' block p scope later env top under d w b
+        (λ env' rest p' d' w' b'. simulate c to way Must k k' rest p' (xs ++ scope) later env' top under d' w' b')
+    simulate (put o c) to way Must k k' block p scope later env top under d w b =
+        put_simulated l a cells stack lay items begins s calls_n n f q pf j m outer d0 u o c to way Must k k' block p scope later env top under d w b
+        (λ w' rest p' d' b'. simulate c to way Must k k' rest p' scope later env top under d' w' b')
+    simulate (get x c) to way Must k k' block p scope later env top under d w b =
+        get_simulated l a cells stack lay items begins s calls_n n f q pf j m outer d0 u x c to way Must k k' block p scope later env top under d w b
+        (λ v w' rest p' d' b'. simulate c to way Must k k' rest p' (x ∷ scope) later (with_var x v env) top under d' w' b')
+    simulate (call g site os xs c) to way Must k k' block p scope later env top under d w b =
+        call_statement l a cells stack lay items begins s calls_n n called f q pf j m outer d0 u found total g site os xs c to way Must k k' block p scope later env top under d w b
+        (λ rs env' d' v b'. simulate c to way Must k k' b.emits.4.0 _ (xs ++ scope) later env' top under d' v b')
+    simulate (join xs bb c) to way Must k k' block p scope later env top under d w b =
+        join_simulated l a cells stack lay items begins s calls_n n f q pf j m outer d0 u xs bb c to way Must k k' block p scope later env top under d w b
+        (simulate bb (map (place_of a) xs) (Follows k) (Needed c env Must) (suc k) b.emits.0 b.emits.1 p scope (uses c ++ later) env top None d w (inner l a cells stack lay items begins s calls_n n f q pf j m outer d0 u xs bb c to way Must k k' block p scope later env top under d w b))
+        (λ rs env' d' v b'. simulate c to way Must b.emits.0 k' b.emits.3.0 (p + length (b.emits.1 ++ Label k ∷ [])) (xs ++ scope) later env' top under d' v b')
+    simulate (give os) to way Must k k' block p scope later env top under d w b =
+        give_simulated l a cells stack lay items begins s calls_n n f q pf j m outer d0 u found os to way Must k k' block p scope later env top under d w b
+    simulate (tail g site os) to way Must k k' block p scope later env top under d w b =
+        tail_simulated l a cells stack lay items begins s calls_n n called f q pf j m outer d0 u found total g site os to way Must k k' block p scope later env top under d w b
+    simulate (choose as') to way Must k k' block p scope later env top under d w b =
+        choice l a cells stack lay items begins s calls_n n f q pf j m outer d0 u as' to way Must k k' block p scope later env top under d w
+        (simulate_arms as' to way Must k k' block p scope later env top under d w (arms_of l a cells stack lay items begins s calls_n n f q pf j m outer d0 u as' to way Must k k' block p scope later env top under d w b))
+    simulate fail to way Must k k' block p scope later env top under d w b =
+        fail_simulated l a cells stack lay items begins s calls_n n f q pf j m outer d0 u to way Must k k' block p scope later env top under d w b
+
+    pub simulate_arms : (as' : Arms) (to : List Spot) (way : Way) (Must : ℕ → Word → Type 0) (k k' : ℕ) (block : List Item) (p : ℕ) (scope later : List ℕ) (env : Env) (top : ℕ) (under : Option ℕ) (d : Data) (w : World)
+        → ArmsBlock l a cells stack lay items begins s calls_n n f q pf j m outer d0 u as' to way Must k k' block p scope later env top under d w
+        → ArmsSimulates l a cells stack lay items begins s calls_n n f q pf j m outer d0 u as' to way Must p env top under d w
+    simulate_arms (otherwise c) to way Must k k' block p scope later env top under d w b =
+        last_arm l a cells stack lay items begins s calls_n n f q pf j m outer d0 u c to way Must k k' block p scope later env top under d w
+        (simulate c to way Must k k' block p scope later env top under d w (last_of l a cells stack lay items begins s calls_n n f q pf j m outer d0 u c to way Must k k' block p scope later env top under d w b))
+    simulate_arms (arm ts c as') to way Must k k' block p scope later env top under d w b =
+        arm_simulated l a cells stack lay items begins s calls_n n f q pf j m outer d0 u ts c as' to way Must k k' block p scope later env top under d w b
+        (λ d' b'. simulate c to (further way) Must (suc k) b.emits.0 b.emits.1 (p + length (tests_items l a cells stack k ts)) scope later env top under d' w b')
+        (λ d' b'. simulate_arms as' to way Must b.emits.0 k' b.emits.3.0 (p + length (tests_items l a cells stack k ts ++ (b.emits.1 ++ Label k ∷ []))) scope later env top under d' w b')
+
+module _ (l : Program) (a : Assignment) (cells stack : ℕ) (lay : Layout) (items : List Item) (begins : List ℕ) (s : Setting l a cells stack lay items begins) where
+  -- calls with so many units
+  pub calls_simulated : (n : ℕ) → CallsSimulated l a cells stack lay items begins (calls l (words_at a) (room l a cells stack lay items begins) n) n
+  unfolding calls
+  calls_simulated zero f q t m outer vs under bound w d is_q found h sp total link home args units =
+      waits_here l a cells stack lay items begins s f q t (m ∷ outer) d w (λ rs w' p calls'. (d' : Data) × ((p ≡ at (bases stack) lay items m d') × ((calls' ≡ outer) × (Back l a cells stack lay f bound d (result_spots 10 q.results) rs d' w' × (length rs ≡ q.results))))) is_q found (omega arith)
+  calls_simulated (suc n) f q t m outer vs under bound w d is_q found h sp total link home args units =
+      let more = calls_simulated n in
+      call_simulated l a cells stack lay items begins s n f q (s.fine f q is_q)
+      (λ j m' outer' d0 u k k' block p env d' w' found' total' b.
+      simulate l a cells stack lay items begins s (calls l (words_at a) (room l a cells stack lay items begins) n) n more f q (s.fine f q is_q) j m' outer' d0 u found' total' q.body (result_spots 10 q.results) Returns (NoMust l a cells stack lay items begins s f q (s.fine f q is_q)) k k' block p q.params [] env (u + words_at a f) (Some u) d' w' b)
+      t m outer vs under bound w d is_q found h sp total link home args units

@@ -1,0 +1,172 @@
+-- The items that stand for low code, statement by statement, where moves may be done in any order that does them at once.
+use Rattle.std.specs.Prelude.{◌≡◌, ℕ, suc, ◌+◌, ◌-◌, ◌*◌, ◌%◌, ◌^◌, ◌≤◌, Bool, true, false, List, [], ◌∷◌, ◌++◌, map, length, Option, Some, None, slice_get}
+use Rattle.parallel_move.specs.declared.Spot.{Spot}
+use Rattle.parallel_move.specs.declared.Move.{Move}
+use Rattle.parallel_move.specs.Moves.{DoesAtOnce, ends, StaysAmong}
+use Rattle.low_code.specs.declared.program.Operand.{Operand}
+use Rattle.low_code.specs.declared.program.Operand.TheVariants.{Var, Num, Cell}
+use Rattle.low_code.specs.declared.program.LowTest.{LowTest}
+use Rattle.low_code.specs.Tree.{Code, set, prim, load, save, take, put, get, call, join, give, tail, choose, fail, Arms, otherwise, arm, Procedure, Program}
+use Rattle.low_code.specs.Formed.{variables}
+use Rattle.register_alloc.specs.Assignment.{Assignment, place_of, saves_at, words_at}
+use Rattle.register_alloc.specs.Fits.{slots_of}
+use Rattle.rv32_items.specs.declared.Item.{Item}
+use Rattle.rv32_items.specs.declared.Item.TheVariants.{Label, Jump}
+use Rattle.rv32_select.specs.declared.source.Source.{Source}
+use Rattle.rv32_select.specs.declared.source.Source.TheVariants.{At, Number}
+use Rattle.rv32_select.specs.declared.source.Way.{Way}
+use Rattle.rv32_select.specs.declared.source.Way.TheVariants.{Returns, Follows, Jumps}
+use Rattle.rv32_select.specs.Emit.{plain, moves_code, spot_moves, number_moves, set_code, prim_code, load_code, save_code, take_items, put_code, get_code, exit_with, argument_spots, result_spots, entry_items, leave_code, return_items, save_moves, restore_moves, test_items, start_items, stop_items}
+
+-- the heap's first address, and the end of the frames
+abbrev pub heap_base : ℕ
+heap_base = 0x50000000
+
+abbrev pub stack_end : ℕ
+stack_end = 0x78000000
+
+-- steps that do moves at once, and go between no other spots
+pub record IsOrder (steps moves : List Move) : Type 0 where
+  pub once : DoesAtOnce steps moves
+  pub few : ends steps ≤ 2 * length moves
+  pub among : StaysAmong steps moves
+
+-- a piece of items, and then others
+abbrev pub Then : (piece : List Item) → (List Item → Type 0) → List Item → Type 0
+Then piece Rest items = (rest : List Item) × (items ≡ piece ++ rest) × Rest rest
+
+-- moves from one list of spots to another
+abbrev pub moves_between : (to from : List Spot) → List Move
+moves_between [] from = []
+moves_between (t ∷ to) [] = []
+moves_between (t ∷ to) (s ∷ from) = record { to = t; from = s } ∷ moves_between to from
+
+-- the way where other items come before the label
+abbrev pub further : Way → Way
+further Returns = Returns
+further (Follows label) = Jumps label
+further (Jumps label) = Jumps label
+
+abbrev pub way_out : (words : ℕ) → Way → List Item
+way_out words Returns = return_items words
+way_out words (Follows label) = []
+way_out words (Jumps label) = Jump 0 label ∷ []
+
+module _ (l : Program) (a : Assignment) (cells stack : ℕ) where
+  -- the bytes of a cell, and the heap's end
+  abbrev pub step : ℕ
+  step = 4 * l.width
+
+  abbrev pub heap_end : ℕ
+  heap_end = heap_base + step * cells
+
+  -- the labels of procedures are their numbers; then come those of the stops
+  abbrev pub no_alternative : ℕ
+  no_alternative = length l.procs
+
+  abbrev pub heap_full : ℕ
+  heap_full = 1 + length l.procs
+
+  abbrev pub stack_full : ℕ
+  stack_full = 2 + length l.procs
+
+  abbrev pub first_label : ℕ
+  first_label = 3 + length l.procs
+
+  abbrev pub places : List ℕ → List Spot
+  places xs = map (place_of a) xs
+
+  abbrev pub source : Operand → Source
+  source (Var x) = At (place_of a x)
+  source (Num k) = Number k
+  source (Cell i) = Number ((heap_base + step * i) % 2 ^ 32)
+
+  abbrev pub sources : List Operand → List Source
+  sources as' = map source as'
+
+  -- the spots in which a procedure takes its arguments and gives its results
+  abbrev pub params_of : Option Procedure → List Spot
+  params_of None = []
+  params_of (Some q) = argument_spots 0 (places q.params)
+
+  abbrev pub argument_spots_of : (proc : ℕ) → List Spot
+  argument_spots_of f = params_of (slice_get l.procs f)
+
+  abbrev pub results_of : Option Procedure → ℕ
+  results_of None = 0
+  results_of (Some q) = q.results
+
+  abbrev pub result_spots_of : (proc : ℕ) → List Spot
+  result_spots_of f = result_spots 10 (results_of (slice_get l.procs f))
+
+  abbrev pub tests_items : (next : ℕ) → List LowTest → List Item
+  tests_items next [] = []
+  tests_items next (t ∷ ts) = test_items next (source t.left) t.right ++ tests_items next ts
+
+  -- in a procedure whose frame has so many words, of which the slots from `saved` on are for saved registers
+  module _ (words saved : ℕ) where
+    -- a call: registers are saved, arguments go to their spots, results to their variables, and registers come back
+    abbrev pub call_items : (proc : ℕ) → List Operand → (registers : List ℕ) → (arguments results : List Move) → List Item
+    call_items f as' registers arguments results =
+        plain (moves_code (save_moves saved registers) ++ (moves_code arguments ++ number_moves (argument_spots_of f) (sources as')))
+        ++ Jump 1 f ∷ plain (moves_code results ++ moves_code (restore_moves saved registers))
+
+    abbrev mutual
+      -- the items of a block that gives its words to these spots and goes this way then; n is the first label of its own, and m
+      -- the next one behind them
+      pub Emits : (to : List Spot) → Way → Code → (n m : ℕ) → List Item → Type 0
+      Emits to way (set x b c) n m items = Then (plain (set_code (place_of a x) (source b))) (Emits to way c n m) items
+      Emits to way (prim f x b d c) n m items = Then (plain (prim_code f (place_of a x) (source b) (source d))) (Emits to way c n m) items
+      Emits to way (load x b k c) n m items = Then (plain (load_code (place_of a x) (source b) k)) (Emits to way c n m) items
+      Emits to way (save b k d c) n m items = Then (plain (save_code (source b) k (source d))) (Emits to way c n m) items
+      Emits to way (take xs c) n m items = Then (take_items step heap_full (places xs)) (Emits to way c n m) items
+      Emits to way (put b c) n m items = Then (plain (put_code heap_end (source b))) (Emits to way c n m) items
+      Emits to way (get x c) n m items = Then (plain (get_code heap_end (place_of a x))) (Emits to way c n m) items
+      Emits to way (call f site as' xs c) n m items =
+          (arguments results : List Move)
+          × IsOrder arguments (spot_moves (argument_spots_of f) (sources as'))
+          × IsOrder results (moves_between (places xs) (result_spots_of f))
+          × Then (call_items f as' (saves_at a site) arguments results) (Emits to way c n m) items
+      Emits to way (join xs b c) n m items =
+          (k : ℕ) × (block : List Item) × Emits (places xs) (Follows n) b (suc n) k block × Then (block ++ Label n ∷ []) (Emits to way c k m) items
+      Emits to way (give as') n m items =
+          (m ≡ n) × (steps : List Move) × IsOrder steps (spot_moves to (sources as'))
+          × (items ≡ plain (moves_code steps ++ number_moves to (sources as')) ++ way_out words way)
+      Emits to way (tail f site as') n m items =
+          (m ≡ n) × (steps : List Move) × IsOrder steps (spot_moves (argument_spots_of f) (sources as'))
+          × (items ≡ plain (moves_code steps ++ (number_moves (argument_spots_of f) (sources as') ++ leave_code words)) ++ Jump 0 f ∷ [])
+      Emits to way (choose as') n m items = EmitsArms to way as' n m items
+      Emits to way fail n m items = (m ≡ n) × (items ≡ Jump 0 no_alternative ∷ [])
+
+      pub EmitsArms : (to : List Spot) → Way → Arms → (n m : ℕ) → List Item → Type 0
+      EmitsArms to way (otherwise c) n m items = Emits to way c n m items
+      EmitsArms to way (arm ts c as') n m items =
+          (k : ℕ) × (block : List Item) × Emits to (further way) c (suc n) k block
+          × Then (tests_items n ts ++ (block ++ Label n ∷ [])) (EmitsArms to way as' k m) items
+
+  -- procedure f: its entry, and its block
+  pub record EmitsProcedure (f : ℕ) (q : Procedure) (n m : ℕ) (items : List Item) : Type 0 where
+    pub block : List Item
+    pub body : Emits (words_at a f) (slots_of (place_of a) (variables q)) (result_spots 10 q.results) Returns q.body n m block
+    pub is : items ≡ entry_items f (words_at a f) (stack_end - stack) stack_full (places q.params) ++ block
+
+  -- the procedures from number f on
+  abbrev pub EmitsProcedures : (f : ℕ) → List Procedure → (n m : ℕ) → List Item → Type 0
+  EmitsProcedures f [] n m items = (m ≡ n) × (items ≡ [])
+  EmitsProcedures f (q ∷ qs) n m items =
+      (k : ℕ) × (first rest : List Item) × EmitsProcedure f q n k first × EmitsProcedures (suc f) qs k m rest × (items ≡ first ++ rest)
+
+  abbrev pub start_argument : Option ℕ → List Operand
+  start_argument None = []
+  start_argument (Some i) = Cell i ∷ []
+
+  -- the call of the start, and the exit behind it
+  abbrev pub first_call : List Item
+  first_call = plain (number_moves (argument_spots_of l.start) (sources (start_argument l.argument))) ++ Jump 1 l.start ∷ exit_with 0
+
+  pub record IsSelected (items : List Item) : Type 0 where
+    pub last : ℕ
+    pub procedures : List Item
+    pub each : EmitsProcedures 0 l.procs first_label last procedures
+    pub is : items ≡ (start_items stack_end heap_base heap_end step heap_full l.globals ++ first_call)
+        ++ (procedures ++ stop_items no_alternative)

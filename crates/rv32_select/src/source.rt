@@ -1,0 +1,19 @@
+// What operands are, and where blocks go.
+
+use parallel_move::Spot;
+
+/// What an operand is: the word at a spot, or a number.
+#[derive(Clone, Copy, Debug, PartialEq, Eq)]
+pub enum Source {
+    At(Spot),
+    Number(u32),
+}
+
+/// Where a block goes once it has given its words: it returns from its procedure, or goes on at a label, which follows in the
+/// items or is jumped to.
+#[derive(Clone, Copy, Debug, PartialEq, Eq)]
+pub enum Way {
+    Returns,
+    Follows(u32),
+    Jumps(u32),
+}
