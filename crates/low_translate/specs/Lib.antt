@@ -1,4 +1,3 @@
-pub mod Told
 pub mod Lowers
 pub mod Translation
 pub mod Lowered
