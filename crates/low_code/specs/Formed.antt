@@ -164,8 +164,8 @@ Starts p None a = ⊥
 Starts p (Some q) None = q.params ≡ []
 Starts p (Some q) (Some i) = (length q.params ≡ 1) × (i < length p.globals)
 
--- variables and sites of calls are unique in the whole program, each variable is bound before its uses, and procedures and
--- globals are in range
+-- no variable and no site of a call stands twice in a program, uses come below what binds them, and each procedure and global
+-- that is named is there
 pub record Formed (p : Program) : Type 0 where
   pub variables_once : Distinct (all_variables p.procs)
   pub sites_once : Distinct (all_sites p.procs)
