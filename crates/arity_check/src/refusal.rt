@@ -29,7 +29,7 @@ pub enum CheckRefusal {
     /// Rule 16: a default is followed by an alternative; the default's name.
     #[error("the default at byte {0} is not the last alternative")]
     DefaultNotLast(u32),
-    /// Rule 17: a constructor or an integer has a second alternative in one case; the second one.
+    /// Rule 17: a case names a constructor or an integer twice; the second alternative.
     #[error("the alternative at byte {0} stands again")]
     DuplicateAlternative(u32),
     /// Rule 18: a pattern's kind differs from that of the first pattern that is no default; that pattern.

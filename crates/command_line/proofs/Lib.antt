@@ -2,6 +2,9 @@ mod Words
 mod Lists
 mod Digits
 mod Walks
+mod Entries
+mod Gathering
+mod Forms
 mod Table
 mod Said
 mod Order

@@ -1,11 +1,11 @@
 -- Parts are gathered in any order.
-use Rattle.std.proofs.Common.{◌≡◌, ℕ, false, List, [], ◌∷◌, ◌++◌, codes, Option, Some, None, refl, sym, ap, ◌∙◌}
-use Rattle.std.specs.Option.{option_and_then}
-use Rattle.std.specs.Str.{bytes_eq}
+use Rattle.std.proofs.Common.{◌≡◌, ℕ, List, [], ◌∷◌, ◌++◌, Option, Some, None, refl, sym, ap, ◌∙◌}
+use Rattle.std.specs.Option.{option_map, option_and_then}
 use Rattle.command_line.specs.Parts.{Part, Setting, Operand}
 use Rattle.command_line.specs.Laws.{OrderIsFree}
-use Rattle.command_line.specs.Walk.{Said, nothing_said, with_part, gathered, chosen}
-use Rattle.command_line.proofs.Table.{IsName, IsAfter, IsSteps, IsOther, name_is, chosen_from}
+use Rattle.command_line.specs.Walk.{Entry, Said, nothing_said, with_value, with_part, gathered, chosen}
+use Rattle.command_line.proofs.Entries.{exchange}
+use Rattle.command_line.proofs.Table.{chosen_from}
 
 -- with one part and then another
 abbrev both : Said → Part → Part → Option Said
@@ -14,70 +14,39 @@ both s a b = option_and_then (λ t. with_part t b) (with_part s a)
 abbrev Commute : Said → Part → Part → Type 0
 Commute s a b = both s a b ≡ both s b a
 
-abbrev said_by : (operand after steps : Option (List ℕ)) → Said
-said_by operand after steps = record { operand = operand; after = after; steps = steps }
+abbrev said_by : Option (List ℕ) → List Entry → Said
+said_by operand entries = record { operand = operand; entries = entries }
 
-operands : (o a s : Option (List ℕ)) (x y : List ℕ) → Commute (said_by o a s) (Operand x) (Operand y)
-operands None a s x y = refl
-operands (Some z) a s x y = refl
+two_operands : (held : Option (List ℕ)) (entries : List Entry) (x y : List ℕ) → Commute (said_by held entries) (Operand x) (Operand y)
+two_operands None entries x y = refl
+two_operands (Some old) entries x y = refl
 
-operand_after : (o a s : Option (List ℕ)) (x y : List ℕ) → Commute (said_by o a s) (Operand x) (Setting (codes "after") y)
-operand_after None None s x y = refl
-operand_after None (Some z) s x y = refl
-operand_after (Some z) None s x y = refl
-operand_after (Some z) (Some w) s x y = refl
+-- an operand before or behind new entries
+operand_then : (held : Option (List ℕ)) (entries : List Entry) (text name value : List ℕ) (o : Option (List Entry)) → with_value entries name value ≡ o
+    → Commute (said_by held entries) (Operand text) (Setting name value)
+operand_then None entries text name value None is = rw is refl
+operand_then None entries text name value (Some new) is = rw is refl
+operand_then (Some old) entries text name value None is = rw is refl
+operand_then (Some old) entries text name value (Some new) is = rw is refl
 
-operand_steps : (o a s : Option (List ℕ)) (x y : List ℕ) → Commute (said_by o a s) (Operand x) (Setting (codes "steps") y)
-operand_steps None a None x y = refl
-operand_steps None a (Some z) x y = refl
-operand_steps (Some z) a None x y = refl
-operand_steps (Some z) a (Some w) x y = refl
+-- two settings touch the entries alone
+both_settings : (held : Option (List ℕ)) (o : Option (List Entry)) (name value : List ℕ)
+    → option_and_then (λ t. with_part t (Setting name value)) (option_map (said_by held) o)
+    ≡ option_map (said_by held) (option_and_then (λ new. with_value new name value) o)
+both_settings held None name value = refl
+both_settings held (Some new) name value = refl
 
-afters : (o a s : Option (List ℕ)) (x y : List ℕ) → Commute (said_by o a s) (Setting (codes "after") x) (Setting (codes "after") y)
-afters o None s x y = refl
-afters o (Some z) s x y = refl
-
-after_steps : (o a s : Option (List ℕ)) (x y : List ℕ) → Commute (said_by o a s) (Setting (codes "after") x) (Setting (codes "steps") y)
-after_steps o None None x y = refl
-after_steps o None (Some z) x y = refl
-after_steps o (Some z) None x y = refl
-after_steps o (Some z) (Some w) x y = refl
-
-stepss : (o a s : Option (List ℕ)) (x y : List ℕ) → Commute (said_by o a s) (Setting (codes "steps") x) (Setting (codes "steps") y)
-stepss o a None x y = refl
-stepss o a (Some z) x y = refl
-
--- a part that nothing takes
-unknown : (s : Said) (name value : List ℕ) → bytes_eq name (codes "after") ≡ false → bytes_eq name (codes "steps") ≡ false → with_part s (Setting name value) ≡ None
-unknown s name value is is' = rw (is, is') refl
-
-none_then : (o : Option Said) (f : Said → Option Said) → ((t : Said) → f t ≡ None) → option_and_then f o ≡ None
-none_then None f none = refl
-none_then (Some t) f none = none t
-
-unknown_commutes : (s : Said) (a : Part) (name value : List ℕ) → bytes_eq name (codes "after") ≡ false → bytes_eq name (codes "steps") ≡ false → Commute s a (Setting name value)
-unknown_commutes s a name value is is' =
-    none_then (with_part s a) (λ t. with_part t (Setting name value)) (λ t. unknown t name value is is')
-    ∙ sym (ap (option_and_then (λ t. with_part t a)) (unknown s name value is is'))
-
-operand_setting : (s : Said) (text name value : List ℕ) → IsName name → Commute s (Operand text) (Setting name value)
-operand_setting s text name value (IsAfter is) = rw is (operand_after s.operand s.after s.steps text value)
-operand_setting s text name value (IsSteps is) = rw is (operand_steps s.operand s.after s.steps text value)
-operand_setting s text name value (IsOther is is') = unknown_commutes s (Operand text) name value is is'
-
-settings : (s : Said) (name value name' value' : List ℕ) → IsName name → IsName name' → Commute s (Setting name value) (Setting name' value')
-settings s name value name' value' first (IsOther is is') = unknown_commutes s (Setting name value) name' value' is is'
-settings s name value name' value' (IsOther is is') second = sym (unknown_commutes s (Setting name' value') name value is is')
-settings s name value name' value' (IsAfter is) (IsAfter is') = rw (is, is') (afters s.operand s.after s.steps value value')
-settings s name value name' value' (IsAfter is) (IsSteps is') = rw (is, is') (after_steps s.operand s.after s.steps value value')
-settings s name value name' value' (IsSteps is) (IsAfter is') = rw (is, is') (sym (after_steps s.operand s.after s.steps value' value))
-settings s name value name' value' (IsSteps is) (IsSteps is') = rw (is, is') (stepss s.operand s.after s.steps value value')
+two_settings : (held : Option (List ℕ)) (entries : List Entry) (name value name' value' : List ℕ) → Commute (said_by held entries) (Setting name value) (Setting name' value')
+two_settings held entries name value name' value' =
+    both_settings held (with_value entries name value) name' value'
+    ∙ (ap (option_map (said_by held)) (exchange entries name value name' value')
+    ∙ sym (both_settings held (with_value entries name' value') name value))
 
 commute : (s : Said) (a b : Part) → Commute s a b
-commute s (Operand x) (Operand y) = operands s.operand s.after s.steps x y
-commute s (Operand x) (Setting name value) = operand_setting s x name value (name_is name)
-commute s (Setting name value) (Operand x) = sym (operand_setting s x name value (name_is name))
-commute s (Setting name value) (Setting name' value') = settings s name value name' value' (name_is name) (name_is name')
+commute s (Operand x) (Operand y) = two_operands s.operand s.entries x y
+commute s (Operand x) (Setting name value) = operand_then s.operand s.entries x name value (with_value s.entries name value) refl
+commute s (Setting name value) (Operand x) = sym (operand_then s.operand s.entries x name value (with_value s.entries name value) refl)
+commute s (Setting name value) (Setting name' value') = two_settings s.operand s.entries name value name' value'
 
 gathered_both : (s : Said) (a b : Part) (back : List Part) → gathered s (a ∷ b ∷ back) ≡ option_and_then (λ t. gathered t back) (both s a b)
 gathered_both s a b back = by_part (with_part s a) where

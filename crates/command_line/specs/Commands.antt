@@ -6,20 +6,20 @@ use Rattle.std.specs.Str.{bytes_eq}
 use Rattle.command_line.specs.Numbers.{number_within}
 use Rattle.command_line.specs.Parts.{Part, Setting, Operand, parts_of}
 use Rattle.command_line.specs.declared.command.Listing.{Listing}
-use Rattle.command_line.specs.declared.command.Listing.TheVariants.{Read, Translate, Eval, Apply}
+use Rattle.command_line.specs.declared.command.Listing.TheVariants.{Read, Translate, Eval, Apply, Vectorise}
 use Rattle.command_line.specs.declared.command.Command.{Command}
 use Rattle.command_line.specs.declared.command.Command.TheVariants.{Run, Check, List as Listed, Exec}
 
 -- what a command line asks for
 pub data CommandLine : Type 0 where
-  RunFile : (file : List ℕ) → CommandLine
+  RunFile : (file : List ℕ) → (cells stack steps : ℕ) → CommandLine
   CheckFile : (file : List ℕ) → CommandLine
   ListFile : (file : List ℕ) → (after : Listing) → CommandLine
   ExecImage : (image : List ℕ) → (steps : ℕ) → CommandLine
 
 -- what a command asks for
 abbrev pub asked_by : Command → CommandLine
-asked_by (Run file) = RunFile file.now
+asked_by (Run file cells stack steps) = RunFile file.now cells stack steps
 asked_by (Check file) = CheckFile file.now
 asked_by (Listed file after) = ListFile file.now after
 asked_by (Exec image steps) = ExecImage image.now steps
@@ -31,7 +31,8 @@ listing_of word =
     else (if bytes_eq word (codes "translate") then Some Translate
     else (if bytes_eq word (codes "eval") then Some Eval
     else (if bytes_eq word (codes "apply") then Some Apply
-    else None)))
+    else (if bytes_eq word (codes "vectorise") then Some Vectorise
+    else None))))
 
 -- the operands of the parts, in order
 abbrev pub operands : List Part → List (List ℕ)
@@ -57,41 +58,78 @@ only [] = None
 only (x ∷ []) = Some x
 only (x ∷ y ∷ rest) = None
 
--- The number of instructions that the values of `--steps` say: 1,000,000,000 where there is none.
-abbrev pub steps_of : List (List ℕ) → Option ℕ
-steps_of [] = Some 1000000000
-steps_of (value ∷ []) = number_within 1 1000000000000 value
-steps_of (value ∷ other ∷ rest) = None
+-- The number that the values of an option write: the default where there is none.
+abbrev pub number_of : (default least most : ℕ) → List (List ℕ) → Option ℕ
+number_of default least most [] = Some default
+number_of default least most (value ∷ []) = number_within least most value
+number_of default least most (value ∷ other ∷ rest) = None
 
--- the command that the one operand of the parts makes, where every option is among these
-abbrev pub with_operand : (options : List (List ℕ)) → (List ℕ → Option CommandLine) → List Part → Option CommandLine
-with_operand options command parts = if takes_only options parts then option_and_then command (only (operands parts)) else None
+-- the values that are given to each option
+abbrev pub Given : Type 0
+Given = (option : List ℕ) → List (List ℕ)
 
--- `run FILE`
-abbrev pub run_of : List Part → Option CommandLine
-run_of parts = with_operand [] (λ file. Some (RunFile file)) parts
+-- the cells of the heap, by `--heap`
+abbrev pub cells_of : Given → Option ℕ
+cells_of given = number_of 1000000 1 8000000 (given (codes "heap"))
+
+-- the bytes of the stack, by `--stack`, a multiple of four or not
+abbrev pub stack_of : Given → Option ℕ
+stack_of given = number_of 1048576 1024 67108864 (given (codes "stack"))
+
+-- the number of instructions, by `--steps`
+abbrev pub steps_of : Given → Option ℕ
+steps_of given = number_of 1000000000 1 1000000000000 (given (codes "steps"))
+
+-- a form of command: its options, and what it asks for by their values and its one operand
+pub record Form : Type 0 where
+  pub options : List (List ℕ)
+  pub asks : Given → (operand : List ℕ) → Option CommandLine
+
+-- `run FILE`, with or without `--heap N`, `--stack N` and `--steps N`
+abbrev pub run_form : Form
+run_form = record {
+  options = codes "heap" ∷ codes "stack" ∷ codes "steps" ∷ [];
+  asks = λ given file. option_and_then (λ cells. option_and_then (λ stack.
+      option_map (RunFile file cells stack) (steps_of given)) (stack_of given)) (cells_of given);
+}
 
 -- `check FILE`
-abbrev pub check_of : List Part → Option CommandLine
-check_of parts = with_operand [] (λ file. Some (CheckFile file)) parts
+abbrev pub check_form : Form
+check_form = record { options = []; asks = λ given file. Some (CheckFile file) }
 
 -- `list FILE --after PASS`
-abbrev pub list_of : List Part → Option CommandLine
-list_of parts =
-    with_operand (codes "after" ∷ []) (λ file. option_map (ListFile file) (option_and_then listing_of (only (values (codes "after") parts)))) parts
+abbrev pub list_form : Form
+list_form = record {
+  options = codes "after" ∷ [];
+  asks = λ given file. option_map (ListFile file) (option_and_then listing_of (only (given (codes "after"))));
+}
 
 -- `exec IMAGE`, with or without `--steps N`
-abbrev pub exec_of : List Part → Option CommandLine
-exec_of parts = with_operand (codes "steps" ∷ []) (λ image. option_map (ExecImage image) (steps_of (values (codes "steps") parts))) parts
+abbrev pub exec_form : Form
+exec_form = record {
+  options = codes "steps" ∷ [];
+  asks = λ given image. option_map (ExecImage image) (steps_of given);
+}
+
+-- what a function says of the form that has this name, if there is one
+abbrev pub by_name : (ask : Form → Option CommandLine) → (name : List ℕ) → Option CommandLine
+by_name ask name =
+    if bytes_eq name (codes "run") then ask run_form
+    else (if bytes_eq name (codes "check") then ask check_form
+    else (if bytes_eq name (codes "list") then ask list_form
+    else (if bytes_eq name (codes "exec") then ask exec_form
+    else None)))
+
+-- what parts with one operand, and with options of the form alone, ask for
+abbrev pub asked : List Part → Form → Option CommandLine
+asked parts form =
+    if takes_only form.options parts
+    then option_and_then (form.asks (λ option. values option parts)) (only (operands parts))
+    else None
 
 -- the command of this name with these parts
 abbrev pub command_from : (name : List ℕ) → List Part → Option CommandLine
-command_from name parts =
-    if bytes_eq name (codes "run") then run_of parts
-    else (if bytes_eq name (codes "check") then check_of parts
-    else (if bytes_eq name (codes "list") then list_of parts
-    else (if bytes_eq name (codes "exec") then exec_of parts
-    else None)))
+command_from name parts = by_name (asked parts) name
 
 -- a word without a byte
 abbrev pub is_empty : List ℕ → Bool

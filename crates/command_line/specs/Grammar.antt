@@ -3,7 +3,7 @@ use Rattle.std.specs.Prelude.{◌≡◌, ◌≢◌, ℕ, Bool, true, false, not,
 use Rattle.std.specs.List.{list_any}
 use Rattle.command_line.specs.Parts.{Part, Setting, Operand, is_dash, is_equals, begins_with_dash}
 
--- While no `--` stands before it, a word of two or more bytes that begins with `-` is no operand.
+-- A word that begins with `-` and goes on is no operand, unless a `--` came earlier.
 abbrev pub is_operand : List ℕ → Bool
 is_operand [] = true
 is_operand (b ∷ []) = true

@@ -1,10 +1,10 @@
 -- What the functions inside the crate compute: the walk over the words, one at a time, and the table over what it has gathered.
-use Rattle.std.specs.Prelude.{ℕ, ◌&&◌, List, [], ◌∷◌, codes, Option, Some, None, is_none, if◌then◌else◌}
+use Rattle.std.specs.Prelude.{ℕ, ◌&&◌, ◌||◌, Bool, true, List, [], ◌∷◌, map, codes, Option, Some, None, is_none, option_to_list, if◌then◌else◌}
+use Rattle.std.specs.List.{list_any}
 use Rattle.std.specs.Option.{option_map, option_and_then, option_copied}
 use Rattle.std.specs.Str.{bytes_eq}
-use Rattle.command_line.specs.Numbers.{number_within}
 use Rattle.command_line.specs.Parts.{Part, Setting, Operand, Word, Plain, Joined, Named, End, Unknown, begins_with_dash, word_of}
-use Rattle.command_line.specs.Commands.{CommandLine, RunFile, CheckFile, ListFile, ExecImage, listing_of}
+use Rattle.command_line.specs.Commands.{CommandLine, Form, by_name}
 use Rattle.command_line.specs.declared.word.Word as code
 use Rattle.command_line.specs.declared.word.Word.TheVariants as word
 use Rattle.command_line.specs.declared.arguments.Arguments.{Arguments}
@@ -20,28 +20,53 @@ word_seen (word.Named name) = Named name.now
 word_seen word.End = End
 word_seen word.Unknown = Unknown
 
+-- an option, and its value where it has one
+pub record Entry : Type 0 where
+  pub name : List ℕ
+  pub value : Option (List ℕ)
+
 -- the operand and the values of the options, each at most once
 pub record Said : Type 0 where
   pub operand : Option (List ℕ)
-  pub after : Option (List ℕ)
-  pub steps : Option (List ℕ)
+  pub entries : List Entry
+
+-- an option without a value
+abbrev pub unset : (name : List ℕ) → Entry
+unset name = record { name = name; value = None }
+
+-- the options of all commands
+abbrev pub option_names : List (List ℕ)
+option_names = codes "after" ∷ codes "heap" ∷ codes "stack" ∷ codes "steps" ∷ []
 
 abbrev pub nothing_said : Said
-nothing_said = record { operand = None; after = None; steps = None }
+nothing_said = record { operand = None; entries = map unset option_names }
 
 abbrev pub said : Arguments → Said
-said a = record { operand = option_copied a.operand; after = option_copied a.after; steps = option_copied a.steps }
+said a = record {
+  operand = option_copied a.operand;
+  entries = record { name = codes "after"; value = option_copied a.after }
+      ∷ record { name = codes "heap"; value = option_copied a.heap }
+      ∷ record { name = codes "stack"; value = option_copied a.stack }
+      ∷ record { name = codes "steps"; value = option_copied a.steps }
+      ∷ [];
+}
 
 -- with one operand more
 abbrev pub with_operand : Said → (text : List ℕ) → Option Said
-with_operand s text = if is_none s.operand then Some (record { operand = Some text; after = s.after; steps = s.steps }) else None
+with_operand s text = if is_none s.operand then Some (record { operand = Some text; entries = s.entries }) else None
+
+-- the entries with the value of one option more, which has none and stands among them
+abbrev pub with_value : List Entry → (name value : List ℕ) → Option (List Entry)
+with_value [] name value = None
+with_value (entry ∷ entries) name value =
+    if bytes_eq name entry.name
+    then (if is_none entry.value then Some (record { name = entry.name; value = Some value } ∷ entries) else None)
+    else option_map (λ others. entry ∷ others) (with_value entries name value)
 
 -- with the value of one option more
 abbrev pub with_setting : Said → (name value : List ℕ) → Option Said
 with_setting s name value =
-    if bytes_eq name (codes "after") && is_none s.after then Some (record { operand = s.operand; after = Some value; steps = s.steps })
-    else (if bytes_eq name (codes "steps") && is_none s.steps then Some (record { operand = s.operand; after = s.after; steps = Some value })
-    else None)
+    option_map (λ entries. record { operand = s.operand; entries = entries }) (with_value s.entries name value)
 
 -- with one part more
 abbrev pub with_part : Said → Part → Option Said
@@ -92,30 +117,23 @@ walked p text = elim p.next [
   | Rest ↦ option_map (before Rest) (with_operand p.arguments text)
 ]
 
--- the number of instructions that the value of `--steps` says
-abbrev pub steps_said : Option (List ℕ) → Option ℕ
-steps_said None = Some 1000000000
-steps_said (Some text) = number_within 1 1000000000000 text
+-- the value of an option, if it has one
+abbrev pub value_of : List Entry → (option : List ℕ) → Option (List ℕ)
+value_of [] option = None
+value_of (entry ∷ entries) option = if bytes_eq option entry.name then entry.value else value_of entries option
 
--- `run`, `check`, `list` and `exec` with what is said
-abbrev pub run_said : Said → Option CommandLine
-run_said s = if is_none s.after && is_none s.steps then option_map RunFile s.operand else None
+-- no option has a value but these
+abbrev pub sets_only : (options : List (List ℕ)) → List Entry → Bool
+sets_only options [] = true
+sets_only options (entry ∷ entries) = (list_any (bytes_eq entry.name) options || is_none entry.value) && sets_only options entries
 
-abbrev pub check_said : Said → Option CommandLine
-check_said s = if is_none s.after && is_none s.steps then option_map CheckFile s.operand else None
-
-abbrev pub list_said : Said → Option CommandLine
-list_said s =
-    if is_none s.steps then option_and_then (λ file. option_map (ListFile file) (option_and_then listing_of s.after)) s.operand else None
-
-abbrev pub exec_said : Said → Option CommandLine
-exec_said s = if is_none s.after then option_and_then (λ image. option_map (ExecImage image) (steps_said s.steps)) s.operand else None
+-- what is asked by a form with what is said
+abbrev pub asked_said : Said → Form → Option CommandLine
+asked_said s form =
+    if sets_only form.options s.entries
+    then option_and_then (form.asks (λ option. option_to_list (value_of s.entries option))) s.operand
+    else None
 
 -- the command of this name with what is said
 abbrev pub chosen : (name : List ℕ) → Said → Option CommandLine
-chosen name s =
-    if bytes_eq name (codes "run") then run_said s
-    else (if bytes_eq name (codes "check") then check_said s
-    else (if bytes_eq name (codes "list") then list_said s
-    else (if bytes_eq name (codes "exec") then exec_said s
-    else None)))
+chosen name s = by_name (asked_said s) name

@@ -13,6 +13,10 @@ pub(crate) struct Arguments<'a> {
     pub(crate) operand: Option<&'a str>,
     /// The value of `--after`.
     pub(crate) after: Option<&'a str>,
+    /// The value of `--heap`.
+    pub(crate) heap: Option<&'a str>,
+    /// The value of `--stack`.
+    pub(crate) stack: Option<&'a str>,
     /// The value of `--steps`.
     pub(crate) steps: Option<&'a str>,
 }
@@ -27,6 +31,8 @@ impl<'a> Arguments<'a> {
             arguments: Arguments {
                 operand: None,
                 after: None,
+                heap: None,
+                stack: None,
                 steps: None,
             },
             expected: Expected::Any,
@@ -60,6 +66,14 @@ impl<'a> Arguments<'a> {
         match name {
             "after" if self.after.is_none() => Some(Arguments {
                 after: Some(value),
+                ..self
+            }),
+            "heap" if self.heap.is_none() => Some(Arguments {
+                heap: Some(value),
+                ..self
+            }),
+            "stack" if self.stack.is_none() => Some(Arguments {
+                stack: Some(value),
                 ..self
             }),
             "steps" if self.steps.is_none() => Some(Arguments {

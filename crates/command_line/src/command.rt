@@ -1,19 +1,13 @@
 //! The commands.
 
 ghost use Rattle.std.specs.Prelude.{◌≡◌, map, string_bytes};
-ghost use Rattle.std.specs.Option.{option_map, option_and_then, option_copied};
-ghost use Rattle.command_line.specs.Commands.{asked_by, command_from, listing_of};
+ghost use Rattle.std.specs.Option.{option_map, option_and_then};
+ghost use Rattle.command_line.specs.Commands.{asked_by, command_from, listing_of, run_form, check_form, list_form, exec_form};
 ghost use Rattle.command_line.specs.Parts.{parts_of};
-ghost use Rattle.command_line.specs.Walk.{said, steps_said, chosen};
+ghost use Rattle.command_line.specs.Walk.{said, asked_said, chosen};
 
 use crate::arguments::Arguments;
-use crate::number::number_within;
-
-/// The instructions that `exec` gives an image where the line has no `--steps`.
-const DEFAULT_STEPS: u64 = 1_000_000_000;
-
-/// The greatest number of instructions of `--steps`.
-const MOST_STEPS: u64 = 1_000_000_000_000;
+use crate::number::{CELLS, STACK, STEPS};
 
 /// The pass after which a program is listed.
 #[derive(Clone, Copy, Debug, PartialEq, Eq)]
@@ -26,19 +20,35 @@ pub enum Listing {
     Eval,
     /// The program in which every `apply` is inlined too.
     Apply,
+    /// The program with vectors of words in place of its node variables.
+    Vectorise,
 }
 
 /// A command. Its file and its image are operands as they stand in the line.
 #[derive(Clone, Copy, Debug, PartialEq, Eq)]
 pub enum Command<'a> {
-    /// `run FILE`: compile the file and run it.
-    Run { file: &'a str },
+    /// `run FILE --heap N --stack N --steps N`: compile the file and run it with a heap of so many cells and a stack of so many
+    /// bytes, for at most so many instructions. The stack is as the line says, a multiple of four or not.
+    Run {
+        file: &'a str,
+        cells: u32,
+        stack: u32,
+        steps: u64,
+    },
     /// `check FILE`: say whether the file breaks a rule.
-    Check { file: &'a str },
+    Check {
+        file: &'a str,
+    },
     /// `list FILE --after PASS`: write the program as it is after a pass.
-    List { file: &'a str, after: Listing },
+    List {
+        file: &'a str,
+        after: Listing,
+    },
     /// `exec IMAGE --steps N`: run an executable for at most so many instructions.
-    Exec { image: &'a str, steps: u64 },
+    Exec {
+        image: &'a str,
+        steps: u64,
+    },
 }
 
 impl Listing {
@@ -51,6 +61,7 @@ impl Listing {
             "translate" => Some(Listing::Translate),
             "eval" => Some(Listing::Eval),
             "apply" => Some(Listing::Apply),
+            "vectorise" => Some(Listing::Vectorise),
             _ => None,
         }
     }
@@ -65,39 +76,95 @@ impl<'a> Command<'a> {
         Command::from_arguments(name, arguments)
     }
 
-    /// The command of a name with its arguments, or `None` where there is none. This is the table of the commands: each has one
-    /// operand, and no options but its own.
+    /// The command of a name with its arguments, or `None` where there is none.
     fn from_arguments(name: &str, arguments: Arguments<'a>) -> Option<Command<'a>>
         ensures { option_map asked_by result ≡ chosen name.now (said arguments.entry) }
     {
-        let Arguments {
-            operand,
-            after,
-            steps,
-        } = arguments;
-        let operand = operand?;
-        match (name, after, steps) {
-            ("run", None, None) => Some(Command::Run { file: operand }),
-            ("check", None, None) => Some(Command::Check { file: operand }),
-            ("list", Some(pass), None) => Some(Command::List {
-                file: operand,
-                after: Listing::named(pass)?,
-            }),
-            ("exec", None, steps) => Some(Command::Exec {
-                image: operand,
-                steps: steps_of(steps)?,
-            }),
+        match name {
+            "run" => Command::run(arguments),
+            "check" => Command::check(arguments),
+            "list" => Command::list(arguments),
+            "exec" => Command::exec(arguments),
             _ => None,
         }
     }
-}
 
-/// The number of instructions that `--steps` says, or the default where it doesn't stand.
-fn steps_of(value: Option<&str>) -> Option<u64>
-    ensures { result ≡ steps_said (option_copied value.entry) }
-{
-    match value {
-        None => Some(DEFAULT_STEPS),
-        Some(text) => number_within(text, 1, MOST_STEPS),
+    /// `run` with its arguments.
+    fn run(arguments: Arguments<'a>) -> Option<Command<'a>>
+        ensures { option_map asked_by result ≡ asked_said (said arguments.entry) run_form }
+    {
+        let Arguments {
+            operand: Some(file),
+            after: None,
+            heap,
+            stack,
+            steps,
+        } = arguments
+        else {
+            return None;
+        };
+        Some(Command::Run {
+            file,
+            cells: CELLS.read_u32(heap)?,
+            stack: STACK.read_u32(stack)?,
+            steps: STEPS.read(steps)?,
+        })
+    }
+
+    /// `check` with its arguments.
+    fn check(arguments: Arguments<'a>) -> Option<Command<'a>>
+        ensures { option_map asked_by result ≡ asked_said (said arguments.entry) check_form }
+    {
+        let Arguments {
+            operand: Some(file),
+            after: None,
+            heap: None,
+            stack: None,
+            steps: None,
+        } = arguments
+        else {
+            return None;
+        };
+        Some(Command::Check { file })
+    }
+
+    /// `list` with its arguments.
+    fn list(arguments: Arguments<'a>) -> Option<Command<'a>>
+        ensures { option_map asked_by result ≡ asked_said (said arguments.entry) list_form }
+    {
+        let Arguments {
+            operand: Some(file),
+            after: Some(pass),
+            heap: None,
+            stack: None,
+            steps: None,
+        } = arguments
+        else {
+            return None;
+        };
+        Some(Command::List {
+            file,
+            after: Listing::named(pass)?,
+        })
+    }
+
+    /// `exec` with its arguments.
+    fn exec(arguments: Arguments<'a>) -> Option<Command<'a>>
+        ensures { option_map asked_by result ≡ asked_said (said arguments.entry) exec_form }
+    {
+        let Arguments {
+            operand: Some(image),
+            after: None,
+            heap: None,
+            stack: None,
+            steps,
+        } = arguments
+        else {
+            return None;
+        };
+        Some(Command::Exec {
+            image,
+            steps: STEPS.read(steps)?,
+        })
     }
 }

@@ -1,13 +1,68 @@
 //! The numbers of a command line.
 
-ghost use Rattle.std.specs.Prelude.{◌≡◌};
+ghost use Rattle.std.specs.Prelude.{◌≡◌, ◌<◌, ◌^◌, option_to_list};
+ghost use Rattle.std.specs.Option.{option_copied};
+ghost use Rattle.command_line.specs.Commands.{number_of};
 ghost use Rattle.command_line.specs.Numbers.{number_within};
+
+/// The cells of the heap, by `--heap`.
+pub(crate) const CELLS: Numbers = Numbers {
+    default: 1_000_000,
+    least: 1,
+    most: 8_000_000,
+};
+
+/// The bytes of the stack, by `--stack`.
+pub(crate) const STACK: Numbers = Numbers {
+    default: 1_048_576,
+    least: 1_024,
+    most: 67_108_864,
+};
+
+/// The number of instructions, by `--steps`.
+pub(crate) const STEPS: Numbers = Numbers {
+    default: 1_000_000_000,
+    least: 1,
+    most: 1_000_000_000_000,
+};
+
+/// The numbers that an option can be given.
+#[derive(Clone, Copy, Debug)]
+pub(crate) struct Numbers {
+    /// The number where the option doesn't stand.
+    pub(crate) default: u64,
+    pub(crate) least: u64,
+    pub(crate) most: u64,
+}
+
+impl Numbers {
+    /// The number that the value of the option writes, or the default where it has no value. `None` where the value writes no
+    /// number of the range.
+    pub(crate) fn read(self, value: Option<&str>) -> Option<u64>
+        ensures { result ≡ number_of self.default self.least self.most (option_to_list (option_copied value.entry)) }
+    {
+        match value {
+            None => Some(self.default),
+            Some(text) => number_within(text, self.least, self.most),
+        }
+    }
+
+    /// The same for an option whose numbers all have 32 bits.
+    pub(crate) fn read_u32(self, value: Option<&str>) -> Option<u32>
+        requires default_fits { self.default < 2 ^ 32 }
+        requires most_fits { self.most < 2 ^ 32 }
+        ensures { result ≡ number_of self.default self.least self.most (option_to_list (option_copied value.entry)) }
+    {
+        let number = self.read(value)?;
+        u32::try_from(number).ok()
+    }
+}
 
 /// The most digits that a number has.
 const MOST_DIGITS: usize = 20;
 
 /// The number that a text of 1 to 20 decimal digits writes, where it lies in the range.
-pub(crate) fn number_within(text: &str, least: u64, most: u64) -> Option<u64>
+fn number_within(text: &str, least: u64, most: u64) -> Option<u64>
     ensures { result ≡ number_within least most text.now }
 {
     // `parse` alone would accept a `+` and any number of leading zeros.

@@ -62,9 +62,69 @@ fn lines_of_exec(rt: HostRuntime) -> Result<(), Fail> {
     Ok(())
 }
 
-/// `run` with a file.
+/// `run` with a file and nothing else.
 const fn run(file: &'static str) -> Option<Command<'static>> {
-    Some(Command::Run { file })
+    Some(Command::Run {
+        file,
+        cells: 1_000_000,
+        stack: 1_048_576,
+        steps: 1_000_000_000,
+    })
+}
+
+/// `run a` with a number of cells, of bytes of the stack and of instructions.
+const fn run_a(cells: u32, stack: u32, steps: u64) -> Option<Command<'static>> {
+    Some(Command::Run {
+        file: "a",
+        cells,
+        stack,
+        steps,
+    })
+}
+
+#[test]
+fn lines_of_run(rt: HostRuntime) -> Result<(), Fail> {
+    let rows = [
+        ("grinc run a", run_a(1_000_000, 1_048_576, 1_000_000_000)),
+        (
+            "grinc run --heap=0007 -- a",
+            run_a(7, 1_048_576, 1_000_000_000),
+        ),
+        ("grinc run a --steps 1", run_a(1_000_000, 1_048_576, 1)),
+        (
+            "grinc run --steps=2 a --heap 3 --stack 1026",
+            run_a(3, 1_026, 2),
+        ),
+        (
+            "grinc run --heap 1 --stack 1024 a --steps 1",
+            run_a(1, 1_024, 1),
+        ),
+        (
+            "grinc run --heap 8000000 --stack 67108864 --steps 1000000000000 a",
+            run_a(8_000_000, 67_108_864, 1_000_000_000_000),
+        ),
+        ("grinc run --heap 0 a", None),
+        ("grinc run --heap 8000001 a", None),
+        ("grinc run --heap 4294967297 a", None),
+        ("grinc run --stack 1023 a", None),
+        ("grinc run --stack 67108865 a", None),
+        ("grinc run --steps 0 a", None),
+        ("grinc run --steps 1000000000001 a", None),
+        ("grinc run", None),
+        ("grinc run a b", None),
+        ("grinc run --heap 1", None),
+        ("grinc run a --heap", None),
+        ("grinc run --heap 1 --heap 1 a", None),
+        ("grinc run --stack 1024 --stack=1024 a", None),
+        ("grinc run --steps 1 a --steps 1", None),
+        ("grinc run --heaps 1 a", None),
+        ("grinc run a --after read", None),
+    ];
+    for (words, want) in rows {
+        let line = line_of(rt.alloc(), words)?;
+        assert_eq!(rt; line.command(), want, "{words}");
+    }
+    Ok(())
 }
 
 /// `list a` with a pass.
@@ -81,12 +141,10 @@ fn other_lines(rt: HostRuntime) -> Result<(), Fail> {
         ("run a", None),
         ("grinc", None),
         ("grinc ", None),
-        ("grinc run", None),
         ("grinc Run a", None),
         ("grinc --help", None),
         ("grinc run  a", None),
         ("grinc run a ", None),
-        ("grinc run a b", None),
         ("grinc run -", run("-")),
         ("grinc run -a", None),
         ("grinc run --", None),
@@ -96,9 +154,6 @@ fn other_lines(rt: HostRuntime) -> Result<(), Fail> {
         ("grinc run -- -a", run("-a")),
         ("grinc run -- --", run("--")),
         ("grinc run -- a -- b", None),
-        ("grinc run --heap 1 a", None),
-        ("grinc run a --steps 1", None),
-        ("grinc run a --after read", None),
         (
             "grinc exec -- --steps",
             Some(Command::Exec {
@@ -108,15 +163,19 @@ fn other_lines(rt: HostRuntime) -> Result<(), Fail> {
         ),
         ("grinc check a", Some(Command::Check { file: "a" })),
         ("grinc check --steps=1 a", None),
+        ("grinc check --heap 1 a", None),
+        ("grinc exec --stack 1024 a", None),
         ("grinc list a --after read", list_a(Listing::Read)),
         ("grinc list --after translate a", list_a(Listing::Translate)),
         ("grinc list --after=eval a", list_a(Listing::Eval)),
         ("grinc list --after=apply -- a", list_a(Listing::Apply)),
+        ("grinc list a --after vectorise", list_a(Listing::Vectorise)),
         ("grinc list a", None),
         ("grinc list a --after", None),
         ("grinc list a --after=", None),
         ("grinc list a --after raise", None),
         ("grinc list a --after read --steps 1", None),
+        ("grinc list a --after read --heap 1", None),
         ("grinc list a --after=read --after read", None),
         ("grinc build a", None),
     ];

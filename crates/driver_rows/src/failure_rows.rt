@@ -73,6 +73,7 @@ fn failing_objects(rt: HostRuntime) -> Result<(), Fail> {
             "",
             "grinc: write fault\n",
         ),
+        // The program reads no input, so none of its reads fails.
         ("run", text, (Object::Input, 0), 0, "Hi", ""),
         ("run", unknown, (Object::Err, 0), 1, "", ""),
     ];
@@ -99,12 +100,16 @@ fn files_that_are_not_there(rt: HostRuntime) -> Result<(), Fail> {
 
 #[test]
 fn words_that_are_no_command(rt: HostRuntime) -> Result<(), Fail> {
-    let lines: [&[&str]; 9] = [
+    let lines: [&[&str]; 13] = [
         &["grinc"],
         &["grinc", "run"],
         &["grinc", "run", "a", "b"],
         &["grinc", "run", ""],
         &["grinc", "run", "-a"],
+        &["grinc", "run", "--heap", "0", "a"],
+        &["grinc", "run", "--heap", "8000001", "a"],
+        &["grinc", "run", "--stack", "1023", "a"],
+        &["grinc", "run", "--heap", "1", "--heap", "1", "a"],
         &["grinc", "check"],
         &["grinc", "check", "a", "--steps", "1"],
         &["grinc", "exec", "a", "--steps", "0"],

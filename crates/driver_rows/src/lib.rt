@@ -4,14 +4,22 @@
 #[cfg(test)]
 mod check_rows;
 #[cfg(test)]
+mod example_rows;
+#[cfg(test)]
 mod exec_rows;
 #[cfg(test)]
 mod failure_rows;
 #[cfg(test)]
 mod images;
 #[cfg(test)]
+mod input_rows;
+#[cfg(test)]
+mod large_rows;
+#[cfg(test)]
 mod list_rows;
 #[cfg(test)]
 mod outside;
 #[cfg(test)]
 mod run_rows;
+#[cfg(test)]
+mod texts;

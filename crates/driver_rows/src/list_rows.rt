@@ -115,6 +115,71 @@ main =
       fail
 ";
 
+/// The same program with vectors in place of its node variables: each has a tag and two fields, as the longest nodes have.
+const TAKES_IN_VECTORS: &str = "global main = (Fmain)
+
+take v0 =
+  [v1 v2 v3] <- fetch v0
+  [v4 v5 v6] <- case [v1 v2 v3] of
+    (CNil) ->
+      unit [v1 v2 v3]
+    (CCons) ->
+      unit [v1 v2 v3]
+    (Ftake) ->
+      [v7 v8 v9] <- call take v2
+      update v0 [v7 v8 v9]
+      unit [v7 v8 v9]
+  case [v4 v5 v6] of
+    (CNil) ->
+      unit (CNil)
+    (CCons) ->
+      store
+        v10 = (Ftake v6)
+      unit (CCons v5 v10)
+    else ->
+      fail
+
+main =
+  store
+    v0 = (CInt 65)
+    v1 = (CNil)
+    v2 = (CCons v0 v1)
+    v3 = (Ftake v2)
+  call take v3
+
+@print v0 =
+  [v1 v2 v3] <- fetch v0
+  [v4 v5 v6] <- case [v1 v2 v3] of
+    (CNil) ->
+      unit [v1 v2 v3]
+    (CCons) ->
+      unit [v1 v2 v3]
+    (Ftake) ->
+      [v7 v8 v9] <- call take v2
+      update v0 [v7 v8 v9]
+      unit [v7 v8 v9]
+    (Fmain) ->
+      [v10 v11 v12] <- call main
+      update v0 [v10 v11 v12]
+      unit [v10 v11 v12]
+  case [v4 v5 v6] of
+    (CNil) ->
+      unit (CNil)
+    (CCons) ->
+      [v13 v14 v15] <- fetch v5
+      [v16 v17 v18] <- case [v13 v14 v15] of
+        (CInt) ->
+          unit [v13 v14 v15]
+      case [v16 v17 v18] of
+        (CInt) ->
+          write v17
+          call @print v6
+        else ->
+          fail
+    else ->
+      fail
+";
+
 /// A program that takes a list twice. It applies no unknown function.
 const TAKES_TEXT: &str =
     "take xs = case xs of { Nil -> Nil; Cons h t -> Cons h (take t) }; main = take (take (Cons 65 Nil));";
@@ -135,6 +200,7 @@ fn listings(rt: HostRuntime) -> Result<(), Fail> {
         ("main = Nil;", "translate", EMPTY),
         (TAKES_TEXT, "eval", TAKES),
         (TAKES_TEXT, "apply", TAKES),
+        (TAKES_TEXT, "vectorise", TAKES_IN_VECTORS),
     ];
     for (text, after, out) in rows {
         let text = format!(in rt.alloc(); "{LISTS}{text}")?;

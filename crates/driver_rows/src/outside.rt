@@ -33,11 +33,14 @@ pub(crate) struct Ended {
 }
 
 impl Ended {
-    /// Whether this is the status of the process, and whether the two outputs took these bytes.
+    /// Whether this is the status of the process, and whether the two outputs took these texts.
     pub(crate) fn is(&self, code: u8, out: &str, err: &str) -> bool {
-        self.status.code() == code
-            && self.out.taken() == out.as_bytes()
-            && self.err.taken() == err.as_bytes()
+        self.is_bytes(code, out.as_bytes(), err)
+    }
+
+    /// Whether this is the status of the process, and whether the two outputs took these bytes.
+    pub(crate) fn is_bytes(&self, code: u8, out: &[u8], err: &str) -> bool {
+        self.status.code() == code && self.out.taken() == out && self.err.taken() == err.as_bytes()
     }
 
     /// Whether this is the status of the process, and whether the output took so many bytes.
@@ -46,12 +49,29 @@ impl Ended {
     }
 }
 
+/// The status of a line over objects in memory.
+fn status_of(
+    alloc: Global,
+    line: &Line,
+    shelf: &mut MemShelf,
+    input: &mut MemSource,
+    out: &mut MemSink,
+    err: &mut MemSink,
+) -> Status {
+    grinc_main(alloc, line, shelf, input, out, err)
+}
+
 impl<'a> Outside<'a> {
     /// A file, an input of no bytes, and no failure.
     pub(crate) fn of(file: &'a [u8]) -> Outside<'a> {
+        Outside::with_input(file, b"")
+    }
+
+    /// A file, an input, and no failure.
+    pub(crate) fn with_input(file: &'a [u8], input: &'a [u8]) -> Outside<'a> {
         Outside {
             file,
-            input: b"",
+            input,
             failing: None,
         }
     }
@@ -83,7 +103,7 @@ impl<'a> Outside<'a> {
         let mut input = MemSource::new(bytes, self.failing_calls(alloc, Object::Input)?);
         let mut out = MemSink::new(alloc, 16384, self.failing_calls(alloc, Object::Out)?)?;
         let mut err = MemSink::new(alloc, 64, self.failing_calls(alloc, Object::Err)?)?;
-        let status = grinc_main(alloc, &line, &mut shelf, &mut input, &mut out, &mut err);
+        let status = status_of(alloc, &line, &mut shelf, &mut input, &mut out, &mut err);
         Ok(Ended { status, out, err })
     }
 }

@@ -1,4 +1,4 @@
-//! Texts that are run: programs that end, one that does not, and refusals.
+//! Texts that are run: programs that end, one that doesn't, and refusals.
 
 use crate::outside::{LISTS, Outside};
 use grin_driver::run_text;
@@ -6,43 +6,87 @@ use grin_io::{MemSink, MemSource};
 use std::test::Fail;
 
 #[test]
-fn programs_and_refusals(rt: HostRuntime) -> Result<(), Fail> {
+fn programs_that_end(rt: HostRuntime) -> Result<(), Fail> {
     let rows = [
-        ("main = Nil;", 0, "", ""),
-        ("main = Cons 72 (Cons 105 Nil);", 0, "Hi", ""),
-        ("main = let c = Cons 65 Nil in Cons 66 c;", 0, "BA", ""),
-        ("main = Cons Nil Nil;", 3, "", "grinc: no alternative\n"),
-        ("main = 7;", 3, "", "grinc: no alternative\n"),
-        ("main = foo;", 1, "", "grinc: refused 14 at 32\n"),
-        ("id x = x; main = Nil;", 1, "", "grinc: refused 6 at 25\n"),
-        ("main = Nil; id x = x;", 1, "", "grinc: refused 6 at 37\n"),
+        ("main = Nil;", ""),
+        ("main = Cons 72 (Cons 105 Nil);", "Hi"),
+        ("main = let c = Cons 65 Nil in Cons 66 c;", "BA"),
+        (
+            "take n xs = case n of { 0 -> Nil; m -> case xs of { Nil -> Nil; Cons h t -> Cons h (take (sub m 1) t) } }; \
+             from n = Cons n (from (add n 1)); main = take 3 (from 65);",
+            "ABC",
+        ),
+        (
+            "twice x = Cons x (Cons x Nil); main = twice (add 32 33);",
+            "AA",
+        ),
+        (
+            "bad = case 1 of { 2 -> Nil }; second a b = b; main = second bad Nil;",
+            "",
+        ),
+        ("id x = x; main = Cons (id id 66) Nil;", "B"),
+        (
+            "k x y = x; main = case k 65 of { p -> Cons (p Nil) Nil };",
+            "A",
+        ),
+    ];
+    for (text, out) in rows {
+        let text = format!(in rt.alloc(); "{LISTS}{text}")?;
+        let shown = Outside::of(text.as_bytes()).run(rt.alloc(), &["grinc", "run", "a"])?;
+        assert!(rt; shown.is(0, out, ""), "{text}");
+    }
+    Ok(())
+}
+
+#[test]
+fn programs_that_stop(rt: HostRuntime) -> Result<(), Fail> {
+    let rows = [
+        (
+            "bad = case 1 of { 2 -> Nil }; main = Cons 65 bad;",
+            3,
+            "A",
+            "grinc: no alternative\n",
+        ),
         (
             "main = Cons (add Nil 1) Nil;",
-            1,
+            3,
             "",
-            "grinc: refused 6 at 25\n",
+            "grinc: no alternative\n",
         ),
-        (
-            "main = let c = Cons 46 c in c;",
-            1,
-            "",
-            "grinc: refused 6 at 25\n",
-        ),
-        ("main = main;", 1, "", "grinc: refused 6 at 25\n"),
-        ("main xs = xs;", 1, "", "grinc: refused 6 at 25\n"),
-        ("main = Cons 1;", 1, "", "grinc: refused 15 at 32\n"),
-        (
-            "main = Cons 2147483648 Nil;",
-            1,
-            "",
-            "grinc: refused 3 at 37\n",
-        ),
+        ("main = Cons Nil Nil;", 3, "", "grinc: no alternative\n"),
+        ("main = 7;", 3, "", "grinc: no alternative\n"),
+        ("main = main;", 5, "", "grinc: stack full\n"),
     ];
     for (text, code, out, err) in rows {
         let text = format!(in rt.alloc(); "{LISTS}{text}")?;
         let shown = Outside::of(text.as_bytes()).run(rt.alloc(), &["grinc", "run", "a"])?;
         assert!(rt; shown.is(code, out, err), "{text}");
     }
+    Ok(())
+}
+
+#[test]
+fn texts_that_are_refused(rt: HostRuntime) -> Result<(), Fail> {
+    let rows = [
+        ("main = foo;", "grinc: refused 14 at 32\n"),
+        ("main = Cons 1;", "grinc: refused 15 at 32\n"),
+        ("main = Cons 2147483648 Nil;", "grinc: refused 3 at 37\n"),
+    ];
+    for (text, err) in rows {
+        let text = format!(in rt.alloc(); "{LISTS}{text}")?;
+        let shown = Outside::of(text.as_bytes()).run(rt.alloc(), &["grinc", "run", "a"])?;
+        assert!(rt; shown.is(1, "", err), "{text}");
+    }
+    Ok(())
+}
+
+#[test]
+fn arithmetic_at_its_edges(rt: HostRuntime) -> Result<(), Fail> {
+    let text = format!(in rt.alloc();
+        "{LISTS}main = Cons (quot -2147483648 -1) (Cons (quot 7 0) (Cons (rem 7 0) Nil));"
+    )?;
+    let shown = Outside::of(text.as_bytes()).run(rt.alloc(), &["grinc", "run", "a"])?;
+    assert!(rt; shown.is_bytes(0, &[0x00, 0xFF, 0x07], ""));
     Ok(())
 }
 
@@ -58,18 +102,57 @@ fn lines_and_a_comment(rt: HostRuntime) -> Result<(), Fail> {
 #[test]
 fn endless_programs(rt: HostRuntime) -> Result<(), Fail> {
     for text in [
+        "main = let c = Cons 46 c in c;",
         "main = Cons 46 main;",
         "main = let c = Cons 46 c in Cons 46 c;",
     ] {
         let text = format!(in rt.alloc(); "{LISTS}{text}")?;
         let mut input = MemSource::new(Vec::new(rt.alloc()), Vec::new(rt.alloc()));
         let mut out = MemSink::new(rt.alloc(), 1_000_000, Vec::new(rt.alloc()))?;
-        let status = run_text(rt.alloc(), text.as_bytes(), 1_000_000, &mut input, &mut out);
+        let status = run_text(
+            rt.alloc(),
+            text.as_bytes(),
+            1_000_000,
+            1_048_576,
+            1_000_000,
+            &mut input,
+            &mut out,
+        );
         assert_eq!(rt; status.code(), 6, "{text}");
         assert!(rt; !out.taken().is_empty());
         for byte in out.taken() {
             assert_eq!(rt; *byte, 46);
         }
+    }
+    Ok(())
+}
+
+#[test]
+fn what_is_given_suffices_or_not(rt: HostRuntime) -> Result<(), Fail> {
+    // The list of five has a cell for each of its numbers, its conses and its end, and there are the cells of the program itself.
+    let text = format!(in rt.alloc();
+        "{LISTS}main = Cons 72 (Cons 101 (Cons 108 (Cons 108 (Cons 111 Nil))));"
+    )?;
+    let rows: [(&[&str], u8, &str, &str); 5] = [
+        (&["grinc", "run", "a", "--heap", "100"], 0, "Hello", ""),
+        (
+            &["grinc", "run", "a", "--heap", "1"],
+            4,
+            "",
+            "grinc: heap full\n",
+        ),
+        (&["grinc", "run", "--stack=1024", "a"], 0, "Hello", ""),
+        (
+            &["grinc", "run", "--steps", "1", "a"],
+            6,
+            "",
+            "grinc: step limit\n",
+        ),
+        (&["grinc", "run", "--heap=00100", "--", "a"], 0, "Hello", ""),
+    ];
+    for (words, code, out, err) in rows {
+        let shown = Outside::of(text.as_bytes()).run(rt.alloc(), words)?;
+        assert!(rt; shown.is(code, out, err));
     }
     Ok(())
 }

@@ -1,22 +1,21 @@
 -- The image of placed items starts where the items do, and its procedures have addresses of their own.
-use Rattle.std.proofs.Common.{◌≡◌, ◌⊎◌, ℕ, zero, suc, ◌+◌, ◌-◌, ◌*◌, ◌≤◌, ◌<◌, ◌||◌, Bool, true, false, nat_eq, List, [], ◌∷◌, ◌++◌, map, length, replicate, Option, Some, None, slice_get, unwrap_or, refl, sym, ap, ◌∙◌, subst, arith}
+use Rattle.std.proofs.Common.{◌≡◌, ◌⊎◌, ℕ, zero, suc, ◌+◌, ◌-◌, ◌*◌, ◌≤◌, ◌<◌, ◌||◌, Bool, true, false, nat_eq, List, [], ◌∷◌, ◌++◌, length, replicate, Option, Some, None, slice_get, unwrap_or, refl, sym, ap, ◌∙◌, subst, arith}
 use mathlib.Core.Logic.{inl, inr}
-use Rattle.std.proofs.lemmas.Grind.{common_steps}
 use Rattle.std.proofs.lemmas.Bool.Decides.{nat_tests}
 use Rattle.elf32.specs.File.{words as words_bytes, program}
 use Rattle.rv32_machine.specs.Memory.{Stretch, stretch_of, end_of}
-use Rattle.rv32_machine.specs.Steps.{State, start_of}
+use Rattle.rv32_machine.specs.Steps.{start_of}
 use Rattle.rv32_steps.specs.Trace.{is_one_of, AllDifferent}
 use Rattle.rv32_items.specs.declared.Item.{Item}
-use Rattle.rv32_items.specs.declared.Item.TheVariants.{Label, Plain, Branch, Jump}
-use Rattle.rv32_items.specs.Course.{Layout, Point, label_from, state_at}
-use Rattle.rv32_items.specs.Placed.{is_instruction, times, Rises, Stands, Placed}
+use Rattle.rv32_items.specs.declared.Item.TheVariants.{Label}
+use Rattle.rv32_items.specs.Course.{Layout, state_at}
+use Rattle.rv32_items.specs.Placed.{is_instruction, Placed}
 use Rattle.rv32_items.specs.Laws.{address_of, addresses_of, StandOnce, BeforeInstructions}
 use Rattle.rv32_items.specs.Flows.{is_begin}
-use Rattle.rv32_items.proofs.Addresses.{addresses_rise, there}
+use Rattle.rv32_items.proofs.Addresses.{addresses_rise}
 use Rattle.rv32_items.proofs.Stands.{stands}
-use Rattle.rv32_select.specs.Selects.{zeros, start_at}
-use Rattle.grin_compile.specs.Layers.{IsInCode}
+use Rattle.rv32_select.specs.Selects.{zeros, start_at, BelowHeap}
+use Rattle.grin_compile.specs.Code.{IsInCode}
 
 length_words : (numbers : List ℕ) → length (words_bytes numbers) ≡ 4 * length numbers
 length_words [] = refl
@@ -71,6 +70,10 @@ module _ (items : List Item) (words : List ℕ) (placed : Placed items words) wh
       let l : length lay.code.bytes ≡ 4 * length words = ap length placed.code ∙ length_words words in
       let f = placed.at_first in
       omega (arith, l, f)
+
+  -- at most 2^28 words from 65536 on end before the heap
+  pub below_heap : length words ≤ 268435456 → BelowHeap lay
+  below_heap few = let ends = code_ends in omega (arith, ends, few)
 
   module _ (begins : List ℕ) (stand : StandOnce begins items) (behind : BeforeInstructions begins items) where
     -- where a label of a procedure stands: with an instruction right behind it

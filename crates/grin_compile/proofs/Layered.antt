@@ -1,5 +1,5 @@
 -- Placed items that were selected for low code are code for what the low code tells.
-use Rattle.std.proofs.Common.{◌≡◌, ℕ, zero, suc, ◌+◌, ◌*◌, ◌≤◌, ◌<◌, true, Option, None, List, [], ◌∷◌, ◌++◌, map, length, refl, sym, ap, ◌∙◌, subst, arith}
+use Rattle.std.proofs.Common.{◌≡◌, ℕ, suc, ◌+◌, ◌*◌, ◌≤◌, None, List, [], ◌∷◌, ◌++◌, map, length, refl, sym, ap, ◌∙◌, subst, arith}
 use Rattle.std.proofs.lemmas.Grind.{common_steps}
 use Rattle.headline.specs.Carries.{IsBytes, Begins, Told, Meaning, Reaches, Comes, Carries, Tells}
 use Rattle.elf32.specs.File.{program}
@@ -11,9 +11,9 @@ use Rattle.low_code.proofs.MoreUnits.{one_entry_a_unit}
 use Rattle.register_alloc.specs.Assignment.{Assignment, words_at}
 use Rattle.rv32_machine.specs.Steps.{State, start_of}
 use Rattle.rv32_steps.specs.Seen.{of_machine}
-use Rattle.rv32_steps.specs.Trace.{trace, procedures_at, Forward}
+use Rattle.rv32_steps.specs.Trace.{trace, procedures_at}
 use Rattle.rv32_items.specs.declared.Item.{Item}
-use Rattle.rv32_items.specs.Course.{Layout, Point, End as CourseEnd, Going, Exited, Stopped, state_at, course, NeverTrapsOn}
+use Rattle.rv32_items.specs.Course.{Layout, Point, state_at, course, NeverTrapsOn}
 use Rattle.rv32_items.specs.Placed.{Placed}
 use Rattle.rv32_items.specs.Told.{of_items}
 use Rattle.rv32_items.specs.Laws.{addresses_of, Meets}
@@ -21,11 +21,13 @@ use Rattle.rv32_items.proofs.Enters.{items_enter}
 use Rattle.rv32_items.proofs.Reached.{items_are_reached}
 use Rattle.rv32_items.proofs.Forward.{items_go_forward}
 use Rattle.rv32_select.specs.Selects as select
-use Rattle.rv32_select.specs.Selects.{Selects, start_at}
-use Rattle.grin_compile.specs.Layers.{HeapOver, FramesOver, StackOver, Runs, IsCompiled, LayersCompose}
+use Rattle.rv32_select.specs.Selects.{Selects, BelowHeap, start_at}
+use Rattle.grin_compile.specs.Limits.{HeapOver, FramesOver, StackOver}
+use Rattle.grin_compile.specs.Code.{Runs, IsCodeFor}
+use Rattle.grin_compile.specs.Layers.{LowCodeIsCarried, LayersCompose}
 use Rattle.grin_compile.proofs.Composed.{reaches_kept, comes_kept}
 use Rattle.grin_compile.proofs.Selected.{comes, reaches}
-use Rattle.grin_compile.proofs.Images.{starts, different, in_code}
+use Rattle.grin_compile.proofs.Images.{starts, below_heap, different, in_code}
 
 mapped_length : {A B : Type 0} (f : A → B) (xs : List A) → length (map f xs) ≡ length xs
 mapped_length f [] = refl
@@ -45,11 +47,11 @@ whole xs ys b l = b.1 ∙ ap (λ z. xs ++ z) (none b.0 (omega (arith, added xs b
     nothing_more : (xs : List ℕ) → xs ++ [] ≡ xs
     nothing_more xs = grind (arith, common_steps)
 
-module _ (told : Meaning) (entered : List ℕ → ℕ → List ℕ) (l : Program) (a : Assignment) (frame cells stack : ℕ) (items : List Item) (words : List ℕ)
+module _ (told : Meaning) (entered : List ℕ → ℕ → List ℕ) (StackFull : Told → Type 0) (l : Program) (a : Assignment) (cells stack : ℕ) (items : List Item) (words : List ℕ)
     (tells : (i : List ℕ) → IsBytes i → (n : ℕ) → Tells (told i n) (of_low l (words_at a) i n))
     (enters : (i : List ℕ) → IsBytes i → (n : ℕ) → entered_by_low l (words_at a) i n ≡ entered i n)
-    (frames : (i : List ℕ) → IsBytes i → (n : ℕ) → 4 * (of_low l (words_at a) i n).depth ≤ frame * ((told i n).depth + 1))
-    (never : NeverMissing l) (s : Selects l a cells stack items) (placed : Placed items words) where
+    (frames : (i : List ℕ) → IsBytes i → (n : ℕ) → FramesOver stack (of_low l (words_at a) i n) → StackFull (told i n))
+    (never : NeverMissing l) (s : Selects l a cells stack items) (placed : Placed items words) (few : length words ≤ 268435456) where
   abbrev lay : Layout
   lay = placed.lay
 
@@ -59,9 +61,12 @@ module _ (told : Meaning) (entered : List ℕ → ℕ → List ℕ) (l : Program
   abbrev addresses : List ℕ
   addresses = addresses_of lay items s.begins
 
+  below : BelowHeap lay
+  below = below_heap items words placed few
+
   module _ (i : List ℕ) (bytes : IsBytes i) where
     never_traps : NeverTrapsOn lay items i start
-    never_traps n kind e = subst (select.Finishes i (limited l (words_at a) cells stack i (length (procedures_at s.begins (course lay items n i start).passed))) (course lay items n i start)) e (s.follows lay placed.rises i bytes n).finish
+    never_traps n kind e = subst (select.Finishes i (limited l (words_at a) cells stack i (length (procedures_at s.begins (course lay items n i start).passed))) (course lay items n i start)) e (s.follows lay placed.rises below i bytes n).finish
 
     meets : (m : ℕ) → (n : ℕ) × Meets lay items s.begins i start m n
     meets m = items_enter items words placed start i s.begins (_, refl) never_traps refl s.stand s.flows.instruction_behind m
@@ -69,20 +74,20 @@ module _ (told : Meaning) (entered : List ℕ → ℕ → List ℕ) (l : Program
     kept : (n : ℕ) → HeapOver cells (of_low l (words_at a) i n) → HeapOver cells (told i n)
     kept n h = let t = (tells i bytes n).cells in omega (arith, h, t)
 
-    framed : (n : ℕ) → FramesOver stack (of_low l (words_at a) i n) → StackOver frame stack (told i n)
-    framed n h = let f = frames i bytes n in omega (arith, h, f)
+    framed : (n : ℕ) → FramesOver stack (of_low l (words_at a) i n) → StackFull (told i n)
+    framed n h = frames i bytes n h
 
     -- what so many steps show is what as many units tell as procedures were met
-    shown : (m : ℕ) → Comes (HeapOver cells) (StackOver frame stack) (told i) (length (procedures_at addresses (trace m i (state_at lay items start)))) (of_machine (state_at lay items start) i m)
+    shown : (m : ℕ) → Comes (HeapOver cells) StackFull (told i) (length (procedures_at addresses (trace m i (state_at lay items start)))) (of_machine (state_at lay items start) i m)
     shown m =
         let k = meets m in
         let c = course lay items k.0 i start in
         let n = length (procedures_at s.begins c.passed) in
-        let low = comes l a cells stack never i bytes s.begins c (s.follows lay placed.rises i bytes k.0) in
-        let up = comes_kept (told i) (of_low l (words_at a) i) (HeapOver cells) (StackOver frame stack) (HeapOver cells) (FramesOver stack) n (of_items lay items start i k.0) (tells i bytes) (kept n) (framed n) low in
+        let low = comes l a cells stack never i bytes s.begins c (s.follows lay placed.rises below i bytes k.0) in
+        let up = comes_kept (told i) (of_low l (words_at a) i) (HeapOver cells) StackFull (HeapOver cells) (FramesOver stack) n (of_items lay items start i k.0) (tells i bytes) (kept n) (framed n) low in
         let count : n ≡ length (procedures_at addresses (trace m i (state_at lay items start))) = ap length (sym k.1.entered) in
-        subst (λ j. Comes (HeapOver cells) (StackOver frame stack) (told i) j (of_machine (state_at lay items start) i m)) count
-        (subst (Comes (HeapOver cells) (StackOver frame stack) (told i) n) (sym k.1.seen) up)
+        subst (λ j. Comes (HeapOver cells) StackFull (told i) j (of_machine (state_at lay items start) i m)) count
+        (subst (Comes (HeapOver cells) StackFull (told i) n) (sym k.1.seen) up)
 
     -- the procedures that were met are those that low code enters
     met : (m : ℕ) → let ps = procedures_at addresses (trace m i (state_at lay items start)) in ps ≡ entered i (length ps)
@@ -90,7 +95,7 @@ module _ (told : Meaning) (entered : List ℕ → ℕ → List ℕ) (l : Program
         let k = meets m in
         let c = course lay items k.0 i start in
         let n = length (procedures_at s.begins c.passed) in
-        let f = s.follows lay placed.rises i bytes k.0 in
+        let f = s.follows lay placed.rises below i bytes k.0 in
         let within = (limits_only_stop l (words_at a) cells stack i n).0 in
         let all = one_entry_a_unit l (words_at a) (record { cells = None; stack = None }) i n in
         let many : length (world_of (limited l (words_at a) cells stack i n)).entered ≡ n = ap length (sym f.entered) in
@@ -101,7 +106,7 @@ module _ (told : Meaning) (entered : List ℕ → ℕ → List ℕ) (l : Program
 
     reached : (n : ℕ) → (m : ℕ) × Reaches (told i n) (of_machine (state_at lay items start) i m)
     reached n =
-        let r = s.arrives lay placed.rises i bytes n in
+        let r = s.arrives lay placed.rises below i bytes n in
         let low = reaches l a cells stack never i bytes n (course lay items r.0 i start) r.1 in
         let m = items_are_reached items words placed start i (_, refl) never_traps r.0 in
         (m.0, subst (Reaches (told i n)) (sym m.1.1) (reaches_kept (told i n) (of_low l (words_at a) i n) (of_items lay items start i r.0) (tells i bytes n) low))
@@ -112,22 +117,31 @@ module _ (told : Meaning) (entered : List ℕ → ℕ → List ℕ) (l : Program
   begun : state_at lay items start ≡ image
   begun = sym (starts items words placed l.width cells stack)
 
-  pub compiled : IsCompiled told entered (length l.procs) frame cells (4 * l.width * cells) stack words
-  compiled = record {
-    addresses = addresses;
+  pub code_for : IsCodeFor (HeapOver cells) StackFull told entered (length l.procs) words image addresses
+  code_for = record {
     one_each = mapped_length _ s.begins ∙ s.one_each;
     different = different items words placed s.begins s.stand s.flows.instruction_behind s.different;
     in_code = in_code items words placed s.begins s.stand s.flows.instruction_behind;
-    carries = subst (λ t. Carries (HeapOver cells) (StackOver frame stack) told (of_machine t)) begun (record {
+    carries = subst (λ t. Carries (HeapOver cells) StackFull told (of_machine t)) begun (record {
       reaches = reached;
       comes = λ i bytes m. (length (procedures_at addresses (trace m i (state_at lay items start))), shown i bytes m);
     });
-    runs = λ i bytes m. subst (λ t. Runs told entered addresses frame cells stack t i m) begun (record {
+    runs = λ i bytes m. subst (λ t. Runs (HeapOver cells) StackFull told entered addresses t i m) begun (record {
       enters = met i bytes m;
       comes = shown i bytes m;
-      forward = items_go_forward items words placed start i s.begins (_, refl) refl (λ n. s.home lay placed.rises i bytes n) s.stand s.flows m;
+      forward = items_go_forward items words placed start i s.begins (_, refl) refl (λ n. s.home lay placed.rises below i bytes n) s.stand s.flows m;
     });
   }
 
+pub low_code_is_carried : LowCodeIsCarried
+low_code_is_carried l a cells stack items words never s placed few =
+    code_for (of_low l (words_at a)) (entered_by_low l (words_at a)) (FramesOver stack) l a cells stack items words
+    (λ i bytes n. tells_itself (of_low l (words_at a) i n)) (λ i bytes n. refl) (λ i bytes n h. h) never s placed few
+  where
+    tells_itself : (t : Told) → Tells t t
+    tells_itself t = record { out = refl; end = refl; used = refl; cells = omega arith }
+
 pub layers_compose : LayersCompose
-layers_compose told entered l a frame cells stack items words tells enters frames never s placed = compiled told entered l a frame cells stack items words tells enters frames never s placed
+layers_compose told entered l a frame cells stack items words tells enters frames never s placed few =
+    code_for told entered (StackOver frame stack) l a cells stack items words tells enters
+    (λ i bytes n h. let f = frames i bytes n in omega (arith, h, f)) never s placed few

@@ -15,7 +15,8 @@ use Rattle.rv32_items.specs.Told.{finish_of, of_items}
 use Rattle.rv32_steps.specs.Trace.{procedures_at}
 use Rattle.rv32_select.specs.Selects as select
 use Rattle.rv32_select.specs.Selects.{exit_of, SameEnd, Follows, Arrives, Selects, start_at}
-use Rattle.grin_compile.specs.Layers.{HeapOver, FramesOver, SelectionCarries}
+use Rattle.grin_compile.specs.Limits.{HeapOver, FramesOver}
+use Rattle.grin_compile.specs.Layers.{SelectionCarries}
 
 begins_both : (xs ys zs : List ℕ) → Begins xs ys → Begins ys zs → Begins xs zs
 begins_both xs ys zs a b = (a.0 ++ b.0, b.1 ∙ ap (λ l. l ++ b.0) a.1 ∙ joined xs a.0 b.0)
@@ -117,10 +118,10 @@ module _ (l : Program) (a : Assignment) (cells stack : ℕ) (never : NeverMissin
   reaches n c h = reached n c (end_of (within_room n)) refl h.output h.ended
 
 pub selection_carries : SelectionCarries
-selection_carries l a cells stack items never s lay rises = (
+selection_carries l a cells stack items never s lay rises below = (
   record {
     reaches = λ i bytes n.
-        let r = s.arrives lay rises i bytes n in
+        let r = s.arrives lay rises below i bytes n in
         (r.0, reaches l a cells stack never i bytes n (course lay items r.0 i (start_at l.width cells stack lay)) r.1);
     comes = λ i bytes k. (length (procedures_at s.begins (course lay items k i (start_at l.width cells stack lay)).passed), shown i bytes k);
   },
@@ -131,4 +132,4 @@ selection_carries l a cells stack items never s lay rises = (
         let n = length (procedures_at s.begins (course lay items k i (start_at l.width cells stack lay)).passed) in
         Comes (HeapOver cells) (FramesOver stack) (of_low l (words_at a) i) n (of_items lay items (start_at l.width cells stack lay) i k)
     shown i bytes k =
-        comes l a cells stack never i bytes s.begins (course lay items k i (start_at l.width cells stack lay)) (s.follows lay rises i bytes k)
+        comes l a cells stack never i bytes s.begins (course lay items k i (start_at l.width cells stack lay)) (s.follows lay rises below i bytes k)

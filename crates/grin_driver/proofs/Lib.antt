@@ -1,7 +1,9 @@
 pub mod Files
 pub mod Texts
+pub mod Fronts
 pub mod Outcomes
 pub mod Execution
 pub mod Checks
 pub mod Putting
 pub mod Listings
+pub mod Ranges

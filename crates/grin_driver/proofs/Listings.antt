@@ -5,7 +5,7 @@ use Rattle.core_reader.specs.Text.{TextTooLong}
 use Rattle.command_line.specs.declared.command.Listing.{Listing}
 use Rattle.command_line.specs.declared.command.Listing.TheVariants as listing
 use Rattle.grin_opt.specs.declared.pass.PassName.{PassName}
-use Rattle.grin_opt.specs.declared.pass.PassName.TheVariants.{Translate, Eval, Apply}
+use Rattle.grin_opt.specs.declared.pass.PassName.TheVariants.{Translate, Eval, Apply, Vectorise}
 use Rattle.grin_io.specs.Changes.{SinkChange}
 use Rattle.grin_driver.specs.declared.status.Status.{Status}
 use Rattle.grin_driver.specs.declared.status.Status.TheVariants.{Done, Refused, OutOfMemory, WriteFault}
@@ -45,3 +45,4 @@ module _ {K : Type 0} (o : SinkChange K) (front text : List ℕ) (short : 104857
   lists_after_long listing.Translate status h = lists_long Translate status h
   lists_after_long listing.Eval status h = lists_long Eval status h
   lists_after_long listing.Apply status h = lists_long Apply status h
+  lists_after_long listing.Vectorise status h = lists_long Vectorise status h

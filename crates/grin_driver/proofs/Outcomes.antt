@@ -1,105 +1,190 @@
 -- What the end of a run says of the program.
-use Rattle.std.proofs.Common.{◌≡◌, ℕ, zero, suc, ◌<◌, Bool, true, false, List, [], ◌++◌, length, Option, Some, refl, sym, ap, ◌∙◌, subst}
+use Rattle.std.proofs.Common.{◌≡◌, ℕ, zero, suc, ◌<◌, ◌≤◌, Bool, true, false, List, length, Some, refl, sym, ap, ◌∙◌, subst, arith}
 use mathlib.Core.Logic.{inl, inr}
-use Rattle.core_reader.specs.Tree as tree
 use Rattle.arity_check.specs.Program.{Program}
 use Rattle.core_meaning.specs.Told.{of_core}
 use Rattle.elf32.specs.Image.{Image}
-use Rattle.grin_io.specs.Changes.{Told, SinkChange, BrokeOff}
-use Rattle.headline.specs.Carries.{End, going, done, no_alternative, missing, Told as Telling, Seen, Finish, runs, exits, traps, Begins, IsFull, Matches, Finishes, Reaches}
-use Rattle.rv32_machine.specs.Steps.{Stand, IsAt, start_of, state_of}
-use Rattle.rv32_machine.specs.Runs.{pieces}
-use Rattle.first_path.specs.Carried.{Never, seen}
-use Rattle.first_path.specs.Built.{IsCarriedBy}
+use Rattle.elf32.specs.Rules.{Loads, rule}
+use Rattle.elf32.specs.declared.refusal.ElfRefusal.{ElfRefusal}
+use Rattle.elf32.specs.declared.refusal.ElfRefusal.TheVariants.{ImageTooLong, TooShort, NotElf, NotRiscv32Exec, HeaderOutside, SegmentOutside, SegmentsOverlap, EntryOutside, SegmentsTooLarge, Memory as OutOfMemory'}
+use Rattle.grin_io.specs.Changes.{SourceChange, SinkChange, TookAll}
+use Rattle.grin_io.specs.declared.outside.Fault.TheVariants.{Read, Write}
+use Rattle.grin_opt.specs.declared.pass.PassName.{PassName}
+use Rattle.grin_opt.specs.declared.pass.PassName.TheVariants.{Translate, Eval}
+use Rattle.grin_stages.specs.Stage.{IsTooLarge, IsLarge}
+use Rattle.grin_stages.specs.declared.refusal.CompileRefusal.{CompileRefusal}
+use Rattle.grin_stages.specs.declared.refusal.CompileRefusal.TheVariants.{ExpandedTooLarge, Memory}
+use Rattle.headline.specs.Carries.{Told as Telling, Finish, runs, exits, traps, IsBytes, Begins, After, Finishes, Comes, Carries}
+use Rattle.rv32_machine.specs.Steps.{start_of}
+use Rattle.rv32_machine.specs.Runs.{End, Going, Exited as exited, Stopped, run, pieces}
+use Rattle.rv32_machine.specs.declared.machine.Stop.{Stop}
+use Rattle.rv32_machine.specs.declared.machine.Stop.TheVariants.{Steps, Exit, Trap}
+use Rattle.rv32_steps.specs.Seen.{seen, finish_of}
+use Rattle.grin_compile.specs.Limits.{HeapOver, StackOver, frame_bound, whole_words}
 use Rattle.grin_driver.specs.declared.status.Status.{Status}
-use Rattle.grin_driver.specs.declared.status.Status.TheVariants.{Done, Refused, NoAlternative, StepLimit, OutOfMemory, WriteFault}
-use Rattle.grin_driver.specs.Outcome.{IsNotRun, IsImageOf, RunsTo, IsFine, Ends, Puts, Pauses, work, Outcome}
+use Rattle.grin_driver.specs.declared.status.Status.TheVariants.{Refused, OutOfMemory, ReadFault, WriteFault}
+use Rattle.grin_driver.specs.Listing.{IsUnlisted}
+use Rattle.grin_driver.specs.Execution.{Stops, Execution, IsUnloadable, stop_at, status_of}
+use Rattle.grin_driver.specs.Outcome.{IsNotRun, IsImageOf, IsUnmade, named, Says, Outcome}
 use Rattle.grin_driver.proofs.Texts.{refused_long, accepted_short}
+use Rattle.grin_driver.proofs.Fronts.{took_output, gave_used, took_front}
 
--- ---- the finish
+-- ---- refusals
 
-finishes_fine : (t : ℕ → Telling) (n : ℕ) (s : Seen) (f : Finish) → Finishes Never Never t n s f → IsFine f
-finishes_fine t n s runs h = inl refl
-finishes_fine t n s (exits zero) h = inr (inl refl)
-finishes_fine t n s (exits (suc zero)) h = absurd h
-finishes_fine t n s (exits (suc (suc zero))) h = absurd h
-finishes_fine t n s (exits (suc (suc (suc zero)))) h = inr (inr refl)
-finishes_fine t n s (exits (suc (suc (suc (suc zero))))) h = absurd h.0
-finishes_fine t n s (exits (suc (suc (suc (suc (suc zero)))))) h = absurd h.0
-finishes_fine t n s (exits (suc (suc (suc (suc (suc (suc k))))))) h = absurd h
-finishes_fine t n s traps h = absurd h
+abbrev is_translate : PassName → Bool
+is_translate Translate = true
+is_translate _ = false
 
-pub fine : (text : List ℕ) (image : Image) → IsImageOf text image → (m : ℕ) → IsFine (seen image [] m).finish
-fine text image from m =
-    let c = from.carried.carries.comes [] tt m in
-    finishes_fine (of_core from.program []) c.0 (seen image [] m) (seen image [] m).finish c.1.finish
+-- a program that is too large has no stage behind the translation
+pub too_large : (p : Program) (refusal : CompileRefusal) → IsLarge p refusal → IsTooLarge p Eval refusal
+too_large p (ExpandedTooLarge size) h = ((λ e. let c : false ≡ true = ap is_translate e in absurd cc), h.0, h.1)
+too_large p (Memory e) h = h
 
--- ---- what the program tells
+pub unlisted_is_unmade : (text : List ℕ) (status : Status) → IsUnlisted text Eval status → IsUnmade text status
+unlisted_is_unmade text (Refused k at) (inl h) = inl h
+unlisted_is_unmade text (Refused k at) (inr h) = inr (h.0, h.2)
+unlisted_is_unmade text OutOfMemory h = h
+unlisted_is_unmade text _ h = absurd h
 
-abbrev is_running : Finish → Bool
-is_running runs = true
-is_running (exits code) = false
-is_running traps = false
+-- ---- the image
 
-going_on : (e : End) (t : Telling) (s : Seen) → Matches e t s → s.finish ≡ runs → e ≡ going
-going_on going t s m finish = refl
-going_on done t s m finish = let b : false ≡ true = ap is_running (sym m.1 ∙ finish) in absurd cc
-going_on no_alternative t s m finish = let b : false ≡ true = ap is_running (sym m.1 ∙ finish) in absurd cc
-going_on missing t s m finish = absurd m
+rule_below : (r : ElfRefusal) → rule r < 49
+rule_below ImageTooLong = omega arith
+rule_below TooShort = omega arith
+rule_below NotElf = omega arith
+rule_below NotRiscv32Exec = omega arith
+rule_below HeaderOutside = omega arith
+rule_below (SegmentOutside i) = omega arith
+rule_below (SegmentsOverlap j) = omega arith
+rule_below EntryOutside = omega arith
+rule_below SegmentsTooLarge = omega arith
+rule_below (OutOfMemory' e) = omega arith
 
-not_full : (f : Finish) → IsFull f → f ≡ runs → ⊥
-not_full f (inl e) finish = let b : false ≡ true = ap is_running (sym e ∙ finish) in cc
-not_full f (inr e) finish = let b : false ≡ true = ap is_running (sym e ∙ finish) in cc
+-- a file that loads breaks no rule
+loadable : (file : List ℕ) (image : Image) (k at : ℕ) → Loads file image → IsUnloadable file k at → ⊥
+loadable file image k at loads u = loads.unbroken u.refusal (rule_below u.refusal) u.broken
 
--- a machine that runs has reached what goes on
-running_on : (t : Telling) (s : Seen) → Reaches t s → s.finish ≡ runs → (t.end ≡ going) × Begins t.out s.out
-running_on t s (inl r) finish = (going_on t.end t s r.1 finish, r.0)
-running_on t s (inr r) finish = absurd (not_full s.finish r.0 finish)
+-- whatever a text's file loads as carries the text's program
+pub carried : (text : List ℕ) (cells stack : ℕ) (file : List ℕ) (from : IsImageOf text cells stack file) (image : Image) → Loads file image
+    → Carries (HeapOver cells) (StackOver (frame_bound from.program from.made.solution) (whole_words stack)) (of_core from.program) (seen image)
+carried text cells stack file from image loads =
+    subst (λ b. Carries (HeapOver cells) (StackOver (frame_bound from.program from.made.solution) (whole_words stack)) (of_core from.program) (seen b))
+    (from.made.image.loads.program ∙ sym loads.program) from.made.image.code_for.carries
 
-module _ (source : tree.Program) (p : Program) (image : Image) (carried : IsCarriedBy source p image) (steps : ℕ) where
-  ends_done : (seen image [] steps).finish ≡ exits 0 → Ends p done (seen image [] steps).out
-  ends_done finish = λ input.
-      let c = carried.carries.comes [] tt steps in
-      let f : ((seen image [] steps).out ≡ (of_core p [] c.0).out) × ((seen image [] steps).used ≡ (of_core p [] c.0).used) × ((of_core p [] c.0).end ≡ done) =
-      subst (λ f. Finishes Never Never (of_core p []) c.0 (seen image [] steps) f) finish c.1.finish in
-      (c.0, carried.same_end input [] c.0 ∙ f.2, f.0 ∙ carried.same_out [] input c.0)
+-- ---- what the program says
 
-  ends_without : (seen image [] steps).finish ≡ exits 3 → Ends p no_alternative (seen image [] steps).out
-  ends_without finish = λ input.
-      let c = carried.carries.comes [] tt steps in
-      let f : ((seen image [] steps).out ≡ (of_core p [] c.0).out) × ((seen image [] steps).used ≡ (of_core p [] c.0).used) × ((of_core p [] c.0).end ≡ no_alternative) =
-      subst (λ f. Finishes Never Never (of_core p []) c.0 (seen image [] steps) f) finish c.1.finish in
-      (c.0, carried.same_end input [] c.0 ∙ f.2, f.0 ∙ carried.same_out [] input c.0)
+-- the finish that an answer of the machine names
+abbrev pub finish_by : Stop → Finish
+finish_by Steps = runs
+finish_by (Exit code) = exits code
+finish_by (Trap kind pc) = traps
 
-  puts_some : Puts p (seen image [] steps).out
-  puts_some = λ input.
-      let c = carried.carries.comes [] tt steps in
-      (c.0, (c.1.output.0, carried.same_out input [] c.0 ∙ c.1.output.1))
+finish_at : (e : End) → finish_of e ≡ finish_by (stop_at e)
+finish_at (Going s) = refl
+finish_at (exited code s) = refl
+finish_at (Stopped kind s) = refl
 
-  pauses : (seen image [] steps).finish ≡ runs → Pauses (work source) steps p (seen image [] steps).out
-  pauses finish = record {
-    part = puts_some;
-    paced = λ units enough input.
-        let r = running_on (of_core p [] units) (seen image [] steps) (carried.paced [] tt units steps enough) finish in (
-          carried.same_end input [] units ∙ r.0,
-          (r.1.0, r.1.1 ∙ ap (λ o. o ++ r.1.0) (carried.same_out [] input units)),
-        );
+module _ {I K : Type 0} (i : SourceChange I) (o : SinkChange K) (Heap Stack : Telling → Type 0) (told : ℕ → Telling) (image : Image) (steps : ℕ) (bytes : List ℕ)
+    (c : (n : ℕ) × Comes Heap Stack told n (seen image bytes steps)) where
+  pub says_stopped : (stop : Stop) → Finishes Heap Stack told c.0 (seen image bytes steps) (finish_by stop)
+      → TookAll o (pieces steps bytes (start_of image)) → i.left i.new ≡ Some (run steps bytes (start_of image)).left
+      → Says i o Heap Stack told bytes (named (status_of stop))
+  says_stopped Steps f took left = record {
+    units = c.0;
+    took = took_output i o steps bytes (start_of image) (λ out. Begins out (told c.0).out) took c.1.output;
+    gave = gave_used i o steps bytes (start_of image) (λ count. count ≤ (told c.0).used) left c.1.used;
   }
+  says_stopped (Exit zero) f took left = record {
+    units = c.0;
+    ended = f.2;
+    took = took_output i o steps bytes (start_of image) (λ out. out ≡ (told c.0).out) took f.0;
+    gave = gave_used i o steps bytes (start_of image) (λ count. count ≡ (told c.0).used) left f.1;
+  }
+  says_stopped (Exit (suc zero)) f took left = absurd f
+  says_stopped (Exit (suc (suc zero))) f took left = absurd f
+  says_stopped (Exit (suc (suc (suc zero)))) f took left = record {
+    units = c.0;
+    ended = f.2;
+    took = took_output i o steps bytes (start_of image) (λ out. out ≡ (told c.0).out) took f.0;
+    gave = gave_used i o steps bytes (start_of image) (λ count. count ≡ (told c.0).used) left f.1;
+  }
+  says_stopped (Exit (suc (suc (suc (suc zero))))) f took left = record {
+    units = c.0;
+    needs = f.0;
+    took = took_output i o steps bytes (start_of image) (λ out. After told c.0 out × Begins out (told c.0).out) took (f.1, c.1.output);
+    gave = gave_used i o steps bytes (start_of image) (λ count. count ≤ (told c.0).used) left c.1.used;
+  }
+  says_stopped (Exit (suc (suc (suc (suc (suc zero)))))) f took left = record {
+    units = c.0;
+    needs = f.0;
+    took = took_output i o steps bytes (start_of image) (λ out. After told c.0 out × Begins out (told c.0).out) took (f.1, c.1.output);
+    gave = gave_used i o steps bytes (start_of image) (λ count. count ≤ (told c.0).used) left c.1.used;
+  }
+  says_stopped (Exit (suc (suc (suc (suc (suc (suc k))))))) f took left = absurd f
+  says_stopped (Trap kind pc) f took left = absurd f
+
+  pub finishes : (stop : Stop) → stop_at (run steps bytes (start_of image)).end ≡ stop → Finishes Heap Stack told c.0 (seen image bytes steps) (finish_by stop)
+  finishes stop is =
+      subst (λ f. Finishes Heap Stack told c.0 (seen image bytes steps) f)
+      (finish_at (run steps bytes (start_of image)).end ∙ ap finish_by is) c.1.finish
 
 -- ---- the statuses
 
-pub outcome : {K : Type 0} (o : SinkChange K) (text : List ℕ) (image : Image) (steps : ℕ)
-    → IsImageOf text image → (status : Status) → RunsTo o image steps status → Outcome o text steps status
-outcome o text image steps from Done ran = record { image = image; from = from; ran = ran; says = ends_done from.source from.program image from.carried steps ran.finished }
-outcome o text image steps from NoAlternative ran = record { image = image; from = from; ran = ran; says = ends_without from.source from.program image from.carried steps ran.finished }
-outcome o text image steps from StepLimit ran = record { image = image; from = from; ran = ran; says = pauses from.source from.program image from.carried steps ran.finished }
-outcome o text image steps from WriteFault ran = record { image = image; from = from; ran = ran; says = puts_some from.source from.program image from.carried steps }
-outcome o text image steps from OutOfMemory ran = ran
-outcome o text image steps from _ ran = absurd ran
+module _ {I K : Type 0} (i : SourceChange I) (o : SinkChange K) (text : List ℕ) (cells stack steps : ℕ) (file : List ℕ) (from : IsImageOf text cells stack file) where
+  -- the program says this status, where the source tells its bytes
+  abbrev Said : Status → Type 0
+  Said status =
+      (bytes : List ℕ) → i.left i.old ≡ Some bytes → IsBytes bytes
+      → Says i o (HeapOver cells) (StackOver (frame_bound from.program from.made.solution) (whole_words stack)) (of_core from.program bytes) bytes status
 
-pub broke : {K : Type 0} (o : SinkChange K) (image : Image) (m : Stand) (steps : ℕ) (left : Option (List ℕ))
-    → IsAt m (start_of image) false false → left ≡ Some [] → Told left (λ i. BrokeOff o (pieces steps i (state_of m))) → BrokeOff o (pieces steps [] (start_of image))
-broke o image m steps left begins left-is puts = subst (λ s. BrokeOff o (pieces steps [] s)) begins.0 (puts [] left-is)
+  said : (image : Image) → Loads file image → (stop : Stop) → Stops i o image steps stop → Said (named (status_of stop))
+  said image loads stop stops bytes is are =
+      let c = (carried text cells stack file from image loads).comes bytes are steps in
+      let s = stops.stands bytes is in
+      says_stopped i o (HeapOver cells) (StackOver (frame_bound from.program from.made.solution) (whole_words stack)) (of_core from.program bytes) image steps bytes c stop
+      (finishes i o (HeapOver cells) (StackOver (frame_bound from.program from.made.solution) (whole_words stack)) (of_core from.program bytes) image steps bytes c stop s.0) (stops.took bytes is) s.1
+
+  -- the run stopped
+  runs_to : (image : Image) → Loads file image → (stop : Stop) → Stops i o image steps stop → Said (named (status_of stop)) → Outcome i o text cells stack steps (named (status_of stop))
+  runs_to image loads Steps ran says = record { file = file; from = from; image = image; loads = loads; ran = ran; says = says }
+  runs_to image loads (Exit zero) ran says = record { file = file; from = from; image = image; loads = loads; ran = ran; says = says }
+  runs_to image loads (Exit (suc zero)) ran says = record { file = file; from = from; image = image; loads = loads; ran = ran; says = says }
+  runs_to image loads (Exit (suc (suc zero))) ran says = record { file = file; from = from; image = image; loads = loads; ran = ran; says = says }
+  runs_to image loads (Exit (suc (suc (suc zero)))) ran says = record { file = file; from = from; image = image; loads = loads; ran = ran; says = says }
+  runs_to image loads (Exit (suc (suc (suc (suc zero))))) ran says = record { file = file; from = from; image = image; loads = loads; ran = ran; says = says }
+  runs_to image loads (Exit (suc (suc (suc (suc (suc zero)))))) ran says = record { file = file; from = from; image = image; loads = loads; ran = ran; says = says }
+  runs_to image loads (Exit (suc (suc (suc (suc (suc (suc k))))))) ran says = record { file = file; from = from; image = image; loads = loads; ran = ran; says = says }
+  runs_to image loads (Trap kind pc) ran says = record { file = file; from = from; image = image; loads = loads; ran = ran; says = says }
+
+  stopped : (status : Status) → (image : Image) × Loads file image × ((stop : Stop) × (status_of stop ≡ status) × Stops i o image steps stop)
+      → Outcome i o text cells stack steps (named status)
+  stopped status h = subst (λ s. Outcome i o text cells stack steps (named s)) h.2.1 (runs_to h.0 h.1 h.2.0 h.2.2 (said h.0 h.1 h.2.0 h.2.2))
+
+  -- the status of the run of a text's file is that of the text, under its name
+  pub outcome : (status : Status) → Execution i o file steps status → Outcome i o text cells stack steps (named status)
+  outcome (Refused k at) h = absurd (loadable file _ k at from.made.image.loads h.0)
+  outcome OutOfMemory h = h
+  outcome ReadFault h = record {
+    file = file;
+    from = from;
+    image = h.0;
+    loads = h.1;
+    ran = h.2;
+    says = λ bytes is are.
+        let c = (carried text cells stack file from h.0 h.1).comes bytes are steps in
+        record { units = c.0; took = took_front i o steps bytes (start_of h.0) Read (of_core from.program bytes c.0).out (h.2.puts bytes is) c.1.output };
+  }
+  outcome WriteFault h = record {
+    file = file;
+    from = from;
+    image = h.0;
+    loads = h.1;
+    ran = h.2;
+    says = λ bytes is are.
+        let c = (carried text cells stack file from h.0 h.1).comes bytes are steps in
+        record { units = c.0; took = took_front i o steps bytes (start_of h.0) Write (of_core from.program bytes c.0).out (h.2.puts bytes is) c.1.output };
+  }
+  outcome status h = stopped status h
 
 -- ---- texts that are too long
 
@@ -107,9 +192,9 @@ not_run_long : (front text : List ℕ) → 1048576 < length front → 1048576 < 
 not_run_long front text short long k at (inl h) = inl (refused_long front text short long k at h)
 not_run_long front text short long k at (inr h) = accepted_short front h.1.source h.1.program short h.1.accepted
 
-pub outcome_long : {K : Type 0} (o : SinkChange K) (front text : List ℕ) (steps : ℕ)
+pub outcome_long : {I K : Type 0} (i : SourceChange I) (o : SinkChange K) (front text : List ℕ) (cells stack steps : ℕ)
     → 1048576 < length front → 1048576 < length text → (status : Status)
-    → Outcome o front steps status → Outcome o text steps status
-outcome_long o front text steps short long (Refused k at) h = (not_run_long front text short long k at h.0, h.1)
-outcome_long o front text steps short long OutOfMemory h = h
-outcome_long o front text steps short long _ h = accepted_short front h.from.source h.from.program short h.from.accepted
+    → Outcome i o front cells stack steps status → Outcome i o text cells stack steps status
+outcome_long i o front text cells stack steps short long (Refused k at) h = (not_run_long front text short long k at h.0, h.1)
+outcome_long i o front text cells stack steps short long OutOfMemory h = h
+outcome_long i o front text cells stack steps short long _ h = accepted_short front h.from.source h.from.program short h.from.accepted

@@ -1,20 +1,18 @@
 -- Refusals of texts, and texts that are too long.
-use Rattle.std.proofs.Common.{◌≡◌, ℕ, ◌<◌, List, length, None, refl, subst, sym, ◌∙◌, arith}
+use Rattle.std.proofs.Common.{◌≡◌, ℕ, ◌<◌, List, length, refl, subst, sym, arith}
 use mathlib.Core.Logic.{inl, inr}
 use Rattle.core_reader.specs.Tree as tree
 use Rattle.core_reader.proofs.Unbroken.{unbroken_is_readable}
 use Rattle.core_reader.specs.Text.{IsFirstUnread, IsUnread, BadByte, Syntax, NumberRange, TooDeep, TextTooLong, NoLater}
-use Rattle.arity_check.specs.Program.{Program, program as program_of}
+use Rattle.arity_check.specs.Program.{Program}
 use Rattle.arity_check.specs.Accepted.{IsFirstBroken, IsValid}
 use Rattle.arity_check.specs.First as check
 use Rattle.arity_check.specs.Refusal.{rule, place}
 use Rattle.arity_check.specs.declared.refusal.CheckRefusal.{CheckRefusal}
 use Rattle.arity_check.specs.declared.refusal.CheckRefusal.TheVariants.{DuplicateConstructor, DuplicateFunction, DuplicateName, UnknownName, ConstructorArity, DefaultNotLast, DuplicateAlternative, MixedAlternatives, ReservedName, PrimitiveArity, NoMain, MainHasParameters, NoListConstructors, TooManyFunctions, TooManyConstructors, TooManyParameters, TooManyFields, CoreTooLarge, Memory}
-use Rattle.first_path.specs.Built.{IsBuiltFrom}
-use Rattle.grin_driver.specs.declared.accept.Accepted.{Accepted}
 use Rattle.grin_driver.specs.declared.status.Status.{Status}
 use Rattle.grin_driver.specs.declared.status.Status.TheVariants.{Refused, OutOfMemory}
-use Rattle.grin_driver.specs.Text.{IsRefusedBy, Unread, Unaccepted, IsAccepted, IsAcceptedAs, IsNotRead, IsUnaccepted}
+use Rattle.grin_driver.specs.Text.{IsRefusedBy, Unread, Unaccepted, IsAccepted, IsNotRead, IsUnaccepted}
 
 -- a refusal that is no want of memory names the first broken rule
 pub caused : (p : tree.Program) (r : CheckRefusal) → (rule r ≡ 0 → ⊥) → check.IsCause p r → IsFirstBroken p (rule r) (place r)
@@ -47,12 +45,6 @@ not_accepted text _ h = absurd h
 -- the normal form of an accepted text is valid
 pub accepted_is_valid : (text : List ℕ) (source : tree.Program) (p : Program) → IsAccepted text source p → IsValid p
 accepted_is_valid text source p a = record { program = source; readable = unbroken_is_readable text source a.read a.stands; unbroken = a.unbroken; normal = a.normal }
-
--- and where its program is built, it is that of a program that is built
-pub accepted_is_built : (text : List ℕ) (kept : Accepted) (a : IsAcceptedAs text kept) → kept.unbuilt ≡ None → IsBuiltFrom a.source (program_of kept.program)
-accepted_is_built text kept a none =
-    let it = a.accepted in
-    record { readable = unbroken_is_readable text a.source it.read it.stands; unbroken = it.unbroken; normal = it.normal; built = sym a.unbuilt ∙ none }
 
 -- ---- texts that are too long
 

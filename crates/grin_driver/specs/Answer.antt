@@ -6,14 +6,11 @@ use Rattle.grin_io.specs.Changes.{Told, ShelfChange, SourceChange, SinkChange}
 use Rattle.grin_driver.specs.declared.status.Status.{Status}
 use Rattle.grin_driver.specs.declared.status.Status.TheVariants.{Usage}
 use Rattle.grin_driver.specs.Reading.{IsUnread, open_behind}
+use Rattle.grin_compile.specs.Limits.{InRange}
 use Rattle.grin_driver.specs.Outcome.{Outcome}
 use Rattle.grin_driver.specs.Checking.{Checks}
 use Rattle.grin_driver.specs.Listing.{ListsAfter}
-use Rattle.grin_driver.specs.Execution.{Execution}
-
--- the instructions that `run` gives a program
-abbrev pub default_steps : ℕ
-default_steps = 1000000000
+use Rattle.grin_driver.specs.Execution.{IsUntouched, Execution}
 
 -- the most bytes that are taken of a text and of an image: one more than those of the longest one
 abbrev pub most_of_text : ℕ
@@ -38,10 +35,15 @@ OfOperand f most untouched file outcome status = (IsUnread f status × untouched
 
 -- the file that a command names
 abbrev pub operand_of : CommandLine → List ℕ
-operand_of (RunFile file) = file
+operand_of (RunFile file cells stack steps) = file
 operand_of (CheckFile file) = file
 operand_of (ListFile file after) = file
 operand_of (ExecImage image steps) = image
+
+-- what `run` asks of an image is within the limits
+abbrev pub IsWithin : CommandLine → Type 0
+IsWithin (RunFile file cells stack steps) = InRange cells stack
+IsWithin _ = Unit {0}
 
 -- what a command line did to a shelf, an input and an output
 module _ {F I K : Type 0} (f : ShelfChange F) (i : SourceChange I) (o : SinkChange K) where
@@ -49,15 +51,16 @@ module _ {F I K : Type 0} (f : ShelfChange F) (i : SourceChange I) (o : SinkChan
   abbrev pub IsUsage : Status → Type 0
   IsUsage status = (status ≡ Usage) × (f.new ≡ f.old) × (i.new ≡ i.old) × (o.new ≡ o.old)
 
-  -- the status of a command over the text that it names
+  -- the status of a command over the text that it names, which reads no input
   abbrev pub FromText : (file : List ℕ) → (outcome : List ℕ → Status → Type 0) → Status → Type 0
   FromText file outcome status = OfOperand f most_of_text (o.new ≡ o.old) file outcome status × (i.new ≡ i.old)
 
-  -- The status of a command line: Usage exactly where its words are no command. Only `exec` reads the input.
+  -- The status of a command line: Usage exactly where its words are no command. Only `run` and `exec` read the input.
   abbrev pub Answers : Option CommandLine → Status → Type 0
   Answers None status = IsUsage status
-  Answers (Some (RunFile file)) status = FromText file (λ text status. Outcome o text default_steps status) status
+  Answers (Some (RunFile file cells stack steps)) status =
+      OfOperand f most_of_text (IsUntouched i o) file (λ text status. Outcome i o text cells stack steps status) status
   Answers (Some (CheckFile file)) status = FromText file (λ text status. Checks o text status) status
   Answers (Some (ListFile file after)) status = FromText file (λ text status. ListsAfter o text after status) status
   Answers (Some (ExecImage image steps)) status =
-      OfOperand f most_of_image ((i.new ≡ i.old) × (o.new ≡ o.old)) image (λ bytes status. Execution i o bytes steps status) status
+      OfOperand f most_of_image (IsUntouched i o) image (λ bytes status. Execution i o bytes steps status) status

@@ -7,7 +7,7 @@ use Rattle.arity_check.specs.Program.{Program}
 use Rattle.grin_syntax.specs.Tree as grin
 use Rattle.grin_syntax.specs.Listing as grin_listing
 use Rattle.grin_opt.specs.declared.pass.PassName.{PassName}
-use Rattle.grin_opt.specs.declared.pass.PassName.TheVariants.{Translate, Eval, Apply}
+use Rattle.grin_opt.specs.declared.pass.PassName.TheVariants.{Translate, Eval, Apply, Vectorise}
 use Rattle.command_line.specs.declared.command.Listing.{Listing}
 use Rattle.command_line.specs.declared.command.Listing.TheVariants as listing
 use Rattle.grin_stages.specs.Stage.{IsStage, Fits, HasExpandedSize}
@@ -78,3 +78,4 @@ ListsAfter o text listing.Read status = Prints o text status
 ListsAfter o text listing.Translate status = Lists o text Translate status
 ListsAfter o text listing.Eval status = Lists o text Eval status
 ListsAfter o text listing.Apply status = Lists o text Apply status
+ListsAfter o text listing.Vectorise status = Lists o text Vectorise status

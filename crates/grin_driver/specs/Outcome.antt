@@ -1,118 +1,130 @@
 -- What each status says of a text that is run.
-use Rattle.std.specs.Prelude.{◌≡◌, ℕ, ◌+◌, ◌*◌, ◌≤◌, ◌⊎◌, List, [], Some, None}
+use Rattle.std.specs.Prelude.{◌≡◌, ◌≤◌, ◌⊎◌, ℕ, zero, suc, List, ◌++◌, length, drop, Some}
 use Rattle.core_reader.specs.Tree as tree
-use Rattle.core_reader.specs.Size.{program_size}
 use Rattle.arity_check.specs.Program.{Program}
 use Rattle.core_meaning.specs.Told.{of_core}
 use Rattle.elf32.specs.Image.{Image}
-use Rattle.headline.specs.Carries.{End, going, done, no_alternative, Begins, Finish, runs, exits, traps}
-use Rattle.grin_io.specs.Changes.{SinkChange, TookAll, BrokeOff}
-use Rattle.rv32_machine.specs.Steps.{start_of}
-use Rattle.rv32_machine.specs.Runs.{pieces}
-use Rattle.rv32_machine.specs.declared.machine.Stop.{Stop}
+use Rattle.elf32.specs.Rules.{Loads}
+use Rattle.grin_io.specs.Changes.{Told, SourceChange, SinkChange}
+use Rattle.grin_io.specs.declared.outside.Fault.TheVariants.{Read, Write}
+use Rattle.headline.specs.Carries.{End, done, no_alternative, Told as Telling, IsBytes, Begins, After}
 use Rattle.rv32_machine.specs.declared.machine.Stop.TheVariants.{Steps, Exit, Trap}
-use Rattle.first_path.specs.Simple.{not_yet_at}
-use Rattle.first_path.specs.Carried.{seen}
-use Rattle.first_path.specs.Built.{IsCarriedBy}
+use Rattle.grin_stages.specs.Stage.{Fits}
+use Rattle.grin_compile.specs.Limits.{HeapOver, StackOver, frame_bound, whole_words}
+use Rattle.grin_compile.specs.Made.{Made}
 use Rattle.grin_driver.specs.declared.status.Status.{Status}
-use Rattle.grin_driver.specs.declared.status.Status.TheVariants.{Done, Refused, NoAlternative, StepLimit, OutOfMemory, WriteFault}
+use Rattle.grin_driver.specs.declared.status.Status.TheVariants.{Done, Refused, NoAlternative, HeapFull, StackFull, StepLimit, Exited, Trapped, OutOfMemory, ReadFault, WriteFault}
 use Rattle.grin_driver.specs.Text.{IsRefusedBy, IsAccepted}
+use Rattle.grin_driver.specs.Listing.{IsLargeText}
+use Rattle.grin_driver.specs.Execution.{Stops, Fails, IsUntouched}
 
--- a function of the text's program is not built yet; the first such one has its name at this place
-pub record IsUnbuilt (text : List ℕ) (at : ℕ) : Type 0 where
-  pub source : tree.Program
-  pub program : Program
-  pub accepted : IsAccepted text source program
-  pub unbuilt : not_yet_at source ≡ Some at
+-- ---- the image of a text
 
--- which rule refuses a run: the first one that the text breaks, else rule 6 for a function that is not built yet
+-- which rule refuses a run: the first one that the text breaks, else rule 36, at the size of its program once it is inlined
 abbrev pub IsNotRun : (text : List ℕ) → (rule number : ℕ) → Type 0
-IsNotRun text rule number = IsRefusedBy text rule number ⊎ ((rule ≡ 6) × IsUnbuilt text number)
+IsNotRun text rule number = IsRefusedBy text rule number ⊎ ((rule ≡ 36) × IsLargeText text number)
 
--- The image carries the program of a text that breaks no rule.
-pub record IsImageOf (text : List ℕ) (image : Image) : Type 0 where
+-- The text breaks no rule, and this is the file of an image that is made of its program, with so many cells and so many bytes of
+-- stack, rounded down to words.
+pub record IsImageOf (text : List ℕ) (cells stack : ℕ) (file : List ℕ) : Type 0 where
   pub source : tree.Program
   pub program : Program
   pub accepted : IsAccepted text source program
-  pub built : not_yet_at source ≡ None
-  pub carried : IsCarriedBy source program image
+  pub fits : Fits program
+  pub made : Made program cells (whole_words stack) file
 
--- ---- the run of an image on an input of no bytes
-
--- it has finished so within the steps, and the sink took just the pieces that it put
-pub record Ran {K : Type 0} (o : SinkChange K) (image : Image) (steps : ℕ) (finish : Finish) : Type 0 where
-  pub finished : (seen image [] steps).finish ≡ finish
-  pub took : TookAll o (pieces steps [] (start_of image))
-
--- the status names the end of the run
-abbrev pub RunsTo : {K : Type 0} → SinkChange K → Image → (steps : ℕ) → Status → Type 0
-RunsTo o image steps Done = Ran o image steps (exits 0)
-RunsTo o image steps NoAlternative = Ran o image steps (exits 3)
-RunsTo o image steps StepLimit = Ran o image steps runs
-RunsTo o image steps WriteFault = BrokeOff o (pieces steps [] (start_of image))
-RunsTo o image steps OutOfMemory = o.new ≡ o.old
-RunsTo o image steps _ = ⊥
-
--- what an answer of the machine's run says of its finish
-abbrev pub finish_by : Stop → Finish
-finish_by Steps = runs
-finish_by (Exit code) = exits code
-finish_by (Trap kind pc) = traps
-
--- the status that names a finish
-abbrev pub IsNamedBy : Finish → Status → Type 0
-IsNamedBy finish Done = finish ≡ exits 0
-IsNamedBy finish NoAlternative = finish ≡ exits 3
-IsNamedBy finish StepLimit = finish ≡ runs
-IsNamedBy finish _ = ⊥
-
--- the run goes on, or has ended by the exit 0 or 3
-abbrev pub IsFine : Finish → Type 0
-IsFine finish = (finish ≡ runs) ⊎ ((finish ≡ exits 0) ⊎ (finish ≡ exits 3))
-
--- ---- what the program tells
-
--- within some units it ends so, having put out these bytes
-abbrev pub Ends : Program → End → (out : List ℕ) → Type 0
-Ends p end out = (input : List ℕ) → (units : ℕ) × ((of_core p input units).end ≡ end) × (out ≡ (of_core p input units).out)
-
--- within some units it puts out these bytes, and maybe more behind them
-abbrev pub Puts : Program → (out : List ℕ) → Type 0
-Puts p out = (input : List ℕ) → (units : ℕ) × Begins out (of_core p input units).out
-
--- as many instructions are enough for each unit, and for the start
-abbrev pub work : tree.Program → ℕ
-work source = 2048 * (program_size source + 8)
-
--- it puts out these bytes; and within as many units as the steps are enough for it goes on, and puts out no more than these
-pub record Pauses (work steps : ℕ) (p : Program) (out : List ℕ) : Type 0 where
-  pub part : Puts p out
-  pub paced : (units : ℕ) → work * (units + 1) ≤ steps → (input : List ℕ) → ((of_core p input units).end ≡ going) × Begins (of_core p input units).out out
-
-abbrev pub Says : (source : tree.Program) → Program → (steps : ℕ) → (out : List ℕ) → Status → Type 0
-Says source p steps out Done = Ends p done out
-Says source p steps out NoAlternative = Ends p no_alternative out
-Says source p steps out StepLimit = Pauses (work source) steps p out
-Says source p steps out WriteFault = Puts p out
-Says source p steps out _ = ⊥
-
--- ---- the statuses of a text
-
--- There is an image that carries the text's program; the status is the end of its run, and what the program tells.
-pub record Runs {K : Type 0} (o : SinkChange K) (text : List ℕ) (steps : ℕ) (status : Status) : Type 0 where
-  pub image : Image
-  pub from : IsImageOf text image
-  pub ran : RunsTo o image steps status
-  pub says : Says from.source from.program steps (seen image [] steps).out status
-
--- The status of a text, and what became of the sink: nothing at a refusal or for want of memory.
-abbrev pub Outcome : {K : Type 0} → SinkChange K → (text : List ℕ) → (steps : ℕ) → Status → Type 0
-Outcome o text steps (Refused rule number) = IsNotRun text rule number × (o.new ≡ o.old)
-Outcome o text steps OutOfMemory = o.new ≡ o.old
-Outcome o text steps status = Runs o text steps status
-
--- why no image was made of a text
+-- why no image is made of a text
 abbrev pub IsUnmade : (text : List ℕ) → Status → Type 0
 IsUnmade text (Refused rule number) = IsNotRun text rule number
 IsUnmade text OutOfMemory = Unit {0}
 IsUnmade text _ = ⊥
+
+-- the status of a run by that of its image: three exits have names of their own
+abbrev pub named : Status → Status
+named (Exited (suc (suc (suc zero)))) = NoAlternative
+named (Exited (suc (suc (suc (suc zero))))) = HeapFull
+named (Exited (suc (suc (suc (suc (suc zero)))))) = StackFull
+named status = status
+
+-- ---- its run from a source to a sink
+
+module _ {I K : Type 0} (i : SourceChange I) (o : SinkChange K) where
+  -- the status names the end of the run
+  abbrev pub RunsTo : Image → (steps : ℕ) → Status → Type 0
+  RunsTo image steps Done = Stops i o image steps (Exit 0)
+  RunsTo image steps NoAlternative = Stops i o image steps (Exit 3)
+  RunsTo image steps HeapFull = Stops i o image steps (Exit 4)
+  RunsTo image steps StackFull = Stops i o image steps (Exit 5)
+  RunsTo image steps StepLimit = Stops i o image steps Steps
+  RunsTo image steps (Exited code) = Stops i o image steps (Exit code)
+  RunsTo image steps (Trapped kind pc) = Stops i o image steps (Trap kind pc)
+  RunsTo image steps ReadFault = Fails i o image steps Read
+  RunsTo image steps WriteFault = Fails i o image steps Write
+  RunsTo image steps _ = ⊥
+
+  -- the sink took bytes of which this holds, where it tells what it takes
+  abbrev pub Took : (List ℕ → Type 0) → Type 0
+  Took Holds = Told (o.taken o.old) (λ before. (out : List ℕ) × (o.taken o.new ≡ Some (before ++ out)) × Holds out)
+
+  -- the source gave so many of these bytes, and this holds of their number
+  abbrev pub Gave : List ℕ → (ℕ → Type 0) → Type 0
+  Gave bytes Holds = (count : ℕ) × (count ≤ length bytes) × (i.left i.new ≡ Some (drop count bytes)) × Holds count
+
+  -- What a program tells on the bytes of an input, within each number of units; and when that needs more than was given.
+  module _ (OutOfHeap OutOfStack : Telling → Type 0) (told : ℕ → Telling) (bytes : List ℕ) where
+    -- within some units the program has this end: just its output was taken, and just the bytes that it used were given
+    pub record Ends (end : End) : Type 0 where
+      pub units : ℕ
+      pub ended : (told units).end ≡ end
+      pub took : Took (λ out. out ≡ (told units).out)
+      pub gave : Gave bytes (λ count. count ≡ (told units).used)
+
+    -- within some units the program needs more than it was given: what was taken lies between its output within one unit less
+    -- and within these, and no more was given than it used
+    pub record Lacks (Needs : Telling → Type 0) : Type 0 where
+      pub units : ℕ
+      pub needs : Needs (told units)
+      pub took : Took (λ out. After told units out × Begins out (told units).out)
+      pub gave : Gave bytes (λ count. count ≤ (told units).used)
+
+    -- what was taken begins the program's output within some units, and no more was given than it used
+    pub record Pauses : Type 0 where
+      pub units : ℕ
+      pub took : Took (λ out. Begins out (told units).out)
+      pub gave : Gave bytes (λ count. count ≤ (told units).used)
+
+    -- what was taken begins the program's output within some units
+    pub record Breaks : Type 0 where
+      pub units : ℕ
+      pub took : Took (λ out. Begins out (told units).out)
+
+    -- what the program says of the end of a run; there is no other end
+    abbrev pub Says : Status → Type 0
+    Says Done = Ends done
+    Says NoAlternative = Ends no_alternative
+    Says HeapFull = Lacks OutOfHeap
+    Says StackFull = Lacks OutOfStack
+    Says StepLimit = Pauses
+    Says ReadFault = Breaks
+    Says WriteFault = Breaks
+    Says _ = ⊥
+
+  -- ---- the statuses of a text
+
+  -- There is an image of the text that loads. The status is the end of its run, and where the source tells its bytes, it is what
+  -- the program says on them.
+  pub record Runs (text : List ℕ) (cells stack steps : ℕ) (status : Status) : Type 0 where
+    pub file : List ℕ
+    pub from : IsImageOf text cells stack file
+    pub image : Image
+    pub loads : Loads file image
+    pub ran : RunsTo image steps status
+    pub says :
+        Told (i.left i.old) (λ bytes. IsBytes bytes
+        → Says (HeapOver cells) (StackOver (frame_bound from.program from.made.solution) (whole_words stack)) (of_core from.program bytes) bytes status)
+
+  -- The status of a text, with so many cells, bytes of stack and steps. At a refusal and for want of memory nothing was touched.
+  abbrev pub Outcome : (text : List ℕ) → (cells stack steps : ℕ) → Status → Type 0
+  Outcome text cells stack steps (Refused rule number) = IsNotRun text rule number × IsUntouched i o
+  Outcome text cells stack steps OutOfMemory = IsUntouched i o
+  Outcome text cells stack steps status = Runs text cells stack steps status

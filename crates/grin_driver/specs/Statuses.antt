@@ -3,7 +3,7 @@ use Rattle.std.specs.Prelude.{ℕ, List, [], ◌++◌, codes, decimal}
 use Rattle.rv32_machine.specs.declared.machine.TrapKind.{TrapKind}
 use Rattle.rv32_machine.specs.declared.machine.TrapKind.TheVariants.{IllegalInstruction, MisalignedJump, MisalignedAccess, AccessOutside, UnknownCall, Breakpoint}
 use Rattle.grin_driver.specs.declared.status.Status.{Status}
-use Rattle.grin_driver.specs.declared.status.Status.TheVariants.{Done, Refused, Usage, NoAlternative, StepLimit, Exited, Trapped, OutOfMemory, ReadFault, WriteFault}
+use Rattle.grin_driver.specs.declared.status.Status.TheVariants.{Done, Refused, Usage, NoAlternative, HeapFull, StackFull, StepLimit, Exited, Trapped, OutOfMemory, ReadFault, WriteFault}
 
 -- the status of the process
 abbrev pub code_of : Status → ℕ
@@ -11,6 +11,8 @@ code_of Done = 0
 code_of (Refused rule number) = 1
 code_of Usage = 2
 code_of NoAlternative = 3
+code_of HeapFull = 4
+code_of StackFull = 5
 code_of StepLimit = 6
 code_of (Exited code) = 7
 code_of (Trapped kind pc) = 7
@@ -33,6 +35,8 @@ line_of Done = []
 line_of (Refused rule number) = codes "grinc: refused " ++ (decimal rule ++ (codes " at " ++ (decimal number ++ codes "\n")))
 line_of Usage = codes "grinc: usage\n"
 line_of NoAlternative = codes "grinc: no alternative\n"
+line_of HeapFull = codes "grinc: heap full\n"
+line_of StackFull = codes "grinc: stack full\n"
 line_of StepLimit = codes "grinc: step limit\n"
 line_of (Exited code) = codes "grinc: exited " ++ (decimal code ++ codes "\n")
 line_of (Trapped kind pc) = codes "grinc: trap " ++ (kind_text kind ++ (codes " at " ++ (decimal pc ++ codes "\n")))

@@ -7,7 +7,6 @@ use Rattle.arity_check.specs.Accepted as check
 use Rattle.arity_check.specs.Accepted.{IsFirstBroken}
 use Rattle.arity_check.specs.Normal.{IsNormalForm}
 use Rattle.arity_check.specs.Program.{Program, program as program_of}
-use Rattle.first_path.specs.Simple.{not_yet_at}
 use Rattle.grin_driver.specs.declared.accept.Accepted.{Accepted}
 use Rattle.grin_driver.specs.declared.status.Status.{Status}
 use Rattle.grin_driver.specs.declared.status.Status.TheVariants.{Refused, OutOfMemory}
@@ -36,9 +35,8 @@ IsUnaccepted text (Refused rule number) = IsRefusedBy text rule number
 IsUnaccepted text OutOfMemory = Unit {0}
 IsUnaccepted text _ = ⊥
 
--- what is kept of an accepted text: the normal form, the size, and the place of the first function that is not built yet
+-- what is kept of an accepted text: the normal form and the size
 pub record IsAcceptedAs (text : List ℕ) (kept : Accepted) : Type 0 where
   pub source : tree.Program
   pub accepted : IsAccepted text source (program_of kept.program)
   pub size : kept.size ≡ program_size source
-  pub unbuilt : kept.unbuilt ≡ not_yet_at source

@@ -13,7 +13,6 @@ use arity_check::normal::Checked;
 use arity_check::refusal::CheckRefusal;
 use core_reader::size::size;
 use core_reader::{ReadRefusal, read};
-use first_path::simple::not_yet;
 use std::alloc::Global;
 
 /// The program of a text that breaks no rule.
@@ -23,8 +22,6 @@ pub(crate) struct Accepted {
     pub(crate) program: Checked,
     /// The number of tokens of the text that are names, constructors or integers.
     pub(crate) size: u64,
-    /// The place of the name of its first function that is not built yet, in bytes.
-    pub(crate) unbuilt: Option<u32>,
 }
 
 /// Reads and checks a text. `Refused` with the first rule that it breaks, or `OutOfMemory`.
@@ -37,13 +34,8 @@ pub(crate) fn accept(alloc: Global, text: &[u8]) -> Result<Accepted, Status>
         Err(refusal) => return Err(unread(&refusal)),
     };
     let size = size(&core);
-    let unbuilt = not_yet(&core);
     match check(alloc, core) {
-        Ok(program) => Ok(Accepted {
-            program,
-            size,
-            unbuilt,
-        }),
+        Ok(program) => Ok(Accepted { program, size }),
         Err(refusal) => Err(unchecked(&refusal)),
     }
 }

@@ -3,11 +3,12 @@
 ghost use Rattle.std.specs.Prelude.{◌≡◌, ◌≤◌, Some, IfSome};
 ghost use Rattle.grin_io.specs.Changes.{of_shelf, of_source, of_sink};
 ghost use Rattle.command_line.specs.Commands.{command_of, asked_by};
+ghost use Rattle.grin_compile.specs.Limits.{InRange};
 ghost use Rattle.grin_driver.specs.Outcome.{Outcome};
 ghost use Rattle.grin_driver.specs.Checking.{Checks};
 ghost use Rattle.grin_driver.specs.Listing.{ListsAfter};
 ghost use Rattle.grin_driver.specs.Execution.{Execution};
-ghost use Rattle.grin_driver.specs.Answer.{OfOperand, Answers, operand_of, default_steps, most_of_text, most_of_image};
+ghost use Rattle.grin_driver.specs.Answer.{OfOperand, Answers, IsWithin, operand_of, most_of_text, most_of_image};
 ghost use Rattle.grin_driver.specs.Telling.{IsTold};
 
 use crate::check::check_text;
@@ -17,11 +18,9 @@ use crate::reading::read_file;
 use crate::run::run_text;
 use crate::status::Status;
 use command_line::{Command, Line, Listing};
+use grin_compile::Options;
 use grin_io::{Shelf, Sink, Source};
 use std::alloc::Global;
-
-/// The instructions that `run` gives a program.
-const STEPS: u64 = 1_000_000_000;
 
 /// The most bytes that are read of a text: one more than those of the longest one.
 const MOST_OF_TEXT: usize = 1_048_577;
@@ -29,21 +28,26 @@ const MOST_OF_TEXT: usize = 1_048_577;
 /// The most bytes that are read of an image: one more than those of the longest one.
 const MOST_OF_IMAGE: usize = 1_342_177_281;
 
-/// Runs the text of a file.
+/// Runs the text of a file on the input, with so many cells and bytes of stack, for at most so many instructions.
 fn run_file<F: Shelf, I: Source, K: Sink>(
     alloc: Global,
     file: &str,
+    options: Options,
+    steps: u64,
     shelf: &mut F,
     input: &mut I,
     out: &mut K,
 ) -> Status
-    requires { F.permitted file.now }
-    ensures answer { OfOperand (of_shelf F.content F.faults shelf.old shelf.new) most_of_text (out.new ≡ out.old) file.now (λ text status. Outcome (of_sink K.put_gives K.taken K.faults out.old out.new) text default_steps status) result }
-    ensures later { (F.faults shelf.old ≤ F.faults shelf.new) × (K.faults out.old ≤ K.faults out.new) }
-    ensures input { input.new ≡ input.old }
+    requires permitted { F.permitted file.now }
+    requires within { InRange options.cells options.stack }
+    ensures answer { OfOperand (of_shelf F.content F.faults shelf.old shelf.new) most_of_text ((input.new ≡ input.old) × (out.new ≡ out.old)) file.now (λ text status. Outcome (of_source I.left I.faults input.old input.new) (of_sink K.put_gives K.taken K.faults out.old out.new) text options.cells options.stack steps status) result }
+    ensures later { (F.faults shelf.old ≤ F.faults shelf.new) × ((I.faults input.old ≤ I.faults input.new) × (K.faults out.old ≤ K.faults out.new)) }
 {
     match read_file(alloc, shelf, file, MOST_OF_TEXT) {
-        Ok(text) => run_text(alloc, text.as_slice(), STEPS, input, out),
+        Ok(text) => {
+            let Options { cells, stack } = options;
+            run_text(alloc, text.as_slice(), cells, stack, steps, input, out)
+        }
         Err(status) => status,
     }
 }
@@ -105,12 +109,24 @@ fn run_command<F: Shelf, I: Source, K: Sink>(
     input: &mut I,
     out: &mut K,
 ) -> Status
-    requires { F.permitted (operand_of (asked_by command.now)) }
+    requires permitted { F.permitted (operand_of (asked_by command.now)) }
+    requires within { IsWithin (asked_by command.now) }
     ensures answer { Answers (of_shelf F.content F.faults shelf.old shelf.new) (of_source I.left I.faults input.old input.new) (of_sink K.put_gives K.taken K.faults out.old out.new) (Some (asked_by command.now)) result }
     ensures later { (F.faults shelf.old ≤ F.faults shelf.new) × ((I.faults input.old ≤ I.faults input.new) × (K.faults out.old ≤ K.faults out.new)) }
 {
     match command {
-        Command::Run { file } => run_file(alloc, file, shelf, input, out),
+        Command::Run {
+            file,
+            cells,
+            stack,
+            steps,
+        } => {
+            let options = Options {
+                cells: *cells,
+                stack: *stack,
+            };
+            run_file(alloc, file, options, *steps, shelf, input, out)
+        }
         Command::Check { file } => check_file(alloc, file, shelf, out),
         Command::List { file, after } => list_file(alloc, file, *after, shelf, out),
         Command::Exec { image, steps } => exec_file(alloc, image, *steps, shelf, input, out),
@@ -137,8 +153,8 @@ fn run_line<F: Shelf, I: Source, K: Sink>(
 
 /// Runs the command that the words of a line stand for, and puts the line of its status on `err`.
 ///
-/// `run FILE` runs a text for at most 1,000,000,000 instructions, `check FILE` puts the line of its program, and
-/// `exec IMAGE` runs an executable. A file is read to its end, or up to the first byte past the longest one. A fault of `err`
+/// `run FILE` compiles a text and runs it on the input, `check FILE` puts the line of its program, `list FILE` lists it, and
+/// `exec IMAGE` runs an executable on the input. A file is read to its end, or up to the first byte past the longest one. A fault of `err`
 /// changes no status.
 pub fn grinc_main<F: Shelf, I: Source, K: Sink, E: Sink>(
     alloc: Global,

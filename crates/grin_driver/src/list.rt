@@ -37,7 +37,7 @@ fn listed(alloc: Global, text: &[u8], after: PassName) -> Result<Vec<u8>, Status
 }
 
 /// The status for a program that has no later stages.
-fn unstaged(refusal: &CompileRefusal) -> Status
+pub(crate) fn unstaged(refusal: &CompileRefusal) -> Status
     ensures { (text : List ℕ) (source : tree.Program) (p : Program) (after : PassName') → IsAccepted text source p → IsTooLarge p after refusal.now → IsUnlisted text after result }
 {
     match refusal {
@@ -102,5 +102,6 @@ pub(crate) fn list_after<K: Sink>(alloc: Global, text: &[u8], after: Listing, ou
         Listing::Translate => list_text(alloc, text, PassName::Translate, out),
         Listing::Eval => list_text(alloc, text, PassName::Eval, out),
         Listing::Apply => list_text(alloc, text, PassName::Apply, out),
+        Listing::Vectorise => list_text(alloc, text, PassName::Vectorise, out),
     }
 }

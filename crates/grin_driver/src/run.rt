@@ -1,78 +1,62 @@
-//! The run of a text: accepted, built as an image, and run.
+//! The run of a text: accepted, compiled to an image, and run.
 
-ghost use Rattle.std.specs.Prelude.{◌≡◌, ℕ, ◌≤◌, [], IfOk, IfErr};
-ghost use Rattle.grin_io.specs.Changes.{of_sink};
-ghost use Rattle.first_path.specs.Carried.{seen};
-ghost use Rattle.grin_driver.specs.Outcome.{Outcome, RunsTo, IsFine, IsNamedBy, finish_by, IsImageOf, IsUnmade};
+ghost use Rattle.std.specs.Prelude.{◌≡◌, ◌≤◌, IfOk, IfErr};
+ghost use Rattle.grin_io.specs.Changes.{of_source, of_sink};
+ghost use Rattle.grin_compile.specs.Limits.{InRange};
+ghost use Rattle.grin_driver.specs.Outcome.{IsImageOf, IsUnmade, named, Outcome};
 
 use crate::accept::accept;
-use crate::status::{Status, refused};
-use elf32::Loaded;
-use first_path::image::image;
-use grin_io::{Fault, Sink, Source, SureSource};
-use rv32_machine::{Machine, Stop};
+use crate::exec::exec_image;
+use crate::list::unstaged;
+use crate::status::Status;
+use grin_compile::{Compiled, Options, compile};
+use grin_io::{Sink, Source};
 use std::alloc::Global;
 
-/// The image of a text's program, or the status for a text that has none.
-fn built(alloc: Global, text: &[u8]) -> Result<Loaded, Status>
-    ensures image { IfOk result (IsImageOf text.now) }
+/// The compiled program of a text, or why there is none.
+fn compiled(alloc: Global, text: &[u8], options: Options) -> Result<Compiled, Status>
+    requires { InRange options.cells options.stack }
+    ensures image { IfOk result (λ c. IsImageOf text.now options.cells options.stack c.image.items) }
     ensures unmade { IfErr result (IsUnmade text.now) }
 {
     let accepted = accept(alloc, text)?;
-    match accepted.unbuilt {
-        Some(at) => Err(refused(6, at)),
-        None => match image(alloc, &accepted.program) {
-            Ok(image) => Ok(image),
-            Err(_) => Err(Status::OutOfMemory),
-        },
+    match compile(alloc, &accepted.program, options) {
+        Ok(compiled) => Ok(compiled),
+        Err(refusal) => Err(unstaged(&refusal)),
     }
 }
 
-/// The status for an answer of the machine.
-fn ended(stop: &Stop) -> Status
-    requires { IsFine (finish_by stop.now) }
-    ensures { IsNamedBy (finish_by stop.now) result }
+/// The status of a text whose image ended so: the exits 3, 4 and 5 say why.
+fn named(status: Status) -> Status
+    ensures { result ≡ named status }
 {
-    match stop {
-        Stop::Steps => Status::StepLimit,
-        Stop::Exit(0) => Status::Done,
-        Stop::Exit(3) => Status::NoAlternative,
-        Stop::Exit(_) | Stop::Trap(_, _) => unreachable!(),
+    match status {
+        Status::Exited(3) => Status::NoAlternative,
+        Status::Exited(4) => Status::HeapFull,
+        Status::Exited(5) => Status::StackFull,
+        status => status,
     }
 }
 
-/// Runs an image on an input of no bytes.
-fn run_image<K: Sink>(alloc: Global, image: &Loaded, steps: u64, out: &mut K) -> Status
-    requires { (m : ℕ) → IsFine (seen image.now [] m).finish }
-    ensures ran { RunsTo (of_sink K.put_gives K.taken K.faults out.old out.new) image.now steps result }
-    ensures later { K.faults out.old ≤ K.faults out.new }
-{
-    let Ok(mut machine) = Machine::load(alloc, image) else {
-        return Status::OutOfMemory;
-    };
-    let mut input = SureSource::new(Vec::new(alloc));
-    match machine.run(steps, &mut input, out) {
-        Ok(stop) => ended(&stop),
-        Err(Fault::Write) => Status::WriteFault,
-        Err(Fault::Read) => unreachable!(),
-    }
-}
-
-/// Runs a text for at most so many instructions of its image. The programs that are built yet read no input, so `input`
-/// stays as it is.
+/// Compiles a text to an image with so many cells and bytes of stack, and runs it on the input for at most so many
+/// instructions. The stack is rounded down to a multiple of four. `Exited` and `Trapped` can't come of an input that tells its
+/// bytes.
 pub fn run_text<I: Source, K: Sink>(
     alloc: Global,
     text: &[u8],
+    cells: u32,
+    stack: u32,
     steps: u64,
     input: &mut I,
     out: &mut K,
 ) -> Status
-    ensures outcome { Outcome (of_sink K.put_gives K.taken K.faults out.old out.new) text.now steps result }
-    ensures later { K.faults out.old ≤ K.faults out.new }
-    ensures input { input.new ≡ input.old }
+    requires { InRange cells stack }
+    ensures outcome { Outcome (of_source I.left I.faults input.old input.new) (of_sink K.put_gives K.taken K.faults out.old out.new) text.now cells stack steps result }
+    ensures input_later { I.faults input.old ≤ I.faults input.new }
+    ensures out_later { K.faults out.old ≤ K.faults out.new }
 {
-    match built(alloc, text) {
-        Ok(image) => run_image(alloc, &image, steps, out),
+    match compiled(alloc, text, Options { cells, stack }) {
+        Ok(compiled) => named(exec_image(alloc, compiled.image(), steps, input, out)),
         Err(status) => status,
     }
 }

@@ -22,6 +22,10 @@ pub enum Status {
     Usage,
     /// The program met a value that nothing accepts.
     NoAlternative,
+    /// The program needed more cells than it was given.
+    HeapFull,
+    /// The program nested deeper than the stack that it was given has room for.
+    StackFull,
     /// The program hasn't ended after the given number of instructions.
     StepLimit,
     /// The image exited with this code, which isn't 0.
@@ -45,6 +49,8 @@ impl Status {
             Status::Refused { .. } => 1,
             Status::Usage => 2,
             Status::NoAlternative => 3,
+            Status::HeapFull => 4,
+            Status::StackFull => 5,
             Status::StepLimit => 6,
             Status::Exited(_) => 7,
             Status::Trapped(_, _) => 7,
@@ -68,6 +74,12 @@ impl Status {
             }
             Status::NoAlternative => {
                 let _told = err.put(b"grinc: no alternative\n");
+            }
+            Status::HeapFull => {
+                let _told = err.put(b"grinc: heap full\n");
+            }
+            Status::StackFull => {
+                let _told = err.put(b"grinc: stack full\n");
             }
             Status::StepLimit => {
                 let _told = err.put(b"grinc: step limit\n");

@@ -1,7 +1,7 @@
 -- When a fault may be answered.
 use Rattle.std.specs.Prelude.{ℕ, ◌+◌, ◌-◌, ◌^◌, ◌≤◌, min, OnErr, Result}
 
--- the count rose: it is greater than at the call's start, or stands at the last value of a u64
+-- the count rose during the call; at the largest u64 it can't, and standing there is enough
 abbrev pub Rose : ℕ → ℕ → Type 0
 Rose before now = min (before + 1) (2 ^ 64 - 1) ≤ now
 

@@ -16,7 +16,11 @@ fn fault(faults: &mut u64) -> Failed
 }
 
 /// Reads once; an error is a fault.
-fn read_once<R: Read>(reader: &mut R, faults: &mut u64, buf: &mut [u8]) -> Result<usize, Failed>
+pub(crate) fn read_once<R: Read>(
+    reader: &mut R,
+    faults: &mut u64,
+    buf: &mut [u8],
+) -> Result<usize, Failed>
     ensures within { IfOk result (λ k. k ≤ length buf.old) }
     ensures cause { HasCause faults.old faults.new result }
 {
@@ -38,7 +42,11 @@ fn write_once<W: Write>(writer: &mut W, faults: &mut u64, piece: &[u8]) -> Resul
 }
 
 /// Writes a whole piece.
-fn write_whole<W: Write>(writer: &mut W, faults: &mut u64, piece: &[u8]) -> Result<(), Failed>
+pub(crate) fn write_whole<W: Write>(
+    writer: &mut W,
+    faults: &mut u64,
+    piece: &[u8],
+) -> Result<(), Failed>
     ensures { HasCause faults.old faults.new result }
 {
     let mut done = 0;

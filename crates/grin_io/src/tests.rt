@@ -1,11 +1,13 @@
 ghost use Rattle.std.specs.Prelude.{◌≡◌, true};
 
+use crate::system::{read_once, write_whole};
 use crate::{
     Failed, FileShelf, MemFile, MemShelf, MemSink, MemSource, Shelf, Sink, Source, StdErr, StdIn,
     StdOut, SureShelf, SureSource,
 };
 use std::alloc::{AllocError, Global};
 use std::fs;
+use std::fs::File;
 use std::process::Abort;
 use std::test::Fail;
 
@@ -111,5 +113,29 @@ fn files_and_streams(rt: HostRuntime) -> Result<(), Fail> {
     assert_eq!(rt; StdIn::new(&rt).read(&mut []), Ok(0));
     assert_eq!(rt; StdOut::new(&rt).put(b"out\n"), Ok(()));
     assert_eq!(rt; StdErr::new(&rt).put(b"err\n"), Ok(()));
+    Ok(())
+}
+
+// A directory opens and can't be read, and no byte can be written to a device that is full.
+#[test]
+fn devices_fail(rt: HostRuntime) -> Result<(), Fail> {
+    let mut shelf = FileShelf::new(rt.clone()?);
+    let mut buf = *b"..";
+    assert!(rt; shelf.open(".").is_ok());
+    assert_eq!(rt; shelf.read(&mut buf), Err(Failed));
+    assert_eq!(rt; shelf.read(&mut buf), Err(Failed));
+    assert_eq!(rt; buf, *b"..");
+    let mut faults = 0;
+    let mut directory = File::open(&rt, ".")?;
+    assert_eq!(rt;
+        read_once(&mut directory, &mut faults, &mut buf),
+        Err(Failed)
+    );
+    assert_eq!(rt; faults, 1);
+    let mut full = File::create(&rt, "/dev/full")?;
+    assert_eq!(rt; write_whole(&mut full, &mut faults, b""), Ok(()));
+    assert_eq!(rt; write_whole(&mut full, &mut faults, b"ab"), Err(Failed));
+    assert_eq!(rt; write_whole(&mut full, &mut faults, b"cd"), Err(Failed));
+    assert_eq!(rt; faults, 3);
     Ok(())
 }

@@ -96,7 +96,7 @@ module _ (p : Program) where
       go None e = tt
       go (Some k) e = on k e (nat_eq k (length ds)) refl
 
-  as_node_full : (v : Value) → FullValue p v → IfSome (as_node p v) (FullNode p)
+  pub as_node_full : (v : Value) → FullValue p v → IfSome (as_node p v) (FullNode p)
   as_node_full (node n) h = h
   as_node_full (words []) h = tt
   as_node_full (words (number k ∷ ds)) h = tt

@@ -140,9 +140,6 @@ module _ (s : Setting) (pl : IsPlain s.plan) (rd : Reading) where
   has : (x : Here plan R) → Has Ok x.env x.env'
   has x = reads x.w.cells x.env x.env' x.related
 
-  any_same : (v : Value) → Same v v
-  any_same v = same
-
   abbrev cell_too : (x : Here plan R) (a : Word) → WordOk Ok a → (i : ℕ) (y : HeapCell) → and_then (word_of g x.env a) place_of ≡ Some i → slice_get x.w.cells i ≡ Some y → CellToo s a x.env' x.b.cells
   cell_too x a ok i y e q = record {
     i' = i;
@@ -230,8 +227,8 @@ module _ (s : Setting) (pl : IsPlain s.plan) (rd : Reading) where
   leaf_follows (eval a) l ok = eval_same a ok
   leaf_follows (apply v a) l ok = apply_same v a ok.0 ok.1
   leaf_follows (call f ws) l ok = call_same f ws ok
-  leaf_follows (prim q a b) l ok = prim_follows s q a b a b (λ x. word_has g Ok x.env x.env' (has x) a ok.0) (λ x. word_has g Ok x.env x.env' (has x) b ok.1) any_same
-  leaf_follows read l ok = read_follows s any_same
+  leaf_follows (prim q a b) l ok = prim_follows s q a b a b (λ x. word_has g Ok x.env x.env' (has x) a ok.0) (λ x. word_has g Ok x.env x.env' (has x) b ok.1) (λ k. same)
+  leaf_follows read l ok = read_follows s (λ k. same)
   leaf_follows (write a) l ok = write_follows s a a (λ x. word_has g Ok x.env x.env' (has x) a ok) same
   leaf_follows (case v as') l ok = absurd l
   leaf_follows (nested b) l ok = absurd l

@@ -9,7 +9,7 @@ use Rattle.grin_syntax.specs.declared.program.ProcId.{ProcId}
 use Rattle.grin_syntax.specs.declared.program.Val.{Val}
 use Rattle.grin_syntax.specs.declared.program.Word.{Word}
 use Rattle.grin_syntax.specs.Tree.{Code, end, store, bind, Act, unit, fetch, fetch_word, update, call, prim, read, write, case, nested, fail, Arms, no_arm, arm, Procedure, Program}
-use Rattle.grin_meaning.specs.Values.{Datum, number, Node, Value, node, words, Env, HeapCell, State, World, Answer, gives, need, and_then, Binding, with_vars, Fit, fits, fits_not, unclear, fit_of, word_of, words_of, value_of, node_of, bindings_of}
+use Rattle.grin_meaning.specs.Values.{Datum, number, tag, cell, Node, Value, node, words, Env, HeapCell, State, World, Answer, gives, need, and_then, Binding, with_vars, Fit, fits, fits_not, unclear, fit_of, word_of, words_of, value_of, node_of, bindings_of}
 use Rattle.grin_meaning.specs.Run.{Calls, act_by, code_by, arms_by, looking, choose, byte_or_end, after_read, node_word, passing, places, cells_of, with_cells, place_of, number_of, on_numbers}
 use Rattle.grin_meaning.specs.Checks.{fills, all_fill, is_bound_well}
 use Rattle.grin_meaning.proofs.Back.{Back, need_back, looking_back, CallsBack, code_by_back, every_front, every_last}
@@ -295,26 +295,28 @@ module _ (s : Setting) where
   abbrev pub WordToo : Relation → Word → Word → Type 0
   WordToo R a a' = (x : Here plan R) (d : Datum) → word_of g x.env a ≡ Some d → word_of h x.env' a' ≡ Some d
 
-  pub prim_follows : {R : Relation} {V : Value → Value → Type 0} (q : PrimOp) (a b a' b' : Word) → WordToo R a a' → WordToo R b b' → ((v : Value) → V v v) → ActFollows R V (prim q a b) (prim q a' b')
+  -- a number that both give is related to itself
+  abbrev pub Numbers : (Value → Value → Type 0) → Type 0
+  Numbers V = (k : ℤ) → V (words (number k ∷ [])) (words (number k ∷ []))
+
+  numbers_sim : {V : Value → Value → Type 0} (q : PrimOp) (y z : Datum) (w : World) (b : Beside K w) → Numbers V → Sim P K V (need (on_numbers q y z) w (λ v. gives v w)) (need (on_numbers q y z) (beside b) (λ v. gives v (beside b)))
+  numbers_sim q (number i) (number j) w b r = λ _. gives_too b (r _)
+  numbers_sim q (number i) (tag t) w b r = λ _. free
+  numbers_sim q (number i) (cell a) w b r = λ _. free
+  numbers_sim q (tag t) z w b r = λ _. free
+  numbers_sim q (cell a) z w b r = λ _. free
+
+  pub prim_follows : {R : Relation} {V : Value → Value → Type 0} (q : PrimOp) (a b a' b' : Word) → WordToo R a a' → WordToo R b b' → Numbers V → ActFollows R V (prim q a b) (prim q a' b')
   unfolding act_by
   prim_follows {R} {V} q a b a' b' f k r = record {
-    by = λ x. need_sim P K V (word_of g x.env a) (word_of h x.env' a') x.w (beside x.b) _ _ (λ y e. (
-      y,
-      f x y e,
-      need_sim P K V (word_of g x.env b) (word_of h x.env' b') x.w (beside x.b) _ _ (λ z e'. (
-        z,
-        k x z e',
-        need_both P K V (on_numbers q y z) x.w (beside x.b) _ _ (λ v _ _. gives_too x.b (r v)),
-      )),
-    ));
+    by = λ x. need_sim P K V (word_of g x.env a) (word_of h x.env' a') x.w (beside x.b) _ _ (λ y e. (y, f x y e, need_sim P K V (word_of g x.env b) (word_of h x.env' b') x.w (beside x.b) _ _ (λ z e'. (z, k x z e', numbers_sim {V = V} q y z x.w x.b r))));
   }
 
-  read_sim : {V : Value → Value → Type 0} (i : List ℕ) (w : World) (b : Beside K w) → ((v : Value) → V v v)
-      → Sim P K V (gives (words (number (byte_or_end i) ∷ [])) (after_read i w)) (gives (words (number (byte_or_end i) ∷ [])) (after_read i (beside b)))
+  read_sim : {V : Value → Value → Type 0} (i : List ℕ) (w : World) (b : Beside K w) → Numbers V → Sim P K V (gives (words (number (byte_or_end i) ∷ [])) (after_read i w)) (gives (words (number (byte_or_end i) ∷ [])) (after_read i (beside b)))
   read_sim [] w b r = λ _. gives_too b (r _)
   read_sim (k ∷ rest) w b r = λ _. gives_too (record { cells = b.cells; seen = b.seen; depth = b.depth; heaps = b.heaps; deep = b.deep }) (r _)
 
-  pub read_follows : {R : Relation} {V : Value → Value → Type 0} → ((v : Value) → V v v) → ActFollows R V read read
+  pub read_follows : {R : Relation} {V : Value → Value → Type 0} → Numbers V → ActFollows R V read read
   unfolding act_by
   read_follows {R} {V} r = record { by = λ x. read_sim {V = V} x.w.input x.w x.b r }
 

@@ -25,6 +25,6 @@ told_by a = record {
 abbrev pub of_grin : Program → Meaning
 of_grin g i n = told_by (run g i n)
 
--- the procedures whose bodies it runs, one for each unit, in order
+-- what it enters: the procedure of each unit, in order
 abbrev pub entered_by_grin : Program → (input : List ℕ) → (units : ℕ) → List ℕ
 entered_by_grin g i n = (world_of (run g i n)).entered

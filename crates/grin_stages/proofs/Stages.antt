@@ -19,8 +19,12 @@ use Rattle.grin_translate.specs.Translation.{tr}
 use Rattle.translated_form.proofs.Limits.{valid_is_well_formed}
 use Rattle.inlined_form.proofs.Readiness.{never_missing}
 use Rattle.inlined_form.proofs.SizesFit.{sizes_fit}
-use Rattle.grin_opt.specs.declared.pass.PassName.TheVariants.{Translate, Eval, Apply}
-use Rattle.grin_stages.specs.Stage.{Analyses, IsStage, translated, evaluations_inlined, both_inlined, HasExpandedSize, Fits}
+use Rattle.vectorise.specs.Widened.{Widened}
+use Rattle.vectorised_form.specs.Laws.{VectoriseTakesInlined}
+use Rattle.grin_opt.specs.declared.pass.PassName.{PassName}
+use Rattle.grin_opt.specs.declared.pass.PassName.TheVariants.{Translate, Eval, Apply, Vectorise}
+use Rattle.grin_opt.specs.Schedule.{IsBehindInlining, IsTaken, IsOptimised}
+use Rattle.grin_stages.specs.Stage.{Analyses, IsStage, translated, evaluations_inlined, both_inlined, vectorised, HasExpandedSize, Fits}
 use Rattle.grin_stages.specs.Analysed.{IsMade}
 
 -- the solution of a program's system
@@ -58,10 +62,33 @@ module _ (p : Program) (A : Solution) (g h : grin.Program) (is : g ≡ tr p) (le
   pub before_applications : IsEvalInlined A h
   before_applications = record { before = tr p; analysed = analysed; never_missing = never; inlined = evaluated }
 
-  pub made_applications : (k l : grin.Program) → k ≡ apply_inlined A h → (Formed h → Formed k) → (IsEvalInlined A h → Keeps h k) → l ≡ k → IsMade p Apply l
-  made_applications k l e f m same = subst (IsMade p Apply) (sym same) (record {
+  pub made_applications : (k : grin.Program) → k ≡ apply_inlined A h → (Formed h → Formed k) → (IsEvalInlined A h → Keeps h k) → IsMade p Apply k
+  made_applications k e f m = record {
     made = subst (IsStage p Apply) (sym (e ∙ ap (apply_inlined A) evaluated)) (both_inlined least);
     formed = f formed_again;
     meaning = keeps_again (tr p) h k kept (m before_applications);
     fits = λ _. fits;
-  })
+  }
+
+-- the inlined program is one that the passes behind the inlining take
+pub taken : VectoriseTakesInlined → (p : Program) → IsValid p → (upto : PassName) (g : grin.Program) → upto ≡ Apply → IsStage p upto g → IsTaken g
+taken law p valid upto g e (both_inlined {A = A} least) = law p valid A least.solves
+taken law p valid upto g e translated = cc
+taken law p valid upto g e (evaluations_inlined least) = cc
+taken law p valid upto g e (vectorised s w k) = cc
+
+-- the stages that the passes behind the inlining make
+pub made_behind : (p : Program) (upto : PassName) (g h : grin.Program) → IsBehindInlining upto → IsMade p Apply g → IsOptimised g upto h → IsMade p upto h
+made_behind p Translate g h b made e = absurd b
+made_behind p Eval g h b made e = absurd b
+made_behind p Apply g h b made e = subst (IsMade p Apply) (sym e) made
+made_behind p Vectorise g h b made (widened, keeps) =
+    let kept = keeps_again (tr p) g h made.meaning keeps in
+    record { made = vectorised made.made widened kept; formed = widened.formed; meaning = kept; fits = λ _. made.fits (λ e. cc) }
+
+-- what a stage of vectorising comes from
+pub vectorised_from : (p : Program) (upto : PassName) (h : grin.Program) → upto ≡ Vectorise → IsStage p upto h → (g : grin.Program) × IsStage p Apply g × Widened g h × Keeps (tr p) h
+vectorised_from p upto h e (vectorised {g = g} s w k) = (g, s, w, k)
+vectorised_from p upto h e translated = cc
+vectorised_from p upto h e (evaluations_inlined least) = cc
+vectorised_from p upto h e (both_inlined least) = cc

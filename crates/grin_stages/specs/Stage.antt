@@ -2,14 +2,18 @@
 use Rattle.std.specs.Prelude.{◌≡◌, ◌≢◌, ◌<◌, ◌≤◌, ℕ}
 use Rattle.arity_check.specs.Program.{Program}
 use Rattle.grin_syntax.specs.Tree as grin
+use Rattle.grin_meaning.specs.Keeps.{Keeps}
+use Rattle.grin_meaning.specs.Slim.{Slim}
 use Rattle.flow_system.specs.Tables.{tables}
 use Rattle.flow_system.specs.System.{system}
 use Rattle.flow_system.specs.Solution.{Solution, IsLeast}
 use Rattle.eval_inline.specs.Inlining.{eval_inlined}
 use Rattle.apply_inline.specs.Inlining.{inlined, inlined_size}
+use Rattle.apply_inline.specs.Size.{largest_procedure}
+use Rattle.vectorise.specs.Widened.{Widened}
 use Rattle.grin_translate.specs.Translation.{tr}
 use Rattle.grin_opt.specs.declared.pass.PassName.{PassName}
-use Rattle.grin_opt.specs.declared.pass.PassName.TheVariants.{Translate, Eval, Apply}
+use Rattle.grin_opt.specs.declared.pass.PassName.TheVariants.{Translate, Eval, Apply, Vectorise}
 use Rattle.grin_stages.specs.declared.refusal.CompileRefusal.{CompileRefusal}
 use Rattle.grin_stages.specs.declared.refusal.CompileRefusal.TheVariants.{ExpandedTooLarge, Memory}
 
@@ -17,11 +21,13 @@ use Rattle.grin_stages.specs.declared.refusal.CompileRefusal.TheVariants.{Expand
 abbrev pub Analyses : Program → Solution → Type 0
 Analyses p A = IsLeast (tables (tr p)) (system (tr p)) A
 
--- The translation; then its evaluations are inlined by the least solution, and then its applications too.
+-- The translation; then its evaluations are inlined by the least solution, and then its applications too. The stage of a later
+-- pass has that pass's shape beside the stage before, and does what the translation does.
 pub data IsStage (p : Program) : PassName → grin.Program → Type 0 where
   translated : IsStage p Translate (tr p)
   evaluations_inlined : {A : Solution} → Analyses p A → IsStage p Eval (eval_inlined A (tr p))
   both_inlined : {A : Solution} → Analyses p A → IsStage p Apply (inlined A (tr p))
+  vectorised : {g h : grin.Program} → IsStage p Apply g → Widened g h → Keeps (tr p) h → IsStage p Vectorise h
 
 -- the size of the program once both are inlined
 pub record HasExpandedSize (p : Program) (size : ℕ) : Type 0 where
@@ -49,6 +55,16 @@ IsTooLarge p upto (Memory e) = Unit {0}
 abbrev pub OneExpandedSize : Type 0
 OneExpandedSize = (p : Program) (size size' : ℕ) → HasExpandedSize p size → HasExpandedSize p size' → size ≡ size'
 
--- each stage is one program
+-- the stages up to the inlining of applications, each of which is given by a function
+abbrev pub UpToInlining : PassName → Type 0
+UpToInlining Vectorise = ⊥
+UpToInlining _ = Unit {0}
+
+-- each of these stages is one program
 abbrev pub OneStage : Type 0
-OneStage = (p : Program) (upto : PassName) (g h : grin.Program) → IsStage p upto g → IsStage p upto h → g ≡ h
+OneStage = (p : Program) (upto : PassName) (g h : grin.Program) → UpToInlining upto → IsStage p upto g → IsStage p upto h → g ≡ h
+
+-- the stage of vectorising is small for the back end, beside the size of the inlined program and that of its largest procedure
+abbrev pub VectorisedIsSlim : Type 0
+VectorisedIsSlim = (p : Program) (h : grin.Program) → IsStage p Vectorise h
+    → (A : Solution) → Analyses p A → Slim (inlined_size A (tr p)) (largest_procedure (inlined A (tr p))) h

@@ -8,6 +8,7 @@ ghost use Rattle.grin_syntax.specs.Formed.{Formed};
 ghost use Rattle.grin_meaning.specs.Keeps.{Keeps};
 ghost use Rattle.grin_translate.specs.Translation.{tr};
 ghost use Rattle.grin_opt.specs.declared.pass.PassName.TheVariants.{Translate, Eval, Apply};
+ghost use Rattle.grin_opt.specs.Schedule.{IsBehindInlining};
 ghost use Rattle.grin_stages.specs.Stage.{IsStage, Fits, IsTooLarge, IsLarge};
 ghost use Rattle.grin_stages.specs.Analysed.{IsAnalysisOf, IsMade};
 
@@ -21,6 +22,7 @@ use grin_translate::translate;
 use points_to::{Flow, solve};
 use std::alloc::Global;
 use translated_form::valid_translations_are_formed;
+use vectorised_form::vectorise_takes_inlined;
 
 /// The largest size that a program may have once its evaluations and applications are inlined.
 const LARGEST_SIZE: u64 = 131_072;
@@ -80,7 +82,20 @@ fn applied(alloc: Global, p: &Checked) -> Result<Grin, CompileRefusal>
     let analysis = analyse(alloc, p)?;
     let evaluated = eval_inline::inline(alloc, analysis.translation, &analysis.flow)?;
     let applied = apply_inline::inline(alloc, evaluated, &analysis.flow)?;
-    let optimised = optimise(alloc, applied, PassName::Apply)?;
+    Ok(applied)
+}
+
+/// The translation with its evaluations and applications inlined, and the passes behind that up to and with `upto`.
+fn optimised(alloc: Global, p: &Checked, upto: PassName) -> Result<Grin, CompileRefusal>
+    requires valid { IsValid (program p.now) }
+    requires behind { IsBehindInlining upto }
+    ensures made { IfOk result (λ g. IsMade (program p.now) upto (program_of g)) }
+    ensures refused { IfErr result (IsLarge (program p.now)) }
+{
+    // A law: what the first pass takes as given holds of the inlined program.
+    vectorise_takes_inlined();
+    let applied = applied(alloc, p)?;
+    let optimised = optimise(alloc, applied, upto)?;
     Ok(optimised)
 }
 
@@ -97,6 +112,6 @@ pub fn stage(alloc: Global, p: &Checked, upto: PassName) -> Result<Grin, Compile
     match upto {
         PassName::Translate => translated(alloc, p),
         PassName::Eval => evaluated(alloc, p),
-        PassName::Apply => applied(alloc, p),
+        PassName::Apply | PassName::Vectorise => optimised(alloc, p, upto),
     }
 }

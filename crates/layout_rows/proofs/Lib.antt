@@ -1,1 +1,2 @@
+pub mod LongCase
 pub mod Placeable

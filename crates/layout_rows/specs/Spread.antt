@@ -10,10 +10,10 @@ use Rattle.rv32_items.specs.Placed.{target_of}
 abbrev pub idle : Item
 idle = Plain (OpImm Addi 0 0 (pos 0))
 
--- label 0, so many idle instructions, the item, so many again, and label 1
-abbrev pub spread : (before after : ℕ) → Item → List Item
-spread before after i = (Label 0 ∷ replicate before idle) ++ (i ∷ (replicate after idle ++ Label 1 ∷ []))
+-- label 0, so many idle instructions, the item, so many again, and a last label
+abbrev pub spread : (before after last : ℕ) → Item → List Item
+spread before after last i = (Label 0 ∷ replicate before idle) ++ (i ∷ (replicate after idle ++ Label last ∷ []))
 
 -- the item goes to one of the two labels
-abbrev pub GoesThere : Item → Type 0
-GoesThere i = (target_of i ≡ Some 0) ⊎ (target_of i ≡ Some 1)
+abbrev pub GoesThere : (last : ℕ) → Item → Type 0
+GoesThere last i = (target_of i ≡ Some 0) ⊎ (target_of i ≡ Some last)

@@ -35,7 +35,7 @@ fn has(rt: &impl Abort, words: &Vec<u32>, before: usize, code: &[Instr], after: 
 
 #[test]
 fn branches_back(rt: HostRuntime) -> Result<(), AllocError> {
-    let near = words(rt.alloc(), 1024, branch(0), 0)?;
+    let near = words(rt.alloc(), 1024, branch(0), 0, 1)?;
     has(
         &rt,
         &near,
@@ -43,7 +43,7 @@ fn branches_back(rt: HostRuntime) -> Result<(), AllocError> {
         &[Instr::Branch(BranchKind::Blt, Reg(5), Reg(6), OffB(-4096))],
         0,
     );
-    let far = words(rt.alloc(), 1025, branch(0), 0)?;
+    let far = words(rt.alloc(), 1025, branch(0), 0, 1)?;
     has(
         &rt,
         &far,
@@ -59,7 +59,7 @@ fn branches_back(rt: HostRuntime) -> Result<(), AllocError> {
 
 #[test]
 fn branches_on(rt: HostRuntime) -> Result<(), AllocError> {
-    let near = words(rt.alloc(), 0, branch(1), 1022)?;
+    let near = words(rt.alloc(), 0, branch(1), 1022, 1)?;
     has(
         &rt,
         &near,
@@ -67,7 +67,7 @@ fn branches_on(rt: HostRuntime) -> Result<(), AllocError> {
         &[Instr::Branch(BranchKind::Blt, Reg(5), Reg(6), OffB(4092))],
         1022,
     );
-    let far = words(rt.alloc(), 0, branch(1), 1023)?;
+    let far = words(rt.alloc(), 0, branch(1), 1023, 1)?;
     has(
         &rt,
         &far,
@@ -83,7 +83,7 @@ fn branches_on(rt: HostRuntime) -> Result<(), AllocError> {
 
 #[test]
 fn branches_over_jumps(rt: HostRuntime) -> Result<(), AllocError> {
-    let far = words(rt.alloc(), 262143, branch(0), 0)?;
+    let far = words(rt.alloc(), 262143, branch(0), 0, 1)?;
     has(
         &rt,
         &far,
@@ -94,7 +94,7 @@ fn branches_over_jumps(rt: HostRuntime) -> Result<(), AllocError> {
         ],
         0,
     );
-    let farther = words(rt.alloc(), 262144, branch(0), 0)?;
+    let farther = words(rt.alloc(), 262144, branch(0), 0, 1)?;
     has(
         &rt,
         &farther,
@@ -106,7 +106,7 @@ fn branches_over_jumps(rt: HostRuntime) -> Result<(), AllocError> {
         ],
         0,
     );
-    let on = words(rt.alloc(), 0, branch(1), 262143)?;
+    let on = words(rt.alloc(), 0, branch(1), 262143, 1)?;
     has(
         &rt,
         &on,
@@ -131,6 +131,7 @@ fn jumps_back(rt: HostRuntime) -> Result<(), AllocError> {
             label: 0,
         },
         0,
+        1,
     )?;
     has(&rt, &near, 262144, &[Instr::Jal(Reg(1), OffJ(-1048576))], 0);
     let linked = words(
@@ -141,6 +142,7 @@ fn jumps_back(rt: HostRuntime) -> Result<(), AllocError> {
             label: 0,
         },
         0,
+        1,
     )?;
     has(
         &rt,
@@ -160,6 +162,7 @@ fn jumps_back(rt: HostRuntime) -> Result<(), AllocError> {
             label: 0,
         },
         0,
+        1,
     )?;
     has(
         &rt,
@@ -184,6 +187,7 @@ fn jumps_on(rt: HostRuntime) -> Result<(), AllocError> {
             label: 1,
         },
         262142,
+        1,
     )?;
     has(&rt, &near, 0, &[Instr::Jal(Reg(0), OffJ(1048572))], 262142);
     let linked = words(
@@ -194,6 +198,7 @@ fn jumps_on(rt: HostRuntime) -> Result<(), AllocError> {
             label: 1,
         },
         262143,
+        1,
     )?;
     has(
         &rt,
@@ -204,6 +209,27 @@ fn jumps_on(rt: HostRuntime) -> Result<(), AllocError> {
             Instr::Jalr(Reg(1), Reg(1), Imm12(4)),
         ],
         262143,
+    );
+    Ok(())
+}
+
+#[test]
+fn labels_with_large_numbers(rt: HostRuntime) -> Result<(), AllocError> {
+    let on = words(rt.alloc(), 3, branch(4000000000), 2, 4000000000)?;
+    has(
+        &rt,
+        &on,
+        3,
+        &[Instr::Branch(BranchKind::Blt, Reg(5), Reg(6), OffB(12))],
+        2,
+    );
+    let back = words(rt.alloc(), 3, branch(0), 2, 4000000000)?;
+    has(
+        &rt,
+        &back,
+        3,
+        &[Instr::Branch(BranchKind::Blt, Reg(5), Reg(6), OffB(-12))],
+        2,
     );
     Ok(())
 }

@@ -1,6 +1,6 @@
 // An item between two labels, far from either.
 
-ghost use Rattle.std.specs.Prelude.{◌≡◌, ◌+◌, ◌≤◌, IfOk, OnOk, ◌++◌, replicate};
+ghost use Rattle.std.specs.Prelude.{◌≡◌, ◌+◌, ◌<◌, ◌≤◌, IfOk, OnOk, ◌++◌, replicate};
 ghost use Rattle.layout_rows.specs.Spread.{spread, GoesThere};
 
 use rv32_isa::{Imm12, ImmKind, Instr, Reg};
@@ -9,17 +9,24 @@ use rv32_layout::place;
 use seq::Seq;
 use std::alloc::{AllocError, Global};
 
-/// The words of label 0, so many idle instructions, the item, so many again, and label 1.
-pub fn words(alloc: Global, before: u32, item: Item, after: u32) -> Result<Vec<u32>, AllocError>
-    requires goes { GoesThere item }
+/// The words of label 0, so many idle instructions, the item, so many again, and a last label.
+pub fn words(
+    alloc: Global,
+    before: u32,
+    item: Item,
+    after: u32,
+    last: u32,
+) -> Result<Vec<u32>, AllocError>
+    requires goes { GoesThere last item }
+    requires apart { 0 < last }
     requires few { before + after ≤ 1000000 }
 {
-    let asm = spread(alloc, before, &item, after)?;
+    let asm = spread(alloc, before, &item, after, last)?;
     place(alloc, &asm)
 }
 
-fn spread(alloc: Global, before: u32, item: &Item, after: u32) -> Result<Asm, AllocError>
-    ensures { IfOk result (λ asm. asm.items ≡ spread before after item.now) }
+fn spread(alloc: Global, before: u32, item: &Item, after: u32, last: u32) -> Result<Asm, AllocError>
+    ensures { IfOk result (λ asm. asm.items ≡ spread before after last item.now) }
 {
     let idle = Instr::OpImm(ImmKind::Addi, Reg(0), Reg(0), Imm12(0));
     let mut items = Seq::new(alloc);
@@ -27,7 +34,7 @@ fn spread(alloc: Global, before: u32, item: &Item, after: u32) -> Result<Asm, Al
     repeat(&mut items, &idle, before)?;
     items.push(*item)?;
     repeat(&mut items, &idle, after)?;
-    items.push(Item::Label(1))?;
+    items.push(Item::Label(last))?;
     Ok(Asm { items })
 }
 

@@ -3,6 +3,7 @@ use Rattle.std.specs.Prelude.{◌≡◌, ℕ, ◌<◌, Bool, true, false, nat_eq
 use Rattle.low_code.specs.declared.program.Operand.{Operand}
 use Rattle.low_code.specs.declared.program.Operand.TheVariants.{Var, Num, Cell}
 use Rattle.low_code.specs.declared.program.LowTest.{LowTest}
+use Rattle.low_code.specs.Literals.{LiteralsAreWords}
 use Rattle.low_code.specs.Tree.{Code, set, prim, load, save, take, put, get, call, join, give, tail, choose, fail, Arms, otherwise, arm, Procedure, Program}
 
 -- whether a number is in a list
@@ -164,11 +165,12 @@ Starts p None a = ⊥
 Starts p (Some q) None = q.params ≡ []
 Starts p (Some q) (Some i) = (length q.params ≡ 1) × (i < length p.globals)
 
--- no variable and no site of a call stands twice in a program, uses come below what binds them, and each procedure and global
--- that is named is there
+-- no variable and no site of a call stands twice in a program, uses come below what binds them, each procedure and global that
+-- is named is there, and literals are words
 pub record Formed (p : Program) : Type 0 where
   pub variables_once : Distinct (all_variables p.procs)
   pub sites_once : Distinct (all_sites p.procs)
   pub scoped : AllScoped (length p.globals) p.procs
   pub calls_in_range : AllCallsInRange (length p.procs) p.procs
   pub starts : Starts p (slice_get p.procs p.start) p.argument
+  pub literals : LiteralsAreWords p

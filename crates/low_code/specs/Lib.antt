@@ -3,6 +3,7 @@ pub mod Arithmetic
 pub mod Values
 pub mod Run
 pub mod Told
+pub mod Literals
 pub mod Formed
 pub mod Size
 pub mod Laws

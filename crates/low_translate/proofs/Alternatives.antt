@@ -1,5 +1,5 @@
 -- Alternatives, one after the other: the last one needs no test.
-use Rattle.std.proofs.Common.{◌≡◌, ◌≤◌, ◌<◌, ℕ, zero, suc, ◌+◌, ◌-◌, List, [], ◌∷◌, ◌++◌, map, length, take, get_or, refl, sym, ap, ◌∙◌, subst, arith}
+use Rattle.std.proofs.Common.{◌≡◌, ◌≤◌, ◌<◌, ℕ, ◌+◌, ◌-◌, List, [], ◌∷◌, ◌++◌, map, length, take, get_or, refl, sym, ap, ◌∙◌, subst, arith}
 use Rattle.std.specs.declared.alloc.Global.{Global}
 use Rattle.std.specs.declared.boxed.Box.{Box}
 use Rattle.std.proofs.lemmas.List.{take_more, take_all}
@@ -15,8 +15,8 @@ use Rattle.low_code.specs.declared.program.Operand.{Operand}
 use Rattle.low_code.specs.Tree as low
 use Rattle.low_code.proofs.TreeOf as low_tree
 use Rattle.low_translate.specs.declared.blocks.Goal.{Goal}
-use Rattle.low_translate.specs.Translation.{code_numbers, arms_numbers, code_code, arms_code, tests}
-use Rattle.low_translate.specs.Lowered.{CodeRanged, ArmsRanged, ShapeRanged}
+use Rattle.low_translate.specs.Translation.{code_numbers, arms_numbers, arms_code, tests}
+use Rattle.low_translate.specs.Lowered.{ArmsRanged, ShapeRanged}
 use Rattle.low_translate.specs.Emitted.{BlockDone, ArmsDone}
 
 -- alternatives before further ones

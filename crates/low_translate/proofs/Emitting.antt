@@ -1,7 +1,7 @@
 -- Statements that are put behind others.
-use Rattle.std.proofs.Common.{◌≡◌, ◌≤◌, ◌<◌, ℕ, zero, suc, ◌+◌, List, [], ◌∷◌, ◌++◌, map, length, take, drop, refl, sym, ap, ◌∙◌, subst, arith}
+use Rattle.std.proofs.Common.{◌≡◌, ℕ, List, [], ◌∷◌, ◌++◌, refl, sym, ap, ◌∙◌, subst}
 use Rattle.low_code.specs.declared.program.LowStmt.{LowStmt}
-use Rattle.low_code.specs.Tree.{Code, all_before, before_of}
+use Rattle.low_code.specs.Tree.{Code, before_of}
 use Rattle.low_code.specs.declared.program.LowStmt.TheVariants.{Set, Prim, Load, Save, Take, Get}
 use Rattle.low_code.specs.declared.program.Operand.{Operand}
 use Rattle.low_code.specs.declared.program.PrimOp.{PrimOp}

@@ -1,7 +1,5 @@
 -- Items of lists by their places.
-use Rattle.std.proofs.Common.{◌≡◌, ◌≤◌, ◌<◌, ◌^◌, ℕ, ℤ, pos, negsuc, zero, suc, ◌+◌, ◌-◌, min, List, [], ◌∷◌, ◌++◌, map, length, take, drop, Option, Some, None, slice_get, get_or, refl, sym, ap, ◌∙◌, arith}
-use Rattle.grin_syntax.specs.declared.program.Word.{Word}
-use Rattle.grin_syntax.specs.Formed.{AllOf}
+use Rattle.std.proofs.Common.{◌≡◌, ◌<◌, ℕ, zero, suc, ◌+◌, List, [], ◌∷◌, ◌++◌, length, drop, get_or, refl, sym, ap, ◌∙◌, arith}
 use Rattle.low_code.specs.declared.program.Operand.{Operand}
 use Rattle.low_code.specs.declared.program.Operand.TheVariants.{Num}
 use Rattle.std.proofs.lemmas.List.{drop_more}

@@ -1,9 +1,10 @@
 -- Operations and statements.
-use Rattle.std.proofs.Common.{◌≡◌, ◌⊎◌, inl, inr, Result, Ok, Err, IfOk, ◌≤◌, ◌<◌, ◌^◌, ℕ, zero, suc, ◌+◌, ◌-◌, Bool, true, false, List, [], ◌∷◌, ◌++◌, map, length, take, drop, get_or, min, refl, sym, ap, ◌∙◌, subst, arith}
+use Rattle.std.proofs.Common.{◌≡◌, ◌⊎◌, inl, inr, Result, Ok, Err, IfOk, ◌≤◌, ◌<◌, ℕ, zero, suc, ◌+◌, ◌-◌, true, false, List, [], ◌∷◌, ◌++◌, map, length, take, drop, get_or, refl, sym, ap, ◌∙◌, subst, arith}
 use Rattle.std.specs.declared.alloc.Global.{Global}
 use Rattle.std.specs.declared.boxed.Box.{Box}
 use Rattle.std.proofs.lemmas.List.{drop_more, take_rest, take_more, take_all}
 use Rattle.grin_syntax.specs.declared.program.Block.{Block}
+use Rattle.grin_syntax.specs.declared.program.Proc.{Proc}
 use Rattle.grin_syntax.specs.declared.program.ProcId.{ProcId}
 use Rattle.grin_syntax.specs.declared.program.Word.{Word}
 use Rattle.grin_syntax.specs.declared.program.Val.{Val}
@@ -15,23 +16,22 @@ use Rattle.grin_syntax.specs.declared.program.PrimOp as G
 use Rattle.grin_syntax.specs.declared.program.Op.{Op}
 use Rattle.grin_syntax.specs.declared.program.Op.TheVariants as op
 use Rattle.grin_syntax.specs.declared.program.Stmt.TheVariants as stmt
-use Rattle.grin_syntax.specs.Binders.{target_vars, cell_vars}
+use Rattle.grin_syntax.specs.Binders.{numbers_of, target_vars, cell_vars}
 use Rattle.grin_syntax.specs.Formed.{AllOf}
 use Rattle.grin_syntax.specs.Tree as grin
 use Rattle.grin_syntax.specs.Tree.{Act, unit, fetch, fetch_word, update, eval, apply, call, prim, read, write, case, nested, fail, act_of, before_of, code_of, all_before}
 use Rattle.grin_syntax.proofs.TreeOf as grin_tree
 use Rattle.low_code.specs.declared.program.LowStmt.{LowStmt}
 use Rattle.low_code.specs.declared.program.LowStmt.TheVariants as low_stmt
-use Rattle.low_code.specs.declared.program.LowEnd.{LowEnd}
 use Rattle.low_code.specs.declared.program.LowEnd.TheVariants as low_end
 use Rattle.low_code.specs.declared.program.LowBlock.{LowBlock}
 use Rattle.low_code.specs.declared.program.Operand.{Operand}
 use Rattle.low_code.specs.Tree as low
 use Rattle.low_code.proofs.TreeOf as low_tree
 use Rattle.low_translate.specs.declared.blocks.Goal.{Goal}
-use Rattle.low_translate.specs.Translation.{operand_of, operands_of_words, operands_of, fitted, numbers_from, variables_of, sets, to_first, taken, stores, results_of, to_join, end_words, plain_numbers, through_numbers, act_numbers, end_numbers, code_numbers, arms_numbers, plain_code, through, act_code, end_code, code_code, arms_code}
-use Rattle.low_translate.specs.Lowered.{WordRanged, ValRanged, PlainRanged, ActRanged, CodeRanged, ArmsRanged}
-use Rattle.low_translate.specs.Emitted.{emitted, Adds, Ends, PlainDone, ActDone, ThroughDone, PlainEndDone, EndDone, BlockDone, StmtDone, ArmsDone}
+use Rattle.low_translate.specs.Translation.{operand_of, operands_of_words, operands_of, fitted, numbers_from, variables_of, sets, to_first, taken, stores, results_of, to_join, end_words, plain_numbers, through_numbers, act_numbers, code_numbers, arms_numbers, plain_code, through, act_code, code_code, arms_code}
+use Rattle.low_translate.specs.Lowered.{WordRanged, ValRanged, ActRanged, CodeRanged, ArmsRanged}
+use Rattle.low_translate.specs.Emitted.{emitted, Adds, PlainDone, ActDone, ThroughDone, PlainEndDone, EndDone, BlockDone, StmtDone, ArmsDone, ProcedureDone}
 use Rattle.low_translate.proofs.Emitting.{adds_then}
 
 -- the first variable, then the others
@@ -263,6 +263,14 @@ module _ (w : ℕ) (rs : List ℕ) where
   pub whole_block : (n n1 : ℕ) (goal : Goal) (t : grin.Code) (block : LowBlock) (old : List LowStmt) → old ≡ [] → BlockDone w rs n n1 goal t old block.stmts (low.end_of block.last) → BlockDone w rs n n1 goal t [] [] (low.code_of block)
   whole_block n n1 goal t block old e d = record {
     is = record { by = low_tree.code_of-parts block ∙ d.is.by ∙ ap (λ l. emitted l (code_code w rs goal n t)) e };
+    numbers = d.numbers;
+    ranged = d.ranged;
+  }
+
+  pub procedure_done : (n n1 r : ℕ) (q : Proc) (params : List ℕ) (block : LowBlock) → params ≡ numbers_of q.params → BlockDone w rs n n1 (record { words = r; leaves = true }) (code_of q.body) [] [] (low.code_of block)
+      → ProcedureDone w rs n n1 r (grin.procedure_of q) (record { params = params; results = r; body = low.code_of block })
+  procedure_done n n1 r q params block e d = record {
+    is = λ i. record { params = e i; results = r; body = d.is.by i };
     numbers = d.numbers;
     ranged = d.ranged;
   }

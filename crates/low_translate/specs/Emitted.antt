@@ -5,9 +5,9 @@ use Rattle.grin_syntax.specs.Tree as grin
 use Rattle.grin_syntax.specs.Tree.{Act, Arms}
 use Rattle.low_code.specs.declared.program.LowStmt.{LowStmt}
 use Rattle.low_code.specs.declared.program.Operand.{Operand}
-use Rattle.low_code.specs.Tree.{Code, choose, all_before, before_of}
+use Rattle.low_code.specs.Tree.{Code, choose, all_before, before_of, Procedure}
 use Rattle.low_translate.specs.declared.blocks.Goal.{Goal}
-use Rattle.low_translate.specs.Translation.{plain_numbers, plain_end_numbers, through_numbers, act_numbers, end_numbers, code_numbers, arms_numbers, plain_code, plain_end, through, act_code, end_code, code_code, arms_code}
+use Rattle.low_translate.specs.Translation.{plain_numbers, plain_end_numbers, through_numbers, act_numbers, end_numbers, code_numbers, arms_numbers, plain_code, plain_end, through, act_code, end_code, code_code, arms_code, procedure_code, procedure_numbers}
 use Rattle.low_translate.specs.Lowered.{PlainRanged, ActRanged, CodeRanged, ArmsRanged}
 
 -- statements before a block
@@ -67,3 +67,9 @@ module _ (width : ℕ) (results : List ℕ) (n next : ℕ) where
     pub is : e ≡ choose (arms_code width results goal n words as')
     pub numbers : next ≡ n + arms_numbers width results goal as'
     pub ranged : ArmsRanged as'
+
+  -- a procedure that gives r words
+  pub record ProcedureDone (r : ℕ) (q : grin.Procedure) (made : Procedure) : Type 0 where
+    pub is : made ≡ procedure_code width results n r q
+    pub numbers : next ≡ n + procedure_numbers width results r q
+    pub ranged : CodeRanged q.body

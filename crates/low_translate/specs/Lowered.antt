@@ -1,4 +1,4 @@
--- When low code is the translation of a program: how many words each procedure gives, and where further numbers begin.
+-- When low code is the translation of a program: how many words each procedure gives.
 use Rattle.std.specs.Prelude.{ℤ, pos, negsuc, ℕ, ◌+◌, ◌^◌, ◌≡◌, ◌<◌, ◌≤◌, List, [], ◌∷◌, length}
 use Rattle.grin_syntax.specs.declared.program.Word as W
 use Rattle.grin_syntax.specs.declared.program.Word.TheVariants as word
@@ -8,7 +8,7 @@ use Rattle.grin_syntax.specs.declared.program.Shape as S
 use Rattle.grin_syntax.specs.declared.program.Shape.TheVariants as shape
 use Rattle.grin_syntax.specs.Tree as grin
 use Rattle.grin_syntax.specs.Tree.{Code, end, store, bind, Act, unit, fetch, fetch_word, update, eval, apply, call, prim, read, write, case, nested, fail, Arms, no_arm, arm, Procedure}
-use Rattle.grin_syntax.specs.Binders.{program_vars}
+use Rattle.grin_syntax.specs.Fresh.{past_procs}
 use Rattle.grin_syntax.specs.Formed.{AllOf}
 use Rattle.grin_meaning.specs.Ready.{most_fields, most_value_fields, val_width}
 use Rattle.low_code.specs.Tree as low
@@ -94,12 +94,31 @@ EachGives node_width results [] [] = Unit {0}
 EachGives node_width results (r ∷ rs) (q ∷ qs) = CodeGives node_width results r q.body × EachGives node_width results rs qs
 EachGives node_width results _ _ = ⊥
 
+-- each end has at most so many words, and each tail call is of one of n procedures
+module _ (n node_width most : ℕ) where
+  unfoldable mutual
+    pub ActEnds : Act → Type 0
+    ActEnds (unit v) = val_width node_width v ≤ most
+    ActEnds (fetch w) = node_width ≤ most
+    ActEnds (call f ws) = f.0 < n
+    ActEnds (case v as') = ArmsEnd as'
+    ActEnds (nested b) = CodeEnds b
+    ActEnds _ = Unit {0}
+
+    pub CodeEnds : Code → Type 0
+    CodeEnds (end o) = ActEnds o
+    CodeEnds (store cs b) = CodeEnds b
+    CodeEnds (bind t o b) = CodeEnds b
+
+    pub ArmsEnd : Arms → Type 0
+    ArmsEnd no_arm = Unit {0}
+    ArmsEnd (arm s b as') = CodeEnds b × ArmsEnd as'
+
 -- l is the translation of g
 pub record IsLowered (g : grin.Program) (l : low.Program) : Type 0 where
   pub results : List ℕ
   pub gives : EachGives (1 + most_value_fields g.tags) results results g.procs
   pub few : AllOf (λ r. r ≤ 13) results
-  pub first : ℕ
-  pub above : AllOf (λ x. x < first) (program_vars g)
+  pub few_tags : length g.tags ≤ 2 ^ 32
   pub ranged : AllOf (λ q. CodeRanged q.body) g.procs
-  pub is : l ≡ program_code (1 + most_fields g.tags) results first g
+  pub is : l ≡ program_code (1 + most_fields g.tags) results (past_procs g.procs) g

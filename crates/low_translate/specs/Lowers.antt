@@ -6,11 +6,11 @@ use Rattle.grin_syntax.specs.Formed.{AllOf}
 use Rattle.grin_syntax.specs.Binders.{target_vars}
 use Rattle.grin_meaning.specs.Ready.{Any, EachCode, most_fields}
 use Rattle.grin_meaning.specs.Slim.{procs_weight, procs_calls, procedure_words}
+use Rattle.grin_meaning.specs.Told.{of_grin, entered_by_grin}
 use Rattle.low_code.specs.Tree as low
 use Rattle.low_code.specs.Formed.{variables}
 use Rattle.low_code.specs.Size.{AtMostTwoTests, low_all, calls_of}
 use Rattle.low_code.specs.Told.{of_low, entered_by_low}
-use Rattle.grin_meaning.specs.Told.{of_grin, entered_by_grin}
 
 -- l tells what g tells, enters the procedures that g enters, and has no more words of frames at once than the nesting says, over
 -- frames of any sizes; procedure f of l is that of g, a cell has a word for the tag and for each field, and parameters and

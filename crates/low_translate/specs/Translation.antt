@@ -1,6 +1,6 @@
 -- How a vectorised program becomes low code. A tag is its number, a number its pattern of 32 bits, and a cell has a word for the
 -- tag and one for each field; a block of GRIN becomes a block of low code.
-use Rattle.std.specs.Prelude.{ℕ, suc, zero, ◌+◌, ◌-◌, min, Bool, true, false, cond, nat_eq, nat_lt, List, [], ◌∷◌, ◌++◌, map, length, take, drop, Option, Some, None, slice_get}
+use Rattle.std.specs.Prelude.{ℕ, suc, zero, ◌+◌, ◌-◌, min, Bool, true, false, nat_eq, nat_lt, List, [], ◌∷◌, ◌++◌, map, length, take, drop}
 use Rattle.numbers.specs.Numbers.{pattern}
 use Rattle.grin_syntax.specs.declared.program.Word as W
 use Rattle.grin_syntax.specs.declared.program.Word.TheVariants as word

@@ -2,11 +2,11 @@
 #![tactic(auto, using(grin_syntax::proofs::TreeOf::tree_of))]
 
 ghost use Rattle.std.specs.Prelude.{◌≡◌, [], map, length, take, drop, min, IfOk, OnOk};
-ghost use Rattle.grin_syntax.specs.Binders.{target_vars};
+ghost use Rattle.grin_syntax.specs.Binders.{numbers_of, target_vars};
 ghost use Rattle.grin_syntax.specs.Formed.{AllOf};
-ghost use Rattle.grin_syntax.specs.Tree.{call, act_of, arms_of, arm_of, before_of, code_of};
+ghost use Rattle.grin_syntax.specs.Tree.{call, act_of, arms_of, arm_of, before_of, code_of, procedure_of};
 ghost use Rattle.low_code.specs.Tree as low;
-ghost use Rattle.low_translate.specs.Emitted.{Adds, PlainDone, ActDone, ThroughDone, PlainEndDone, EndDone, BlockDone, StmtDone, ArmsDone};
+ghost use Rattle.low_translate.specs.Emitted.{Adds, PlainDone, ActDone, ThroughDone, PlainEndDone, EndDone, BlockDone, StmtDone, ArmsDone, ProcedureDone};
 ghost use Rattle.low_translate.specs.Translation.{operand_of, operands_of, operation_of, variables_of, results_of, to_first, sets, saves, fitted, load_word, end_words};
 ghost use Rattle.low_translate.specs.Lowered.{WordRanged, ValRanged};
 
@@ -14,8 +14,8 @@ use crate::emit::{emit, front, load, load_words, past, save_words, set_words, st
 use crate::fresh::Numbers;
 use crate::patterns::tests_of;
 use crate::words::{fit, operand, operands, value};
-use grin_syntax::{Alt, Block, Op, ProcId, Stmt, Target, Val, Word};
-use low_code::{LowArm, LowBlock, LowEnd, LowStmt, Operand, PrimOp};
+use grin_syntax::{Alt, Block, Op, Proc, ProcId, Stmt, Target, Val, VarId, Word};
+use low_code::{LowArm, LowBlock, LowEnd, LowProc, LowStmt, Operand, PrimOp};
 use seq::Seq;
 use std::alloc::{AllocError, Global};
 
@@ -333,6 +333,30 @@ impl Plan<'_> {
         self.end(alloc, &block.last, numbers, made, goal)
     }
 
+    /// A procedure that gives so many words.
+    pub(crate) fn procedure(
+        &self,
+        alloc: Global,
+        proc: &Proc,
+        count: u32,
+        numbers: &mut Numbers,
+    ) -> Result<LowProc, AllocError>
+        ensures { IfOk result (λ q. ProcedureDone self.now.width self.now.results.now numbers.old.next numbers.new.next count (procedure_of proc.now) (low.procedure_of q)) }
+    {
+        let params = numbers_of(alloc, proc.params.as_slice())?;
+        let goal = Goal {
+            words: count as usize,
+            leaves: true,
+        };
+        let mut stmts = Seq::new(alloc);
+        let last = self.rest(alloc, &proc.body, numbers, &mut stmts, goal)?;
+        Ok(LowProc {
+            params,
+            results: count,
+            body: LowBlock { stmts, last },
+        })
+    }
+
     // The alternatives of a case: the last one needs no test.
     #[cycle(blocks)]
     fn choice(
@@ -439,11 +463,18 @@ fn target_variables(alloc: Global, target: &Target) -> Result<Seq<u32>, AllocErr
     match target {
         Target::Nothing => {}
         Target::Node(x) | Target::One(x) => made.push(x.0)?,
-        Target::Vector(vars) => {
-            for x in vars.as_slice() {
-                made.push(x.0)?;
-            }
-        }
+        Target::Vector(vars) => made = numbers_of(alloc, vars.as_slice())?,
+    }
+    Ok(made)
+}
+
+/// The numbers of variables.
+pub(crate) fn numbers_of(alloc: Global, vars: &[VarId]) -> Result<Seq<u32>, AllocError>
+    ensures { IfOk result (λ xs. xs ≡ numbers_of vars.now) }
+{
+    let mut made = Seq::new(alloc);
+    for x in vars {
+        made.push(x.0)?;
     }
     Ok(made)
 }

@@ -3,7 +3,7 @@
 use Rattle.std.specs.Prelude.{ℕ, ℤ, pos, negsuc, Bool, false, if◌then◌else◌, int_div, int_rem, ◌==◌, ◌+ℤ◌, ◌-ℤ◌, ◌*ℤ◌, int_lt, ◌-◌, ◌^◌, suc, nat_lt, cond, unsigned_abs}
 use Rattle.std.specs.Int.{int_wrap, w32, int_rem_euclid}
 
--- the number that differs from k by a multiple of 2 ^ 32
+-- k modulo 2 ^ 32, as the number in that range
 abbrev pub wrap : ℤ → ℤ
 wrap k = int_wrap w32 k
 

@@ -14,6 +14,7 @@ use parallel_move::Spot;
 use seq::Seq;
 pub use slots::allocate;
 use std::marker::Model;
+pub use walk::{Call, Walk};
 
 /// Where the variables of a program stand, which registers each procedure may change, which of them are saved at each call
 /// site, and the words of each frame.

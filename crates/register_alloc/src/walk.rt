@@ -11,20 +11,21 @@ use std::alloc::{AllocError, Global};
 
 /// A call: its site, and the procedure.
 #[derive(Clone, Copy, Debug, PartialEq, Eq)]
-pub(crate) struct Call {
-    pub(crate) site: u32,
-    pub(crate) proc: u32,
+pub struct Call {
+    pub site: u32,
+    pub proc: u32,
 }
 
 /// What a block binds and calls.
 #[derive(Drop)]
-pub(crate) struct Walk {
-    pub(crate) variables: Vec<u32>,
-    pub(crate) calls: Vec<Call>,
+pub struct Walk {
+    pub variables: Vec<u32>,
+    pub calls: Vec<Call>,
 }
 
 impl Walk {
-    pub(crate) fn new(alloc: Global) -> Walk
+    /// Nothing yet.
+    pub fn new(alloc: Global) -> Walk
         ensures variables { result.variables.items ≡ [] }
         ensures calls { sites_of_calls result.calls.items ≡ [] }
     {
@@ -34,7 +35,8 @@ impl Walk {
         }
     }
 
-    pub(crate) fn bind(&mut self, variables: &[u32]) -> Result<(), AllocError>
+    /// Binds more variables.
+    pub fn bind(&mut self, variables: &[u32]) -> Result<(), AllocError>
         ensures variables { OnOk result (self.new.variables.items ≡ self.old.variables.items ++ variables.now) }
         ensures calls { OnOk result (sites_of_calls self.new.calls.items ≡ sites_of_calls self.old.calls.items) }
     {
@@ -58,8 +60,9 @@ impl Walk {
         Ok(())
     }
 
+    /// Goes through a block, by its text. `AllocError` where memory is wanting.
     #[cycle(walk)]
-    pub(crate) fn block(&mut self, block: &LowBlock) -> Result<(), AllocError>
+    pub fn block(&mut self, block: &LowBlock) -> Result<(), AllocError>
         ensures variables { OnOk result (self.new.variables.items ≡ self.old.variables.items ++ binds (code_of block.now)) }
         ensures calls { OnOk result (sites_of_calls self.new.calls.items ≡ sites_of_calls self.old.calls.items ++ calls_in (code_of block.now)) }
     {

@@ -24,11 +24,10 @@ branch_range = 1024
 abbrev pub jump_range : ℕ
 jump_range = 262144
 
--- an item has its places in words: at most `at` words stand before it, and at most `to` before its label. Then, of the two, the
--- distance from its word `before`, the last one, to its label is in range: it takes three words at most, and as it shrinks so
--- does each distance
-abbrev pub reaches : (range before at to : ℕ) → Bool
-reaches range before at to = nat_lt to (at + 2 + range) && nat_le (at + before) (to + range)
+-- an item begins at word `at`, ends before word `end` and goes to word `to`. Its last word, which will be the one `before` words
+-- behind its first, is in range of `to`, and stays so while distances shrink
+abbrev pub reaches : (range before at end to : ℕ) → Bool
+reaches range before at end to = nat_lt (to + 1) (end + range) && nat_le (at + before) (to + range)
 
 -- ---- instructions
 
@@ -115,10 +114,12 @@ CanGo way at to (Plain i) = Unit {0}
 CanGo way at to (Branch cond left right l) = BranchGoes way at to
 CanGo way at to (Jump link l) = JumpGoes way at to
 
--- the way of an item with at most `at` words before it and `to` before its label: the shortest one that is sure to reach
-abbrev pub shortest : (at to : ℕ) → Item → Way
-shortest at to (Label l) = ByBranch
-shortest at to (Plain i) = ByBranch
-shortest at to (Branch cond left right l) =
-    if reaches branch_range 0 at to then ByBranch else if reaches jump_range 1 at to then ByJump else ByAddress
-shortest at to (Jump link l) = if reaches jump_range 0 at to then ByJump else ByAddress
+-- the shortest way of an item that begins at word `at`, ends before word `end` and goes to word `to`
+abbrev pub shortest : (at end to : ℕ) → Item → Way
+shortest at end to (Label l) = ByBranch
+shortest at end to (Plain i) = ByBranch
+shortest at end to (Branch cond left right l) =
+    if reaches branch_range 0 at end to then ByBranch
+    else if reaches jump_range 1 at end to then ByJump
+    else ByAddress
+shortest at end to (Jump link l) = if reaches jump_range 0 at end to then ByJump else ByAddress

@@ -1,22 +1,26 @@
--- Where items stand, in words from the first one of the code.
-use Rattle.std.specs.Prelude.{◌≡◌, ℕ, zero, suc, ◌+◌, ◌^◌, ◌<◌, List, [], ◌∷◌, ◌++◌, Option, Some, None, slice_get, unwrap_or}
+-- Where items stand, in words from the first one of the code, and the ways that they go.
+use Rattle.std.specs.Prelude.{◌≡◌, ℕ, zero, suc, ◌+◌, ◌^◌, ◌<◌, ◌≤◌, List, [], ◌∷◌, ◌++◌, Option, Some, None, slice_get, unwrap_or}
 use Rattle.rv32_isa.specs.declared.instr.Instr.{Instr}
 use Rattle.rv32_isa.specs.Table.{instr_of}
 use Rattle.rv32_items.specs.declared.Item.{Item}
 use Rattle.rv32_items.specs.declared.Item.TheVariants.{Label, Plain, Branch, Jump}
 use Rattle.rv32_items.specs.Course.{label_from}
-use Rattle.rv32_items.specs.Placed.{size}
 use Rattle.rv32_layout.specs.declared.form.Way.{Way}
-use Rattle.rv32_layout.specs.Forms.{instructions, width, shortest}
+use Rattle.rv32_layout.specs.declared.form.Way.TheVariants.{ByAddress}
+use Rattle.rv32_layout.specs.Forms.{instructions, width, shortest, CanGo}
 
-abbrev pub size_in : Option Item → ℕ
-size_in None = 0
-size_in (Some i) = size i
+-- the way of item n, which is the longest where none is given
+abbrev pub way_at : List Way → ℕ → Way
+way_at ways n = unwrap_or (slice_get ways n) ByAddress
 
--- at most so many words stand before item n
-unfoldable pub bound : List Item → ℕ → ℕ
-bound items zero = 0
-bound items (suc n) = bound items n + size_in (slice_get items n)
+abbrev pub width_in : Way → Option Item → ℕ
+width_in way None = 0
+width_in way (Some i) = width way i
+
+-- so many words stand before item n
+unfoldable pub place : List Way → List Item → ℕ → ℕ
+place ways items zero = 0
+place ways items (suc n) = place ways items n + width_in (way_at ways n) (slice_get items n)
 
 -- the number of the item to which an item may go
 abbrev pub goal : List Item → Item → ℕ
@@ -25,27 +29,39 @@ goal items (Plain i) = 0
 goal items (Branch cond left right l) = unwrap_or (label_from 0 items l) 0
 goal items (Jump link l) = unwrap_or (label_from 0 items l) 0
 
--- the way of an item that is number n
-abbrev pub way_at : List Item → ℕ → Item → Way
-way_at items n i = shortest (bound items n) (bound items (goal items i)) i
+-- each item gets to its goal by its way
+abbrev pub AllGo : List Item → List Way → Type 0
+AllGo items ways = (n : ℕ) (i : Item) → slice_get items n ≡ Some i →
+    CanGo (way_at ways n) (place ways items n) (place ways items (goal items i)) i
 
-abbrev pub width_at : List Item → ℕ → Option Item → ℕ
-width_at items n None = 0
-width_at items n (Some i) = width (way_at items n i) i
+-- ---- shorter ways
 
--- so many words stand before item n
-unfoldable pub place : List Item → ℕ → ℕ
-place items zero = 0
-place items (suc n) = place items n + width_at items n (slice_get items n)
+-- the shortest way of an item that is number n
+abbrev pub shortest_at : List Way → List Item → ℕ → Item → Way
+shortest_at ways items n i = shortest (place ways items n) (place ways items (suc n)) (place ways items (goal items i)) i
 
-abbrev pub code_at : List Item → ℕ → Option Item → List Instr
-code_at items n None = []
-code_at items n (Some i) = instructions (way_at items n i) (place items n) (place items (goal items i)) i
+-- each item's new way is the shortest by the old ones
+abbrev pub Shortens : List Item → (old new : List Way) → Type 0
+Shortens items old new = (n : ℕ) (i : Item) → slice_get items n ≡ Some i → way_at new n ≡ shortest_at old items n i
+
+-- no item is longer by the new ways than by the old ones
+abbrev pub NoLonger : List Item → (old new : List Way) → Type 0
+NoLonger items old new = (n : ℕ) → width_in (way_at new n) (slice_get items n) ≤ width_in (way_at old n) (slice_get items n)
+
+-- no item is longer than the shortest by the longest ways
+abbrev pub AllShort : List Item → List Way → Type 0
+AllShort items ways = (n : ℕ) (i : Item) → slice_get items n ≡ Some i → width (way_at ways n) i ≤ width (shortest_at [] items n i) i
+
+-- ---- code
+
+abbrev pub code_at : List Way → List Item → ℕ → Option Item → List Instr
+code_at ways items n None = []
+code_at ways items n (Some i) = instructions (way_at ways n) (place ways items n) (place ways items (goal items i)) i
 
 -- the instructions of the first n items
-unfoldable pub code : List Item → ℕ → List Instr
-code items zero = []
-code items (suc n) = code items n ++ code_at items n (slice_get items n)
+unfoldable pub code : List Way → List Item → ℕ → List Instr
+code ways items zero = []
+code ways items (suc n) = code ways items n ++ code_at ways items n (slice_get items n)
 
 -- words that stand for these instructions
 abbrev pub Encode : List Instr → (words : List ℕ) → Type 0

@@ -1,8 +1,8 @@
 // How items go to their labels.
 
 ghost use Rattle.std.specs.Prelude.{◌≡◌, ◌≤◌, nat_lt, nat_le};
-ghost use Rattle.rv32_items.specs.Placed.{size};
 ghost use Rattle.rv32_layout.specs.Forms.{reaches, shortest, width};
+ghost use Rattle.rv32_layout.specs.Places.{way_at};
 
 use rv32_items::Item;
 
@@ -23,14 +23,13 @@ pub enum Way {
     ByAddress,
 }
 
-/// How many words an item takes at most.
-pub fn size(item: &Item) -> u32
-    ensures { result ≡ size item.now }
+/// The way of item `n`, which is the longest where none is given.
+pub fn way_of(ways: &[Way], n: usize) -> Way
+    ensures { result ≡ way_at ways.now n }
 {
-    match item {
-        Item::Label(_) => 0,
-        Item::Plain(_) => 1,
-        Item::Branch { .. } | Item::Jump { .. } => 3,
+    match ways.get(n) {
+        Some(way) => *way,
+        None => Way::ByAddress,
     }
 }
 
@@ -53,24 +52,25 @@ pub fn width(way: Way, item: &Item) -> u32
     }
 }
 
-/// The shortest way that is sure to reach the label, where at most so many words stand before the item and the label.
-pub fn shortest(at: u32, to: u32, item: &Item) -> Way
-    requires { (at ≤ 268435456) × (to ≤ 268435456) }
-    ensures { result ≡ shortest at to item.now }
+/// The shortest way of an item that begins at word `at`, ends before word `end` and goes to word `to`. It still reaches
+/// where distances shrink.
+pub fn shortest(at: u32, end: u32, to: u32, item: &Item) -> Way
+    requires { (at ≤ 268435456) × ((end ≤ 268435456) × (to ≤ 268435456)) }
+    ensures { result ≡ shortest at end to item.now }
 {
     match item {
         Item::Label(_) | Item::Plain(_) => Way::ByBranch,
         Item::Branch { .. } => {
-            if reaches(BRANCH_RANGE, 0, at, to) {
+            if reaches(BRANCH_RANGE, 0, at, end, to) {
                 Way::ByBranch
-            } else if reaches(JUMP_RANGE, 1, at, to) {
+            } else if reaches(JUMP_RANGE, 1, at, end, to) {
                 Way::ByJump
             } else {
                 Way::ByAddress
             }
         }
         Item::Jump { .. } => {
-            if reaches(JUMP_RANGE, 0, at, to) {
+            if reaches(JUMP_RANGE, 0, at, end, to) {
                 Way::ByJump
             } else {
                 Way::ByAddress
@@ -79,9 +79,10 @@ pub fn shortest(at: u32, to: u32, item: &Item) -> Way
     }
 }
 
-fn reaches(range: u32, before: u32, at: u32, to: u32) -> bool
-    requires { (range ≤ 262144) × (before ≤ 2) × (at ≤ 268435456) × (to ≤ 268435456) }
-    ensures { result ≡ reaches range before at to }
+fn reaches(range: u32, before: u32, at: u32, end: u32, to: u32) -> bool
+    requires range { (range ≤ 262144) × (before ≤ 2) }
+    requires room { (at ≤ 268435456) × ((end ≤ 268435456) × (to ≤ 268435456)) }
+    ensures { result ≡ reaches range before at end to }
 {
-    to < at + 2 + range && at + before <= to + range
+    to + 1 < end + range && at + before <= to + range
 }

@@ -8,8 +8,10 @@ mod code;
 mod form;
 mod instructions;
 mod labels;
+mod plan;
 mod spots;
 
+use plan::Plan;
 use rv32_items::Asm;
 use std::alloc::{AllocError, Global};
 
@@ -23,7 +25,6 @@ pub fn place(alloc: Global, asm: &Asm) -> Result<Vec<u32>, AllocError>
     ensures { IfOk result (λ words. Placed asm.now.items words.items) }
 {
     let items = asm.items.as_slice();
-    let mut spots = labels::bounds(alloc, items)?;
-    let len = labels::places(items, &mut spots)?;
-    code::words(alloc, items, &spots, len)
+    let plan = Plan::short(alloc, items)?;
+    code::words(alloc, items, &plan)
 }

@@ -1,43 +1,17 @@
 // Where labels stand, by their numbers.
 
 ghost use Rattle.std.specs.Prelude.{◌≡◌, ℕ, ◌+◌, ◌≤◌, ◌<◌, length, slice_get, slice_set, IfOk, OnOk, Some, IsSome};
-ghost use Rattle.rv32_items.specs.Placed.{size};
-ghost use Rattle.rv32_layout.specs.Forms.{width};
 
-use crate::form::{self, Way};
 use rv32_items::Item;
 use std::alloc::{AllocError, Global};
 use std::collections::HashMap;
 
-/// How many words stand before an item: at most so many, and so many.
-#[derive(Clone, Copy, Debug, Drop)]
-pub struct Spot {
-    pub bound: u32,
-    pub place: u32,
-}
-
-impl Spot {
-    /// The spot of the first item.
-    pub const FIRST: Spot = Spot { bound: 0, place: 0 };
-
-    /// The spot behind an item that goes this way.
-    pub fn behind(self, way: Way, item: &Item) -> Spot
-        requires { (self.bound ≤ 268435456) × (self.place ≤ 268435456) }
-        ensures { (result.bound ≡ self.bound + size item.now) × (result.place ≡ self.place + width way item.now) }
-    {
-        Spot {
-            bound: self.bound + form::size(item),
-            place: self.place + form::width(way, item),
-        }
-    }
-}
-
-/// The spots of labels.
+/// The spots of labels: how many words stand before each.
 #[derive(Drop)]
 pub enum Spots {
     /// One for each number up to the largest, where no number exceeds that of the items.
-    Dense(Vec<Spot>),
-    Sparse(HashMap<u32, Spot>),
+    Dense(Vec<u32>),
+    Sparse(HashMap<u32, u32>),
 }
 
 impl Spots {
@@ -50,14 +24,14 @@ impl Spots {
     {
         let largest = largest_label(items) as usize;
         if largest < items.len() {
-            Ok(Spots::Dense(vec![in alloc; Spot::FIRST; largest + 1]?))
+            Ok(Spots::Dense(vec![in alloc; 0; largest + 1]?))
         } else {
             Ok(Spots::Sparse(HashMap::new(alloc)))
         }
     }
 
     /// Notes where an item stands, if it is a label.
-    pub fn note(&mut self, item: &Item, at: Spot) -> Result<(), AllocError>
+    pub fn note(&mut self, item: &Item, at: u32) -> Result<(), AllocError>
         requires { (l : ℕ) → item.now ≡ Item.Label l → RoomFor self.old l }
         ensures noted { OnOk result (Notes item.now at self.old self.new) }
         ensures room { OnOk result ((l : ℕ) → RoomFor self.old l → RoomFor self.new l) }
@@ -68,7 +42,7 @@ impl Spots {
         }
     }
 
-    fn set(&mut self, label: u32, at: Spot) -> Result<(), AllocError>
+    fn set(&mut self, label: u32, at: u32) -> Result<(), AllocError>
         requires { RoomFor self.old label }
         ensures noted { OnOk result (Notes (Item.Label label) at self.old self.new) }
         ensures room { OnOk result ((l : ℕ) → RoomFor self.old l → RoomFor self.new l) }
@@ -86,7 +60,7 @@ impl Spots {
     }
 
     /// The spot of a label that was noted.
-    pub fn find(&self, label: u32) -> Spot
+    pub fn find(&self, label: u32) -> u32
         requires { IsSome (find self.now label) }
         ensures { find self.now label ≡ Some result }
     {
@@ -101,7 +75,7 @@ impl Spots {
     }
 }
 
-fn put(spots: &mut Vec<Spot>, label: usize, at: Spot)
+fn put(spots: &mut Vec<u32>, label: usize, at: u32)
     requires { label < length spots.old.items }
     ensures { spots.new.items ≡ slice_set spots.old.items label at }
 {

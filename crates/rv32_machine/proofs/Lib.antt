@@ -2,3 +2,5 @@ pub mod Composed
 pub mod Turns
 pub mod Loops
 pub mod Division
+pub mod Stores
+pub mod Begun

@@ -1,15 +1,14 @@
 -- A run goes on by turns: what holds behind so many steps holds behind one more.
-use Rattle.std.proofs.Common.{◌≡◌, ℕ, zero, suc, ◌+◌, ◌-◌, ◌<◌, ◌≤◌, List, [], ◌∷◌, ◌++◌, drop, Option, Some, Bool, true, false, append_assoc, append-nil, refl, sym, ap, ◌∙◌, subst, arith}
+use Rattle.std.proofs.Common.{◌≡◌, ℕ, zero, suc, ◌+◌, ◌-◌, ◌<◌, ◌≤◌, List, [], ◌++◌, drop, Option, Bool, true, false, append_assoc, append-nil, refl, sym, ap, ◌∙◌, subst, arith}
 use Rattle.std.specs.Prelude.{slice_get}
 use Rattle.std.specs.List.{concat}
 use Rattle.std.proofs.lemmas.List.Folds.{concat-append}
 use Rattle.grin_io.specs.Changes.{Told, SinkChange, of_sink, TookAll, Broke}
 use Rattle.grin_io.specs.declared.outside.Fault.{Fault}
-use Rattle.grin_io.specs.declared.outside.Fault.TheVariants.{Read, Write}
 use Rattle.rv32_machine.specs.declared.machine.Stop.{Stop}
 use Rattle.rv32_machine.specs.declared.machine.Stop.TheVariants.{Steps}
 use Rattle.rv32_machine.specs.Steps.{State, Outcome, Next, Written, Asked, Ended, Trapped, Stand, state_of, step, given}
-use Rattle.rv32_machine.specs.Runs.{Run, End, Going, Exited, Stopped, after, onward, run, piece_of, next_piece, pieces, continued, has_ended, Stays, StandsAt, PiecesAreTheOutput}
+use Rattle.rv32_machine.specs.Runs.{End, Going, Exited, Stopped, after, onward, run, piece_of, next_piece, pieces, continued, has_ended, Stays, StandsAt, PiecesAreTheOutput}
 use Rattle.rv32_machine.proofs.Composed.{runs_compose, end_stays, run_none, run_more}
 use Rattle.grin_io.proofs.Changes.{took_none, took_join, broke_join}
 

@@ -1,4 +1,5 @@
 pub mod Arithmetic
 pub mod Memory
+pub mod Decoded
 pub mod Steps
 pub mod Runs

@@ -1,5 +1,5 @@
 -- Memory: segments of bytes with rights.
-use Rattle.std.specs.Prelude.{ℕ, zero, suc, ◌+◌, ◌-◌, ◌*◌, ◌/◌, ◌%◌, ◌^◌, List, [], ◌∷◌, ◌++◌, Bool, true, false, ◌&&◌, nat_eq, nat_lt, nat_le, ◌<◌, ◌≤◌, if◌then◌else◌, length, take, drop, replicate, Option, Some, None, slice_index_or, slice_set}
+use Rattle.std.specs.Prelude.{◌≡◌, ℕ, zero, suc, ◌+◌, ◌-◌, ◌*◌, ◌/◌, ◌%◌, ◌^◌, List, [], ◌∷◌, ◌++◌, Bool, true, false, ◌&&◌, nat_eq, nat_lt, nat_le, ◌<◌, ◌≤◌, if◌then◌else◌, length, take, drop, replicate, Option, Some, None, slice_index_or, slice_set}
 use Rattle.elf32.specs.Image.{Part}
 use Rattle.rv32_machine.specs.declared.memory.Right.{Right}
 use Rattle.rv32_machine.specs.declared.memory.Right.TheVariants.{Read, Write, Execute}
@@ -88,6 +88,15 @@ stored_to memory new (At n offset) = stored_at memory n offset new
 abbrev pub IsInside : List Stretch → ℕ → Access → Type 0
 IsInside memory len (At n offset) = (n < length memory) × (offset + len ≤ length (segment_at memory n).bytes)
 IsInside memory len (Outside address) = Unit {0}
+
+-- the number is that of the segment where an access that begins at the address goes, or, where none serves, how many there are
+abbrev pub IsPlace : Right → (address : ℕ) → List Stretch → (number : ℕ) → Type 0
+IsPlace right address memory number = place_from right address 0 memory ≡ (if nat_lt number (length memory) then Some number else None)
+
+-- the segment at the place has the right
+abbrev pub IsAllowed : Right → List Stretch → Access → Type 0
+IsAllowed right memory (At n offset) = allows right (segment_at memory n) ≡ true
+IsAllowed right memory (Outside address) = Unit {0}
 
 abbrev pub read_at : List Stretch → (len : ℕ) → Access → Option (List ℕ)
 read_at memory len (At n offset) = Some (bytes_at memory n offset len)

@@ -5,24 +5,28 @@ ghost use Rattle.rv32_machine.specs.Arithmetic.{op_value, divided, left_over, im
 
 use rv32_isa::{BranchKind, ImmKind, LoadKind, OpKind, ShiftKind, StoreKind};
 
+#[inline(always)]
 pub fn plus(a: u32, b: u32) -> u32
     ensures { result ≡ plus a b }
 {
     a.wrapping_add(b)
 }
 
+#[inline(always)]
 fn bit(b: bool) -> u32
     ensures { result ≡ bit b }
 {
     if b { 1 } else { 0 }
 }
 
+#[inline(always)]
 fn less_signed(a: u32, b: u32) -> bool
     ensures { result ≡ less_signed a b }
 {
     a.cast_signed() < b.cast_signed()
 }
 
+#[inline(always)]
 fn shift_right_signed(a: u32, k: u32) -> u32
     requires { k < 32 }
     ensures { result ≡ shift_right_signed a k }
@@ -74,6 +78,7 @@ fn mixed_product(a: u32, b: u32) -> i64
     a.cast_signed() as i64 * b as i64
 }
 
+#[inline(always)]
 pub fn op_value(kind: OpKind, a: u32, b: u32) -> u32
     ensures { result ≡ op_value kind a b }
 {
@@ -99,6 +104,7 @@ pub fn op_value(kind: OpKind, a: u32, b: u32) -> u32
     }
 }
 
+#[inline(always)]
 pub fn imm_value(kind: ImmKind, a: u32, b: u32) -> u32
     ensures { result ≡ imm_value kind a b }
 {
@@ -112,6 +118,7 @@ pub fn imm_value(kind: ImmKind, a: u32, b: u32) -> u32
     }
 }
 
+#[inline(always)]
 pub fn shift_value(kind: ShiftKind, a: u32, k: u32) -> u32
     requires { k < 32 }
     ensures { result ≡ shift_value kind a k }
@@ -123,6 +130,7 @@ pub fn shift_value(kind: ShiftKind, a: u32, k: u32) -> u32
     }
 }
 
+#[inline(always)]
 pub fn is_taken(kind: BranchKind, a: u32, b: u32) -> bool
     ensures { result ≡ is_taken kind a b }
 {
@@ -147,6 +155,7 @@ pub fn load_size(kind: LoadKind) -> u32
 }
 
 /// The word that a load makes of the bytes that it reads, `v` being their number.
+#[inline(always)]
 pub fn load_value(kind: LoadKind, v: u32) -> u32
     requires { v < 256 ^ load_size kind }
     ensures { result ≡ load_value kind v }

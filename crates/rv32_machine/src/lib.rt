@@ -6,6 +6,7 @@ mod laws;
 mod machine;
 mod memory;
 mod run;
+mod store;
 #[cfg(test)]
 mod tests;
 

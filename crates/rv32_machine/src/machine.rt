@@ -2,17 +2,17 @@
 
 ghost use Rattle.std.specs.Prelude.{◌≡◌, ◌+◌, ◌*◌, ◌<◌, ◌^◌, false, true, Option, Some, IsSome, if◌then◌else◌, ◌⊎◌, IfOk};
 ghost use Rattle.rv32_machine.specs.Arithmetic.{plus, pattern, load_size, load_value, store_size};
-ghost use Rattle.rv32_machine.specs.Memory.{range_bytes, IsInside, bytes_of, number_of};
+ghost use Rattle.rv32_machine.specs.Memory.{range_bytes, IsInside, IsAllowed, bytes_of, number_of};
 ghost use Rattle.rv32_machine.specs.Steps.{start_of, stored, given, Next, Trapped, Ended, Does, IsAt, IsRunning, state_of, reg, with_reg, go_to, put, jump, load, store, write_call, read_call, call, act, step, next_pc};
 ghost use Rattle.rv32_machine.specs.declared.machine.TrapKind.{TrapKind};
 ghost use Rattle.rv32_machine.specs.declared.memory.Access.{Access};
+ghost use Rattle.rv32_machine.specs.declared.memory.Right.{Right};
 
-use crate::arithmetic::{
-    imm_value, is_taken, load_size, load_value, op_value, plus, shift_value, store_size,
-};
-use crate::memory::{Access, Region, Right, locate, read, write};
+use crate::arithmetic::{imm_value, is_taken, load_value, op_value, plus, shift_value};
+use crate::memory::{Access, Right};
+use crate::store::{Fetched, Memory};
 use elf32::Loaded;
-use rv32_isa::{Imm12, Instr, LoadKind, Reg, StoreKind, decode};
+use rv32_isa::{Imm12, Instr, LoadKind, Reg, StoreKind};
 use std::alloc::{AllocError, Global};
 use std::marker::Model;
 
@@ -67,7 +67,7 @@ const NO_FILE: u32 = 4294967287;
 pub struct Machine {
     regs: [u32; 32],
     pc: u32,
-    regions: Vec<Region>,
+    memory: Memory,
     over: bool,
     waiting: bool,
 }
@@ -77,7 +77,7 @@ impl Model for Machine {
 
     ghost Value = { Stand };
 
-    ghost view = { λ m. record { regs = m.regs; pc = m.pc; memory = m.regions.items; over = m.over; waiting = m.waiting } };
+    ghost view = { λ m. record { regs = m.regs; pc = m.pc; memory = m.memory; over = m.over; waiting = m.waiting } };
 }
 
 impl Machine {
@@ -85,14 +85,11 @@ impl Machine {
     pub fn load(alloc: Global, image: &Loaded) -> Result<Machine, AllocError>
         ensures { IfOk result (λ m. IsAt m (start_of image.now) false false) }
     {
-        let mut regions = Vec::new(alloc);
-        for segment in image.segments.as_slice() {
-            regions.push(Region::new(alloc, segment)?)?;
-        }
+        let memory = Memory::new(alloc, image)?;
         Ok(Machine {
             regs: [0; 32],
             pc: image.entry,
-            regions,
+            memory,
             over: false,
             waiting: false,
         })
@@ -120,10 +117,7 @@ impl Machine {
         if len == 0 {
             return &[];
         }
-        match locate(&self.regions, Right::Read, addr, len) {
-            Access::At(region, offset) => self.regions[region].slice(offset, len as usize),
-            Access::Outside(_) => unreachable!(),
-        }
+        self.memory.slice(addr, len)
     }
 
     /// Does one instruction. Exit and Trap end the program, and a trap leaves registers, memory and the address of the
@@ -136,15 +130,10 @@ impl Machine {
         if self.pc % 4 != 0 {
             return self.trap(TrapKind::MisalignedJump);
         }
-        match locate(&self.regions, Right::Execute, self.pc, 4) {
-            Access::Outside(outside) => self.trap(TrapKind::AccessOutside(outside)),
-            Access::At(region, offset) => {
-                let word = read(&self.regions, region, offset, 4);
-                match decode(word) {
-                    None => self.trap(TrapKind::IllegalInstruction(word)),
-                    Some(instr) => self.act(instr),
-                }
-            }
+        match self.memory.fetch(self.pc) {
+            Fetched::Instr(instr) => self.act(instr),
+            Fetched::Illegal(word) => self.trap(TrapKind::IllegalInstruction(word)),
+            Fetched::Outside(outside) => self.trap(TrapKind::AccessOutside(outside)),
         }
     }
 
@@ -161,6 +150,7 @@ impl Machine {
     }
 
     /// Ends the program where it stands, also at a read call that gets no answer.
+    #[inline(always)]
     pub(crate) fn stop(&mut self)
         ensures { IsAt self.new (state_of self.old) true false }
     {
@@ -169,6 +159,7 @@ impl Machine {
     }
 
     /// The answer of a call in x10.
+    #[inline(always)]
     fn answer(&mut self, value: u32)
         ensures { IsAt self.new (with_reg (state_of self.old) 10 value (next_pc (state_of self.old))) self.old.over self.old.waiting }
     {
@@ -180,12 +171,13 @@ impl Machine {
         ensures { IsAt self.new (given (state_of self.old) (Some byte)) self.old.over self.old.waiting }
     {
         let address = self.reg(Reg(11));
-        if let Access::At(region, offset) = locate(&self.regions, Right::Write, address, 1) {
-            write(&mut self.regions, region, offset, 1, byte as u32);
+        if let Access::At(region, offset) = self.memory.find(Right::Write, address, 1) {
+            self.memory.write(region, offset, 1, byte as u32);
         }
         self.answer(1)
     }
 
+    #[inline(always)]
     fn reg(&self, number: Reg) -> u32
         ensures { result ≡ reg (state_of self.now) number }
     {
@@ -197,6 +189,7 @@ impl Machine {
     }
 
     /// A value into a register, and where to go on.
+    #[inline(always)]
     fn set_reg(&mut self, number: Reg, value: u32, pc: u32)
         ensures { IsAt self.new (with_reg (state_of self.old) number value pc) self.old.over self.old.waiting }
     {
@@ -204,6 +197,7 @@ impl Machine {
         self.pc = pc;
     }
 
+    #[inline(always)]
     fn next_pc(&self) -> u32
         ensures { result ≡ next_pc (state_of self.now) }
     {
@@ -211,12 +205,14 @@ impl Machine {
     }
 
     /// The sum of a register and an immediate.
+    #[inline(always)]
     fn at(&self, base: Reg, offset: Imm12) -> u32
         ensures { result ≡ plus (reg (state_of self.now) base) (pattern offset) }
     {
         plus(self.reg(base), offset.0.cast_unsigned())
     }
 
+    #[inline(always)]
     fn trap(&mut self, kind: TrapKind) -> StepResult
         requires { IsRunning self.old }
         ensures { Does (state_of self.old) (Trapped kind) result self.new }
@@ -225,6 +221,7 @@ impl Machine {
         StepResult::Trap(kind, self.pc)
     }
 
+    #[inline(always)]
     fn exit(&mut self, code: u32) -> StepResult
         requires { IsRunning self.old }
         ensures { Does (state_of self.old) (Ended code) result self.new }
@@ -233,6 +230,7 @@ impl Machine {
         StepResult::Exit(code)
     }
 
+    #[inline(always)]
     fn put(&mut self, number: Reg, value: u32) -> StepResult
         requires { IsRunning self.old }
         ensures { Does (state_of self.old) (put (state_of self.old) number value) result self.new }
@@ -242,6 +240,7 @@ impl Machine {
         StepResult::Next
     }
 
+    #[inline(always)]
     fn go_to(&mut self, pc: u32) -> StepResult
         requires { IsRunning self.old }
         ensures { Does (state_of self.old) (Next (go_to (state_of self.old) pc)) result self.new }
@@ -251,6 +250,7 @@ impl Machine {
     }
 
     /// A jump that leaves the address of the next instruction in a register.
+    #[inline(always)]
     fn link(&mut self, number: Reg, target: u32) -> StepResult
         requires { IsRunning self.old }
         ensures { let s = state_of self.old in Does s (jump target (Next (with_reg s number (next_pc s) target))) result self.new }
@@ -263,6 +263,7 @@ impl Machine {
         StepResult::Next
     }
 
+    #[inline(always)]
     fn branch(&mut self, taken: bool, target: u32) -> StepResult
         requires { IsRunning self.old }
         ensures { let s = state_of self.old in Does s (if taken then jump target (Next (go_to s target)) else Next (go_to s (next_pc s))) result self.new }
@@ -278,48 +279,79 @@ impl Machine {
         }
     }
 
+    #[inline(always)]
     fn load_into(&mut self, number: Reg, kind: LoadKind, address: u32) -> StepResult
         requires { IsRunning self.old }
         ensures { let s = state_of self.old in Does s (load s number (load_value kind) (load_size kind) address) result self.new }
     {
-        let len = load_size(kind);
+        match kind {
+            LoadKind::Lb | LoadKind::Lbu => self.load_some(number, kind, 1, address),
+            LoadKind::Lh | LoadKind::Lhu => self.load_some(number, kind, 2, address),
+            LoadKind::Lw => self.load_some(number, kind, 4, address),
+        }
+    }
+
+    /// A load of so many bytes.
+    #[inline(always)]
+    fn load_some(&mut self, number: Reg, kind: LoadKind, len: u32, address: u32) -> StepResult
+        requires running { IsRunning self.old }
+        requires len { len ≡ load_size kind }
+        ensures { let s = state_of self.old in Does s (load s number (load_value kind) (load_size kind) address) result self.new }
+    {
         if address % len != 0 {
             return self.trap(TrapKind::MisalignedAccess(address));
         }
-        match locate(&self.regions, Right::Read, address, len) {
+        match self.memory.find(Right::Read, address, len) {
             Access::Outside(outside) => self.trap(TrapKind::AccessOutside(outside)),
             Access::At(region, offset) => {
-                let value = read(&self.regions, region, offset, len);
+                let value = self.memory.read(region, offset, len);
                 self.put(number, load_value(kind, value))
             }
         }
     }
 
-    fn store_at(&mut self, len: u32, region: usize, offset: usize, value: u32) -> StepResult
-        requires running { IsRunning self.old }
-        requires len { (len ≡ 1) ⊎ (len ≡ 2) ⊎ (len ≡ 4) }
-        requires inside { IsInside self.old.memory len (Access.At region offset) }
-        ensures { let s = state_of self.old in Does s (stored s (bytes_of len value) (Access.At region offset)) result self.new }
-    {
-        write(&mut self.regions, region, offset, len, value);
-        self.pc = plus(self.pc, 4);
-        StepResult::Next
-    }
-
+    #[inline(always)]
     fn store(&mut self, kind: StoreKind, address: u32, value: u32) -> StepResult
         requires { IsRunning self.old }
         ensures { let s = state_of self.old in Does s (store s value (store_size kind) address) result self.new }
     {
-        let len = store_size(kind);
+        match kind {
+            StoreKind::Sb => self.store_some(1, address, value),
+            StoreKind::Sh => self.store_some(2, address, value),
+            StoreKind::Sw => self.store_some(4, address, value),
+        }
+    }
+
+    /// A store of so many bytes.
+    #[inline(always)]
+    fn store_some(&mut self, len: u32, address: u32, value: u32) -> StepResult
+        requires running { IsRunning self.old }
+        requires len { (len ≡ 1) ⊎ (len ≡ 2) ⊎ (len ≡ 4) }
+        ensures { let s = state_of self.old in Does s (store s value len address) result self.new }
+    {
         if address % len != 0 {
             return self.trap(TrapKind::MisalignedAccess(address));
         }
-        match locate(&self.regions, Right::Write, address, len) {
+        match self.memory.find(Right::Write, address, len) {
             Access::Outside(outside) => self.trap(TrapKind::AccessOutside(outside)),
             Access::At(region, offset) => self.store_at(len, region, offset, value),
         }
     }
 
+    #[inline(always)]
+    fn store_at(&mut self, len: u32, region: usize, offset: usize, value: u32) -> StepResult
+        requires running { IsRunning self.old }
+        requires len { (len ≡ 1) ⊎ (len ≡ 2) ⊎ (len ≡ 4) }
+        requires inside { IsInside self.old.memory len (Access.At region offset) }
+        requires allowed { IsAllowed Right.Write self.old.memory (Access.At region offset) }
+        ensures { let s = state_of self.old in Does s (stored s (bytes_of len value) (Access.At region offset)) result self.new }
+    {
+        self.memory.write(region, offset, len, value);
+        self.pc = plus(self.pc, 4);
+        StepResult::Next
+    }
+
+    #[inline(always)]
     fn write_call(&mut self, file: u32, address: u32, len: u32) -> StepResult
         requires { IsRunning self.old }
         ensures { let s = state_of self.old in Does s (write_call s file address len) result self.new }
@@ -328,7 +360,7 @@ impl Machine {
             return self.put(Reg(10), NO_FILE);
         }
         if len > 0 {
-            if let Access::Outside(outside) = locate(&self.regions, Right::Read, address, len) {
+            if let Access::Outside(outside) = self.memory.find(Right::Read, address, len) {
                 return self.trap(TrapKind::AccessOutside(outside));
             }
         }
@@ -336,6 +368,7 @@ impl Machine {
         StepResult::Write(address, len)
     }
 
+    #[inline(always)]
     fn read_call(&mut self, file: u32, address: u32, len: u32) -> StepResult
         requires { IsRunning self.old }
         ensures { let s = state_of self.old in Does s (read_call s file address len) result self.new }
@@ -346,7 +379,7 @@ impl Machine {
         if len == 0 {
             return self.put(Reg(10), 0);
         }
-        match locate(&self.regions, Right::Write, address, len) {
+        match self.memory.find(Right::Write, address, len) {
             Access::Outside(outside) => self.trap(TrapKind::AccessOutside(outside)),
             Access::At(_, _) => {
                 self.waiting = true;
@@ -355,6 +388,7 @@ impl Machine {
         }
     }
 
+    #[inline(always)]
     fn call(&mut self) -> StepResult
         requires { IsRunning self.old }
         ensures { let s = state_of self.old in Does s (call s) result self.new }
@@ -367,6 +401,7 @@ impl Machine {
         }
     }
 
+    #[inline(always)]
     fn act(&mut self, instr: Instr) -> StepResult
         requires { IsRunning self.old }
         ensures { let s = state_of self.old in Does s (act s instr) result self.new }

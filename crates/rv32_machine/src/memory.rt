@@ -1,8 +1,9 @@
 //! Memory: segments of bytes with rights.
 
-ghost use Rattle.std.specs.Prelude.{◌≡◌, ◌^◌, ◌++◌, ◌-◌, replicate, IfOk, ◌+◌, ◌<◌, ◌≤◌, length, take, drop, slice_index, ◌⊎◌};
+ghost use Rattle.std.specs.Prelude.{◌≡◌, ◌&&◌, ◌^◌, ◌++◌, ◌-◌, replicate, IfOk, OnOk, ◌+◌, ◌<◌, ◌≤◌, length, take, drop, slice_index, ◌⊎◌};
+ghost use Rattle.elf32.specs.Image.{IsPart};
 ghost use Rattle.rv32_machine.specs.declared.memory.Access.{Access};
-ghost use Rattle.rv32_machine.specs.Memory.{allows, is_in, within, access, number_of, bytes_of, with_bytes, put_over, IsInside, stretch_of, bytes_at, stored_at};
+ghost use Rattle.rv32_machine.specs.Memory.{allows, IsAllowed, IsPlace, is_in, within, access, number_of, bytes_of, with_bytes, put_over, IsInside, stretch_of, bytes_at, stored_at};
 
 use elf32::Segment;
 use std::alloc::{AllocError, Global};
@@ -37,6 +38,8 @@ impl Model for Region {
 }
 
 impl Region {
+    /// Whether the segment has the right.
+    #[inline(always)]
     fn allows(&self, right: Right) -> bool
         ensures { result ≡ allows right self.now }
     {
@@ -47,13 +50,30 @@ impl Region {
         }
     }
 
+    #[inline(always)]
     fn is_in(&self, address: u32) -> bool
         ensures { result ≡ is_in address self.now }
     {
         address >= self.first && ((address - self.first) as usize) < self.bytes.len()
     }
 
-    fn within(&self, address: u32, len: u32, number: usize) -> Access
+    /// Whether an access that begins at the address may go to the segment.
+    #[inline(always)]
+    pub fn serves(&self, right: Right, address: u32) -> bool
+        ensures { result ≡ allows right self.now && is_in address self.now }
+    {
+        self.allows(right) && self.is_in(address)
+    }
+
+    pub fn can_write(&self) -> bool
+        ensures { result ≡ self.now.write }
+    {
+        self.write
+    }
+
+    /// Where an access goes whose first address is in the segment of this number.
+    #[inline(always)]
+    pub fn within(&self, address: u32, len: u32, number: usize) -> Access
         requires { (self.now.first ≤ address) × (0 < len) }
         ensures { result ≡ within address len number self.now }
     {
@@ -68,7 +88,8 @@ impl Region {
 
     /// The segment at the start of a program.
     pub fn new(alloc: Global, segment: &Segment) -> Result<Region, AllocError>
-        ensures { IfOk result (λ r. r ≡ stretch_of segment.now) }
+        ensures region { IfOk result (λ r. r ≡ stretch_of segment.now) }
+        ensures part { OnOk result (IsPart segment.now) }
     {
         let mut bytes = Vec::with_capacity(alloc, segment.size as usize)?;
         bytes.extend_from_slice(segment.bytes.as_slice())?;
@@ -88,6 +109,7 @@ impl Region {
         &self.bytes[offset..offset + len]
     }
 
+    #[inline(always)]
     fn byte(&self, offset: usize) -> u8
         requires { offset < length self.now.bytes }
         ensures { result ≡ slice_index self.now.bytes offset }
@@ -95,6 +117,7 @@ impl Region {
         self.bytes[offset]
     }
 
+    #[inline(always)]
     fn half(&self, offset: usize) -> u32
         requires { offset + 2 ≤ length self.now.bytes }
         ensures value { result ≡ number_of (take 2 (drop offset self.now.bytes)) }
@@ -104,6 +127,7 @@ impl Region {
         bytes[0] as u32 + 256 * bytes[1] as u32
     }
 
+    #[inline(always)]
     fn word(&self, offset: usize) -> u32
         requires { offset + 4 ≤ length self.now.bytes }
         ensures { result ≡ number_of (take 4 (drop offset self.now.bytes)) }
@@ -112,6 +136,7 @@ impl Region {
         bytes[0] as u32 + 256 * (bytes[1] as u32 + 256 * (bytes[2] as u32 + 256 * bytes[3] as u32))
     }
 
+    #[inline(always)]
     fn put_byte(&mut self, offset: usize, value: u32)
         requires { offset < length self.old.bytes }
         ensures { self.new ≡ with_bytes self.old (put_over self.old.bytes offset (bytes_of 1 value)) }
@@ -119,6 +144,7 @@ impl Region {
         self.bytes[offset] = (value % 256) as u8;
     }
 
+    #[inline(always)]
     fn put_half(&mut self, offset: usize, value: u32)
         requires { offset + 2 ≤ length self.old.bytes }
         ensures { self.new ≡ with_bytes self.old (put_over self.old.bytes offset (bytes_of 2 value)) }
@@ -127,6 +153,7 @@ impl Region {
         self.bytes[offset + 1] = (value / 256 % 256) as u8;
     }
 
+    #[inline(always)]
     fn put_word(&mut self, offset: usize, value: u32)
         requires { offset + 4 ≤ length self.old.bytes }
         ensures { self.new ≡ with_bytes self.old (put_over self.old.bytes offset (bytes_of 4 value)) }
@@ -147,22 +174,45 @@ pub enum Access {
     Outside(u32),
 }
 
+/// The number of the first segment that serves an access which begins at the address, or how many there are where none does.
+pub fn place(regions: &[Region], right: Right, address: u32) -> usize
+    ensures { IsPlace right address regions.now result }
+{
+    for (number, region) in regions.iter().enumerate() {
+        if region.serves(right, address) {
+            return number;
+        }
+    }
+    regions.len()
+}
+
+/// Where an access goes that begins in the segment of this number, or in none where there is no such segment.
+#[inline(always)]
+pub fn access_at(regions: &[Region], number: usize, right: Right, address: u32, len: u32) -> Access
+    requires some { 0 < len }
+    requires place { IsPlace right address regions.now number }
+    ensures found { result ≡ access right regions.now address len }
+    ensures inside { IsInside regions.now len result }
+    ensures allowed { IsAllowed right regions.now result }
+{
+    match regions.get(number) {
+        Some(region) => region.within(address, len, number),
+        None => Access::Outside(address),
+    }
+}
+
 /// Where an access goes, in a list of segments.
-#[tactic(auto, unfolding(crate::specs::Memory::access))]
 pub fn locate(regions: &[Region], right: Right, address: u32, len: u32) -> Access
     requires { 0 < len }
     ensures found { result ≡ access right regions.now address len }
     ensures inside { IsInside regions.now len result }
+    ensures allowed { IsAllowed right regions.now result }
 {
-    for (number, region) in regions.iter().enumerate() {
-        if region.allows(right) && region.is_in(address) {
-            return region.within(address, len, number);
-        }
-    }
-    Access::Outside(address)
+    access_at(regions, place(regions, right, address), right, address, len)
 }
 
 /// The number that stands at a place.
+#[inline(always)]
 pub fn read(regions: &[Region], number: usize, offset: usize, len: u32) -> u32
     requires len { (len ≡ 1) ⊎ (len ≡ 2) ⊎ (len ≡ 4) }
     requires inside { IsInside regions.now len (Access.At number offset) }
@@ -178,6 +228,7 @@ pub fn read(regions: &[Region], number: usize, offset: usize, len: u32) -> u32
 }
 
 /// Puts a number at a place.
+#[inline(always)]
 pub fn write(regions: &mut [Region], number: usize, offset: usize, len: u32, value: u32)
     requires len { (len ≡ 1) ⊎ (len ≡ 2) ⊎ (len ≡ 4) }
     requires inside { IsInside regions.old len (Access.At number offset) }

@@ -41,6 +41,7 @@ impl Machine {
     }
 
     /// One instruction, with the byte that it reads or the bytes that it writes: a run of one step.
+    #[inline(always)]
     fn turn<I: Source, K: Sink>(&mut self, input: &mut I, out: &mut K) -> Result<Stop, Fault>
         requires { IsRunning self.old }
         ensures stands { IfOk result (λ stop. Told (I.left input.old) (λ i. Stays (run 1 i (state_of self.old)) stop self.new (I.left input.new))) }
@@ -67,6 +68,7 @@ impl Machine {
     }
 
     /// A read call's answer: a byte of the source, or its end.
+    #[inline(never)]
     fn take_byte<I: Source>(&mut self, input: &mut I) -> Result<(), Fault>
         requires over { self.old.over ≡ false }
         requires waiting { self.old.waiting ≡ true }
@@ -90,6 +92,7 @@ impl Machine {
     }
 
     /// The bytes of a write call, as one put.
+    #[inline(never)]
     fn put_bytes<K: Sink>(&mut self, addr: u32, len: u32, out: &mut K) -> Result<(), Fault>
         requires running { IsRunning self.old }
         requires range { IsSome (range_bytes self.old.memory addr len) }

@@ -50,7 +50,7 @@ struct Case {
     stop: Stop,
 }
 
-static CASES: [Case; 24] = [
+static CASES: [Case; 25] = [
     // a branch by two bytes, and a jump to an address whose last bit is cleared
     Case {
         words: &[0x00000163],
@@ -94,6 +94,16 @@ static CASES: [Case; 24] = [
         write: false,
         out: b"",
         stop: Stop::Trap(TrapKind::AccessOutside(65624), 65624),
+    },
+    // an instruction that adds 1 and, once it is done, is written over by one that adds 16
+    Case {
+        words: &[
+            0x00000297, 0x00000513, 0x00200313, 0x00150513, 0x0282a383, 0x0072a623, 0xfff30313,
+            0xfe0318e3, 0x05d00893, 0x00000073, 0x01050513,
+        ],
+        write: true,
+        out: b"",
+        stop: Stop::Exit(17),
     },
     // a link over its own base, and x0
     Case {

@@ -1,10 +1,10 @@
 -- The operations of low code are those of the machine, on two registers and on a register and a number.
-use Rattle.std.proofs.Common.{◌≡◌, ◌≢◌, ℕ, ℤ, pos, negsuc, suc, ◌+◌, ◌-◌, ◌*◌, ◌/◌, ◌%◌, ◌^◌, ◌<◌, ◌≤◌, List, [], ◌∷◌, cond, Bool, true, false, not, ◌⊎◌, inl, inr, refl, sym, ap, ◌∙◌, subst, arith, div-le_self}
+use Rattle.std.proofs.Common.{◌≡◌, ◌≢◌, ℕ, ℤ, pos, negsuc, suc, ◌-◌, ◌*◌, ◌/◌, ◌%◌, ◌^◌, ◌<◌, ◌≤◌, [], ◌∷◌, cond, Bool, true, false, not, inl, inr, refl, sym, ap, ◌∙◌, subst, arith, div-le_self}
 use Rattle.std.specs.Prelude.{nat_eq, nat_lt, if◌then◌else◌}
 use Rattle.std.proofs.Math.Nat.{mod-le}
 use Rattle.std.proofs.Math.IntN.{+ℤ_comm, *ℤ_comm}
 use Rattle.std.proofs.lemmas.Bool.Decides.{nat_tests}
-use Rattle.numbers.specs.Numbers.{wrap, truth, same_number, equal}
+use Rattle.numbers.specs.Numbers.{wrap, truth, same_number}
 use Rattle.rv32_isa.specs.declared.instr.Instr.TheVariants.{OpImm, Op}
 use Rattle.rv32_isa.specs.declared.instr.ImmKind.TheVariants.{Addi, Slti, Sltiu}
 use Rattle.rv32_isa.specs.declared.instr.OpKind.{OpKind}
@@ -12,7 +12,6 @@ use Rattle.rv32_isa.specs.declared.instr.OpKind.TheVariants as op
 use Rattle.rv32_machine.specs.Memory.{Stretch}
 use Rattle.rv32_machine.specs.Arithmetic.{plus, minus, bit, less_signed, signed, pattern, op_value, is_negative, magnitude, just_one, with_sign, divided, left_over}
 use Rattle.rv32_machine.proofs.Division.{operations_agree}
-use Rattle.rv32_machine.specs.Steps.{set_reg}
 use Rattle.rv32_steps.specs.Data.{Bases}
 use Rattle.rv32_steps.specs.Straight.{value}
 use Rattle.low_code.specs.declared.program.PrimOp.{PrimOp}

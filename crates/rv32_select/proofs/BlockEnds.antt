@@ -1,46 +1,38 @@
 -- The ends of blocks: words that are given, and no alternative.
-use Rattle.std.proofs.Common.{◌≡◌, ◌≢◌, ℕ, zero, suc, ◌+◌, ◌-◌, ◌*◌, ◌/◌, ◌%◌, ◌^◌, ◌<◌, ◌≤◌, List, [], ◌∷◌, ◌++◌, map, length, get_or, cond, Bool, true, false, Some, None, ◌⊎◌, inl, inr, refl, sym, ap, ◌∙◌, subst, arith, length-append}
-use Rattle.std.specs.Prelude.{Option, pos, nat_eq, nat_lt, ◌||◌, slice_get}
-use Rattle.std.proofs.lemmas.Bool.Decides.{nat_tests}
-use Rattle.std.proofs.lemmas.Grind.{common_steps}
-use Rattle.rv32_isa.specs.declared.instr.Instr.{Instr}
-use Rattle.rv32_isa.specs.declared.instr.Instr.TheVariants.{Load, Jalr}
-use Rattle.rv32_isa.specs.declared.instr.LoadKind.TheVariants.{Lw}
-use Rattle.rv32_machine.specs.Memory.{end_of}
+use Rattle.std.proofs.Common.{◌≡◌, ◌≢◌, ℕ, zero, suc, ◌+◌, ◌*◌, ◌^◌, ◌<◌, ◌≤◌, List, [], ◌∷◌, length, get_or, true, Some, None, inl, inr, refl, sym, ap, ◌∙◌, subst, arith}
+use Rattle.std.specs.Prelude.{Option, pos, slice_get}
 use Rattle.rv32_machine.specs.Arithmetic.{plus}
 use Rattle.rv32_machine.specs.Steps.{set_reg}
-use Rattle.rv32_steps.specs.Straight.{value}
 use Rattle.parallel_move.specs.declared.Spot.{Spot}
 use Rattle.parallel_move.specs.declared.Spot.TheVariants.{Reg, Slot, Scratch}
-use Rattle.parallel_move.specs.declared.Move.{Move}
 use Rattle.parallel_move.specs.Moves.{Values}
 use Rattle.low_code.specs.declared.program.Operand.{Operand}
-use Rattle.low_code.specs.Tree.{Code, give, fail, Procedure, Program}
+use Rattle.low_code.specs.Tree.{Code, fail, Procedure, Program}
 use Rattle.low_code.specs.Formed.{is_among, uses, used_by, used_by_all, variables}
-use Rattle.low_code.specs.Values.{Word, Env, World, Answer, need, and_then, each, gives}
+use Rattle.low_code.specs.Values.{Word, Env, World, and_then}
 use Rattle.low_code.specs.Run.{Calls, code, operand, operands}
 use Rattle.register_alloc.specs.Fits.{slots_of}
 use Rattle.register_alloc.specs.Assignment.{Assignment, place_of, words_at}
 use Rattle.rv32_items.specs.declared.Item.{Item}
-use Rattle.rv32_items.specs.declared.Item.TheVariants.{Label, Plain, Jump}
-use Rattle.rv32_items.specs.Course.{Layout, Point, label_from, address_from}
+use Rattle.rv32_items.specs.declared.Item.TheVariants.{Jump}
+use Rattle.rv32_items.specs.Course.{Layout}
 use Rattle.rv32_select.specs.declared.source.Source.{Source}
 use Rattle.rv32_select.specs.declared.source.Way.{Way}
-use Rattle.rv32_select.specs.declared.source.Way.TheVariants.{Returns, Follows, Jumps}
-use Rattle.rv32_select.specs.Emit.{plain, moves_code, number_moves, leave_code, add_to, return_items, result_spots}
-use Rattle.rv32_select.specs.IsSelected.{heap_base, stack_end, source, sources, way_out, IsOrder}
-use Rattle.rv32_select.proofs.Courses.{Goes, Stands, front, back, stays}
-use Rattle.rv32_select.proofs.Straight.{Data, with_reg, Good, good_reg, Does, does_on, does_load_stack, at}
-use Rattle.rv32_select.proofs.NumberParts.{value_is, set_there, set_here, Added, does_add}
-use Rattle.rv32_select.proofs.JumpStretches.{with_regs, jumped, jumps, returns_to, there_less, address_small}
-use Rattle.rv32_select.proofs.FrameViews.{spots, InFrame, Outside, Kept, in_frame}
-use Rattle.rv32_select.proofs.OperandsRead.{read, Readable, IsPlace}
-use Rattle.rv32_select.proofs.Gathering.{IsPair, AllPlaces, AllReadable, Gathered, gathered}
-use Rattle.rv32_select.proofs.Relation.{bases, regs_of, word_of, AllHold, HoldsCells, HoldsWorld, Keeps, Untouched, Stood, Back, Ran, Ends, ran_on, ends_on, quiet, Does', Given, Needed}
-use Rattle.rv32_select.proofs.PlaceFacts.{IsSmall, AreSmall, NotAmong, IsOwn, AllOwn, ProcedureFine, Setting}
-use Rattle.rv32_select.proofs.BlockFacts.{room, Block, Simulates, Changed, InRegisters, Ready, among_left, among_right, own_place, own_places, world_kept, stood_changed}
-use Rattle.rv32_select.proofs.OneBound.{Cut, cut, ready_at, plain_ran, operand_read}
-use Rattle.rv32_select.proofs.Stops.{good_far, StopAt, no_alternative_stop}
+use Rattle.rv32_select.specs.Emit.{leave_code, result_spots}
+use Rattle.rv32_select.specs.IsSelected.{sources}
+use Rattle.low_code.specs.Literals.{AreSmall}
+use Rattle.rv32_select.proofs.Courses.{Stands}
+use Rattle.rv32_select.proofs.Straight.{Data, with_reg, Good, good_reg, Does, does_on, does_load_stack}
+use Rattle.rv32_select.proofs.NumberParts.{set_there, does_add}
+use Rattle.rv32_select.proofs.JumpStretches.{jumped, jumps, there_less, address_small}
+use Rattle.rv32_select.proofs.FrameViews.{spots, InFrame}
+use Rattle.rv32_select.proofs.OperandsRead.{read, IsPlace}
+use Rattle.rv32_select.proofs.Gathering.{IsPair, AllReadable}
+use Rattle.rv32_select.proofs.Relation.{bases, regs_of, word_of, AllHold, HoldsCells, HoldsWorld, Stood, ends_on, quiet, Needed}
+use Rattle.rv32_select.proofs.PlaceFacts.{IsOwn, ProcedureFine, Setting}
+use Rattle.rv32_select.proofs.BlockFacts.{Block, Simulates, among_left, among_right}
+use Rattle.rv32_select.proofs.OneBound.{operand_read}
+use Rattle.rv32_select.proofs.Stops.{good_far, no_alternative_stop}
 
 -- each operand is read as its word
 abbrev pub EachIs : (width : ℕ) → (Source → ℕ) → List Source → List Word → Type 0

@@ -1,5 +1,5 @@
 -- A block of a procedure in the items, what is known where it begins, and how what is needed is kept where variables are bound.
-use Rattle.std.proofs.Common.{◌≡◌, ◌≢◌, ℕ, zero, suc, ◌+◌, ◌-◌, ◌*◌, ◌%◌, ◌^◌, ◌<◌, ◌≤◌, List, [], ◌∷◌, ◌++◌, map, length, get_or, cond, Bool, true, false, Some, None, ◌⊎◌, inl, inr, refl, sym, ap, ◌∙◌, subst, arith}
+use Rattle.std.proofs.Common.{◌≡◌, ◌≢◌, ℕ, ◌+◌, ◌*◌, ◌≤◌, List, [], ◌∷◌, ◌++◌, map, length, get_or, cond, Bool, true, false, Some, ◌⊎◌, inl, inr, refl, sym, ap, ◌∙◌, subst, arith}
 use Rattle.std.specs.Prelude.{Option, nat_eq, ◌||◌, slice_get}
 use Rattle.std.proofs.lemmas.Bool.Decides.{nat_tests}
 use Rattle.parallel_move.specs.declared.Spot.{Spot}
@@ -7,25 +7,25 @@ use Rattle.parallel_move.specs.declared.Spot.TheVariants.{Reg, Slot, Scratch}
 use Rattle.parallel_move.specs.Moves.{Values}
 use Rattle.low_code.specs.Tree.{Code, Procedure, Program}
 use Rattle.low_code.specs.Formed.{is_among, uses, variables}
-use Rattle.low_code.specs.Values.{Word, Env, World, Answer, Room, with_var, with_vars}
+use Rattle.low_code.specs.Values.{Word, Env, World, Room, with_var, with_vars}
 use Rattle.low_code.specs.Run.{Calls, code}
 use Rattle.register_alloc.specs.Live.{IsLive}
 use Rattle.register_alloc.specs.Fits.{Apart, ClearOf, slots_of}
 use Rattle.register_alloc.specs.Assignment.{Assignment, place_of, words_at}
 use Rattle.rv32_items.specs.declared.Item.{Item}
 use Rattle.rv32_items.specs.declared.Item.TheVariants.{Label}
-use Rattle.rv32_items.specs.Course.{Layout, Point, label_from, address_from}
+use Rattle.rv32_items.specs.Course.{Layout, label_from, address_from}
 use Rattle.rv32_select.specs.declared.source.Way.{Way}
 use Rattle.rv32_select.specs.declared.source.Way.TheVariants.{Returns, Follows, Jumps}
 use Rattle.rv32_select.specs.Emit.{argument_spots, result_spots}
 use Rattle.rv32_select.specs.IsSelected.{Emits, first_label}
 use Rattle.rv32_select.proofs.Courses.{Stands}
 use Rattle.rv32_select.proofs.Straight.{Data, Good, decide, at}
-use Rattle.rv32_select.proofs.FrameViews.{spots, InFrame, Ok, Outside, Kept}
+use Rattle.rv32_select.proofs.FrameViews.{spots, Outside, Kept}
 use Rattle.rv32_select.proofs.OperandsRead.{IsPlace}
 use Rattle.rv32_select.proofs.Gathering.{AllPlaces}
-use Rattle.rv32_select.proofs.Relation.{bases, regs_of, word_of, AllHold, HoldsCells, HoldsWorld, Keeps, Untouched, Stood, Back, Does', Given, InUse, Needed}
-use Rattle.rv32_select.proofs.PlaceFacts.{NotAmong, Different, Free, IsOwn, AllOwn, Binds, Fine, ProcedureFine, Setting}
+use Rattle.rv32_select.proofs.Relation.{bases, regs_of, word_of, AllHold, HoldsCells, HoldsWorld, Keeps, Stood, Back, Does', Given, Needed}
+use Rattle.rv32_select.proofs.PlaceFacts.{NotAmong, Different, IsOwn, AllOwn, Binds, Fine}
 
 pub or_true : (x y : Bool) → x || y ≡ true → (x ≡ true) ⊎ (y ≡ true)
 or_true true y e = inl refl

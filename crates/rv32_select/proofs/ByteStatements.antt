@@ -1,6 +1,6 @@
 -- A byte that is put, and one that is got.
-use Rattle.std.proofs.Common.{◌≡◌, ◌≢◌, ℕ, zero, suc, ◌+◌, ◌-◌, ◌*◌, ◌/◌, ◌%◌, ◌^◌, ◌<◌, ◌≤◌, List, [], ◌∷◌, ◌++◌, map, length, drop, get_or, set as set_at, Bool, true, false, Some, None, ◌⊎◌, inl, inr, refl, sym, ap, ◌∙◌, subst, arith, append_assoc, length-append, get_or-set_same, get_or-set_other}
-use Rattle.std.specs.Prelude.{Option, pos, negsuc, nat_eq, ◌||◌, slice_get}
+use Rattle.std.proofs.Common.{◌≡◌, ◌≢◌, ℕ, suc, ◌+◌, ◌*◌, ◌%◌, ◌^◌, ◌<◌, ◌≤◌, List, [], ◌∷◌, ◌++◌, length, drop, get_or, set as set_at, Bool, true, false, Some, None, inl, inr, refl, sym, ap, ◌∙◌, subst, arith, append_assoc, length-append, get_or-set_same, get_or-set_other}
+use Rattle.std.specs.Prelude.{Option, pos, negsuc, nat_eq, slice_get}
 use Rattle.std.proofs.lemmas.Bool.Decides.{nat_tests}
 use Rattle.std.proofs.Math.ListN.{length-set}
 use Rattle.headline.specs.Carries.{IsBytes}
@@ -12,34 +12,33 @@ use Rattle.rv32_isa.specs.declared.instr.ImmKind.TheVariants.{Addi}
 use Rattle.rv32_isa.specs.declared.instr.OpKind.TheVariants as op
 use Rattle.rv32_machine.specs.Arithmetic.{plus}
 use Rattle.rv32_machine.specs.Steps.{set_reg}
-use Rattle.rv32_steps.specs.Straight.{value}
 use Rattle.parallel_move.specs.declared.Spot.{Spot}
 use Rattle.parallel_move.specs.declared.Spot.TheVariants.{Reg, Slot, Scratch}
 use Rattle.low_code.specs.declared.program.Operand.{Operand}
 use Rattle.low_code.specs.Tree.{Code, put, get, Procedure, Program}
-use Rattle.low_code.specs.Formed.{is_among, uses, used_by, variables}
-use Rattle.low_code.specs.Values.{Word, number, Env, World, Answer, with_var, need}
+use Rattle.low_code.specs.Formed.{uses, used_by, variables}
+use Rattle.low_code.specs.Values.{Word, number, Env, World, with_var, need}
 use Rattle.low_code.specs.Run.{Calls, code, operand, number_in, written, next_byte, byte_taken}
 use Rattle.register_alloc.specs.Fits.{slots_of}
 use Rattle.register_alloc.specs.Assignment.{Assignment, place_of, words_at}
 use Rattle.rv32_items.specs.declared.Item.{Item}
 use Rattle.rv32_items.specs.declared.Item.TheVariants.{Plain}
-use Rattle.rv32_items.specs.Course.{Layout, Point}
+use Rattle.rv32_items.specs.Course.{Layout}
 use Rattle.rv32_select.specs.declared.source.Way.{Way}
-use Rattle.rv32_select.specs.Emit.{plain, held, hold, aside, back, put_code, get_code, move_to, copy, store_slot}
+use Rattle.rv32_select.specs.Emit.{plain, held, hold, aside, back, put_code, get_code, move_to}
 use Rattle.rv32_select.specs.IsSelected.{heap_base, heap_end, source}
 use Rattle.rv32_select.proofs.Courses.{Stands, front, back as behind, Goes}
-use Rattle.rv32_select.proofs.Straight.{Data, with_reg, with_stack, decide, Good, good_reg, good_stack, Does, does_on, does_imm, does_op, does_load_stack, does_store_stack, at}
-use Rattle.rv32_select.proofs.NumberParts.{value_is, set_here, set_there}
+use Rattle.rv32_select.proofs.Straight.{Data, with_reg, with_stack, Good, good_reg, good_stack, Does, does_on, does_imm, does_op, does_load_stack, does_store_stack, at}
+use Rattle.rv32_select.proofs.NumberParts.{set_here, set_there}
 use Rattle.rv32_select.proofs.FrameViews.{spots, InFrame, Outside, Kept, kept_reg, seen_reg, copied, stores}
-use Rattle.rv32_select.proofs.OperandsRead.{read, Readable, IsPlace, Held, holds, held_not_seven, read_same, put_here, put_there}
-use Rattle.rv32_select.proofs.Relation.{bases, word_of, HoldsCells, HoldsWorld, Stood, Ran, ran_on, quiet, wrote, took, Does', does_after, Given, Needed}
-use Rattle.rv32_select.proofs.PlaceFacts.{NotAmong, IsOwn, ProcedureFine, Setting}
+use Rattle.rv32_select.proofs.OperandsRead.{read, IsPlace, holds, held_not_seven, read_same, put_here, put_there}
+use Rattle.rv32_select.proofs.Relation.{bases, HoldsCells, HoldsWorld, Ran, ran_on, wrote, took, Does', does_after, Given, Needed}
+use Rattle.rv32_select.proofs.PlaceFacts.{IsOwn, ProcedureFine, Setting}
 use Rattle.rv32_select.proofs.BlockFacts.{room, Block, Simulates, Changed, among_left, among_right, own_place, stood_bound, still_scoped}
 use Rattle.rv32_select.proofs.OneBound.{Cut, cut, ready_at, plain_ran, operand_read}
 use Rattle.rv32_select.proofs.WordStatements.{stood_same, number_there}
 use Rattle.rv32_select.proofs.TakeStatement.{scope_owned}
-use Rattle.rv32_select.proofs.MachineCalls.{four, put_aside, at_call, brought_back, aside_done, back_done, aside_other, back_other, all_back, word_back, write_call, read_call_ends, read_call_takes}
+use Rattle.rv32_select.proofs.MachineCalls.{four, at_call, brought_back, aside_done, back_done, aside_other, all_back, word_back, write_call, read_call_ends, read_call_takes}
 
 plain_append : (xs ys : List Instr) → plain (xs ++ ys) ≡ plain xs ++ plain ys
 plain_append [] ys = refl

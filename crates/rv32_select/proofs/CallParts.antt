@@ -1,48 +1,31 @@
 -- Calls: registers are saved, arguments go to their spots, the procedure runs, results go to their variables, and registers come
 -- back.
-use Rattle.std.proofs.Common.{◌≡◌, ◌≢◌, ℕ, zero, suc, ◌+◌, ◌-◌, ◌*◌, ◌^◌, ◌<◌, ◌≤◌, List, [], ◌∷◌, ◌++◌, map, length, get_or, Bool, true, false, Some, None, ◌⊎◌, inl, inr, refl, sym, ap, ◌∙◌, subst, arith, append_assoc, length-append}
-use Rattle.std.specs.Prelude.{Option, nat_eq, slice_get}
-use Rattle.std.proofs.lemmas.Bool.Decides.{nat_tests}
+use Rattle.std.proofs.Common.{◌≡◌, ◌≢◌, ℕ, zero, suc, ◌+◌, ◌<◌, ◌≤◌, List, [], ◌∷◌, ◌++◌, map, length, Bool, true, false, Some, refl, sym, ap, ◌∙◌, subst, arith}
+use Rattle.std.specs.Prelude.{slice_get}
 use Rattle.std.proofs.lemmas.Grind.{common_steps}
 use Rattle.rv32_isa.specs.declared.instr.Instr.{Instr}
-use Rattle.rv32_isa.specs.declared.instr.Instr.TheVariants.{Ecall}
-use Rattle.rv32_machine.specs.Steps.{set_reg}
 use Rattle.parallel_move.specs.declared.Spot.{Spot}
 use Rattle.parallel_move.specs.declared.Spot.TheVariants.{Reg, Slot, Scratch}
 use Rattle.parallel_move.specs.declared.Move.{Move}
-use Rattle.parallel_move.specs.Moves.{Values, one_by_one}
-use Rattle.low_code.specs.declared.program.Operand.{Operand}
-use Rattle.low_code.specs.Tree.{Code, call, Procedure, Program}
-use Rattle.low_code.specs.Formed.{is_among, uses, used_by_all, variables}
-use Rattle.low_code.specs.Values.{Word, Env, World, Answer, need, then_do, with_vars}
-use Rattle.low_code.specs.Run.{Calls, code, operands}
-use Rattle.register_alloc.specs.Live.{IsLive}
-use Rattle.register_alloc.specs.Fits.{Ascending, slots_of}
-use Rattle.register_alloc.specs.Assignment.{Assignment, place_of, saves_at, words_at}
-use Rattle.rv32_items.specs.declared.Item.{Item}
-use Rattle.rv32_items.specs.declared.Item.TheVariants.{Plain, Jump}
-use Rattle.rv32_items.specs.Course.{Layout, Point, label_from, address_from}
-use Rattle.rv32_items.specs.Placed.{is_instruction}
-use Rattle.rv32_select.specs.declared.source.Source.{Source}
+use Rattle.parallel_move.specs.Moves.{one_by_one}
+use Rattle.low_code.specs.Tree.{Program}
+use Rattle.low_code.specs.Formed.{is_among}
+use Rattle.low_code.specs.Values.{Word}
+use Rattle.register_alloc.specs.Fits.{Ascending}
+use Rattle.register_alloc.specs.Assignment.{Assignment, place_of}
+use Rattle.rv32_items.specs.Course.{Layout}
 use Rattle.rv32_select.specs.declared.source.Source.TheVariants.{At}
-use Rattle.rv32_select.specs.declared.source.Way.{Way}
-use Rattle.rv32_select.specs.Emit.{plain, moves_code, spot_moves, number_moves, argument_spots, result_spots, save_moves, restore_moves}
-use Rattle.rv32_select.specs.IsSelected.{sources, params_of, argument_spots_of, results_of, result_spots_of, IsOrder, moves_between}
-use Rattle.rv32_select.proofs.Courses.{Goes, Stands, front, back, stays}
-use Rattle.rv32_select.proofs.Straight.{Data, Good, Does, does_on, decide, at}
-use Rattle.rv32_select.proofs.JumpStretches.{jumped, calls_to, comes_back, there_less}
-use Rattle.rv32_select.proofs.NumberParts.{set_here}
-use Rattle.rv32_select.proofs.FrameViews.{spots, InFrame, Ok, Kept, kept_on, in_frame, Makes, moves_made}
-use Rattle.rv32_select.proofs.OperandsRead.{read, IsPlace}
-use Rattle.rv32_select.proofs.Gathering.{AllReadable, AllPlaces, Gathered, gathered, between_are, no_numbers}
-use Rattle.rv32_select.proofs.SavedRegisters.{save_keeps_register, save_keeps_slot, restore_keeps_slot, restore_keeps_register, saved_word, restored, among_index, index_inside, InRange, saves_ok, restores_ok}
-use Rattle.rv32_select.proofs.Relation.{bases, regs_of, word_of, AllHold, HoldsWorld, Keeps, Untouched, Stood, Back, Ran, ran_on, quiet, Does', does_after, does_then, Given, Needed}
-use Rattle.rv32_select.proofs.PlaceFacts.{NotAmong, Different, IsOwn, AllOwn, AllFree, CallFits, SavesFit, ProcedureFine, StandsAt, Setting}
-use Rattle.rv32_select.proofs.BlockFacts.{room, Block, Simulates, CallsSimulated, among_left, among_right, bound_word, still_scoped, own_place, own_places, kept_not_own, apart_not_among, apart_different, world_kept}
-use Rattle.rv32_select.proofs.OneBound.{Cut, cut, ready_at, plain_ran}
-use Rattle.rv32_select.proofs.TakeStatement.{scope_owned}
-use Rattle.rv32_select.proofs.BlockEnds.{EachIs, all_hold, world_same, good_jumped, jumped_reg, OperandsRead, operands_read}
-use Rattle.rv32_select.proofs.TailStatement.{free_hold}
+use Rattle.rv32_select.specs.Emit.{moves_code, number_moves, result_spots, save_moves, restore_moves}
+use Rattle.rv32_select.specs.IsSelected.{IsOrder, moves_between}
+use Rattle.rv32_select.proofs.Straight.{Data, Good, Does, does_on}
+use Rattle.rv32_select.proofs.FrameViews.{spots, InFrame, Kept, kept_on, in_frame, Makes, moves_made}
+use Rattle.rv32_select.proofs.OperandsRead.{read}
+use Rattle.rv32_select.proofs.Gathering.{AllReadable, gathered, between_are, no_numbers}
+use Rattle.rv32_select.proofs.SavedRegisters.{save_keeps_register, save_keeps_slot, restore_keeps_slot, restore_keeps_register, saved_word, restored, index_inside, saves_ok, restores_ok}
+use Rattle.rv32_select.proofs.Relation.{bases, regs_of, word_of, AllHold}
+use Rattle.rv32_select.proofs.PlaceFacts.{NotAmong, Different, IsOwn, AllOwn, AllFree}
+use Rattle.rv32_select.proofs.BlockFacts.{own_place, own_places}
+use Rattle.rv32_select.proofs.BlockEnds.{EachIs, all_hold}
 
 nothing_behind : (xs : List Instr) → xs ++ [] ≡ xs
 nothing_behind xs = grind (arith, common_steps)

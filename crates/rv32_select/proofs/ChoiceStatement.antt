@@ -1,7 +1,6 @@
 -- Choices: tests of words, and the arm that is taken.
-use Rattle.std.proofs.Common.{◌≡◌, ◌≢◌, ℕ, zero, suc, ◌+◌, ◌*◌, ◌^◌, ◌<◌, ◌≤◌, List, [], ◌∷◌, ◌++◌, map, length, Bool, true, false, not, Some, None, ◌⊎◌, inl, inr, refl, sym, ap, ◌∙◌, subst, arith, length-append}
-use Rattle.std.specs.Prelude.{Option, nat_eq, if◌then◌else◌, slice_get}
-use Rattle.rv32_isa.specs.declared.instr.Instr.{Instr}
+use Rattle.std.proofs.Common.{◌≡◌, ◌≢◌, ℕ, suc, ◌+◌, ◌≤◌, List, [], ◌∷◌, ◌++◌, length, Bool, true, false, not, Some, None, ◌⊎◌, inl, inr, refl, ap, ◌∙◌, subst, arith, length-append}
+use Rattle.std.specs.Prelude.{Option, nat_eq, slice_get}
 use Rattle.rv32_machine.specs.Steps.{set_reg}
 use Rattle.rv32_steps.specs.Straight.{value}
 use Rattle.parallel_move.specs.declared.Spot.{Spot}
@@ -9,7 +8,7 @@ use Rattle.parallel_move.specs.declared.Spot.TheVariants.{Reg, Slot, Scratch}
 use Rattle.low_code.specs.declared.program.LowTest.{LowTest}
 use Rattle.low_code.specs.Tree.{Code, choose, Arms, otherwise, arm, Procedure, Program}
 use Rattle.low_code.specs.Formed.{is_among, uses, arms_uses, used_by, used_by_tests, variables}
-use Rattle.low_code.specs.Values.{Word, number, Env, World, Answer, need, and_then}
+use Rattle.low_code.specs.Values.{Word, number, Env, World, need, and_then}
 use Rattle.low_code.specs.Run.{Calls, code, arms, operand, number_in, holds}
 use Rattle.register_alloc.specs.Fits.{slots_of}
 use Rattle.register_alloc.specs.Assignment.{Assignment, place_of, words_at}
@@ -17,20 +16,20 @@ use Rattle.rv32_items.specs.declared.Cond.TheVariants.{Ne}
 use Rattle.rv32_items.specs.declared.Item.{Item}
 use Rattle.rv32_items.specs.declared.Item.TheVariants.{Label, Branch}
 use Rattle.rv32_items.specs.Course.{Layout, Point, label_from}
-use Rattle.rv32_select.specs.declared.source.Source.{Source}
 use Rattle.rv32_select.specs.declared.source.Source.TheVariants.{Number}
 use Rattle.rv32_select.specs.declared.source.Way.{Way}
 use Rattle.rv32_select.specs.declared.source.Way.TheVariants.{Returns, Follows, Jumps}
 use Rattle.rv32_select.specs.Emit.{plain, held, hold, test_items}
 use Rattle.rv32_select.specs.IsSelected.{source, tests_items, first_label, further, EmitsArms}
+use Rattle.low_code.specs.Literals.{TestsSmall}
 use Rattle.rv32_select.proofs.Courses.{Goes, Stands, front, back, stays}
-use Rattle.rv32_select.proofs.Straight.{Data, with_reg, Good, Does, does_on, at}
+use Rattle.rv32_select.proofs.Straight.{Data, with_reg, does_on, at}
 use Rattle.rv32_select.proofs.JumpStretches.{with_regs, branches, goes_on}
-use Rattle.rv32_select.proofs.FrameViews.{spots, Kept, kept_on, in_frame}
-use Rattle.rv32_select.proofs.OperandsRead.{read, Readable, IsPlace, Held, holds as held_by, held_stays}
+use Rattle.rv32_select.proofs.FrameViews.{spots, kept_on, in_frame}
+use Rattle.rv32_select.proofs.OperandsRead.{IsPlace, holds as held_by, held_stays}
 use Rattle.rv32_select.proofs.Computed.{hold_kept, hold_seen}
-use Rattle.rv32_select.proofs.Relation.{bases, word_of, HoldsWorld, Stood, Ran, ran_on, quiet, Does', does_after, does_map, Given, Needed}
-use Rattle.rv32_select.proofs.PlaceFacts.{TestsSmall, NotAmong, Different, IsOwn, AllOwn, ArmsFine, ProcedureFine, Setting}
+use Rattle.rv32_select.proofs.Relation.{bases, Stood, Ran, ran_on, quiet, Does', does_after, does_map, Given, Needed}
+use Rattle.rv32_select.proofs.PlaceFacts.{NotAmong, Different, IsOwn, AllOwn, ArmsFine, ProcedureFine, Setting}
 use Rattle.rv32_select.proofs.BlockFacts.{room, Block, Simulates, InRegisters, Ready, among_left, among_right, world_kept}
 use Rattle.rv32_select.proofs.OneBound.{Cut, cut, ready_at, plain_ran, operand_read}
 use Rattle.rv32_select.proofs.WordStatements.{stood_same, number_there}

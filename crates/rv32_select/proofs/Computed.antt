@@ -1,12 +1,9 @@
 -- Code that computes a word from operands: a word of a cell, an operation; and code that stores a word in a cell.
-use Rattle.std.proofs.Common.{◌≡◌, ◌≢◌, ℕ, ℤ, suc, ◌+◌, ◌-◌, ◌*◌, ◌/◌, ◌%◌, ◌^◌, ◌<◌, ◌≤◌, List, [], ◌∷◌, ◌++◌, length, get_or, set, cond, Bool, true, false, ◌⊎◌, inl, inr, refl, sym, ap, ◌∙◌, subst, arith, append_assoc}
-use Rattle.std.specs.Prelude.{pos, nat_eq, if◌then◌else◌}
-use Rattle.std.proofs.lemmas.Bool.Decides.{nat_tests}
-use Rattle.std.proofs.Math.ListN.{length-set}
+use Rattle.std.proofs.Common.{◌≡◌, ◌≢◌, ℕ, ◌+◌, ◌*◌, ◌%◌, ◌^◌, ◌<◌, ◌≤◌, List, [], ◌∷◌, ◌++◌, length, get_or, set, Bool, true, false, ◌⊎◌, inl, inr, refl, ap, ◌∙◌, subst, arith, append_assoc}
+use Rattle.std.specs.Prelude.{if◌then◌else◌}
 use Rattle.rv32_isa.specs.declared.instr.Instr.{Instr}
-use Rattle.rv32_isa.specs.declared.instr.Instr.TheVariants.{Load, Store}
+use Rattle.rv32_isa.specs.declared.instr.Instr.TheVariants.{Load}
 use Rattle.rv32_isa.specs.declared.instr.LoadKind.TheVariants.{Lw}
-use Rattle.rv32_isa.specs.declared.instr.StoreKind.TheVariants.{Sw}
 use Rattle.rv32_machine.specs.Memory.{Stretch}
 use Rattle.rv32_machine.specs.Arithmetic.{plus}
 use Rattle.rv32_machine.specs.Steps.{set_reg}
@@ -18,11 +15,11 @@ use Rattle.low_code.specs.declared.program.PrimOp.{PrimOp}
 use Rattle.low_code.specs.Arithmetic.{arithmetic}
 use Rattle.rv32_select.specs.declared.source.Source.{Source}
 use Rattle.rv32_select.specs.declared.source.Source.TheVariants.{At, Number}
-use Rattle.rv32_select.specs.Emit.{target, keep, held, hold, load_code, save_code, word_offset, operation, immediate, is_immediate, operands_held, operate_on, operate_in_order, is_free, prim_code}
-use Rattle.rv32_select.proofs.Straight.{Data, with_reg, with_heap, decide, Good, Does, does_on, does_to, does_load_heap, does_store_heap, small_word}
+use Rattle.rv32_select.specs.Emit.{target, keep, held, hold, load_code, save_code, word_offset, immediate, is_immediate, operands_held, operate_on, operate_in_order, is_free, prim_code}
+use Rattle.rv32_select.proofs.Straight.{Data, with_reg, with_heap, Good, Does, does_on, does_load_heap, does_store_heap, small_word}
 use Rattle.rv32_select.proofs.NumberParts.{value_is, set_here, set_there}
-use Rattle.rv32_select.proofs.FrameViews.{spots, InFrame, Ok, Kept, kept_on, in_frame, kept_reg}
-use Rattle.rv32_select.proofs.OperandsRead.{read, Readable, IsPlace, Held, holds, held_place, held_not_seven, held_stays, value_stays, read_same, seen_past, Sets, kept_to}
+use Rattle.rv32_select.proofs.FrameViews.{spots, InFrame, Kept, kept_on, in_frame, kept_reg}
+use Rattle.rv32_select.proofs.OperandsRead.{read, Readable, IsPlace, Held, holds, held_not_seven, held_stays, read_same, seen_past, Sets, kept_to}
 use Rattle.rv32_select.proofs.Arithmetic.{operation_done, immediate_done, arithmetic_turns}
 
 module _ (c : Stretch) (b : Bases) (j slots : ℕ) where

@@ -1,10 +1,10 @@
 -- What the courses of selected items are, where none of the program's runs is missing: they follow its runs, arrive where those do,
 -- and each return goes home.
-use Rattle.std.proofs.Common.{◌≡◌, ◌≢◌, ℕ, ◌+◌, ◌≤◌, List, [], length, Some, sym, ap, ◌∙◌, subst, refl}
+use Rattle.std.proofs.Common.{◌≡◌, ◌≢◌, ℕ, ◌+◌, List, [], length, Some, sym, ap, ◌∙◌, subst, refl}
 use Rattle.headline.specs.Carries.{IsBytes}
 use Rattle.low_code.specs.Tree.{Program}
-use Rattle.low_code.specs.Values.{missing, heap_full, stack_full, Answer}
-use Rattle.low_code.specs.Run.{ended, end_of, world_of, start_world, limited, run, NeverMissing}
+use Rattle.low_code.specs.Values.{missing, heap_full, stack_full}
+use Rattle.low_code.specs.Run.{ended, end_of, world_of, start_world, limited, NeverMissing}
 use Rattle.low_code.proofs.Limits.{limits_only_stop}
 use Rattle.low_code.proofs.MoreUnits.{one_entry_a_unit}
 use Rattle.register_alloc.specs.Assignment.{Assignment, words_at}
@@ -18,7 +18,7 @@ use Rattle.rv32_select.proofs.Relation.{bases}
 use Rattle.rv32_select.proofs.PlaceFacts.{Setting}
 use Rattle.rv32_select.proofs.StartUp.{start_data, starts_at}
 use Rattle.rv32_select.proofs.WholeRun.{Started, whole_run}
-use Rattle.rv32_select.proofs.Outcomes.{IsStart, Outcome, follows, arrives, home}
+use Rattle.rv32_select.proofs.Outcomes.{IsStart, follows, arrives, home}
 
 module _ (l : Program) (a : Assignment) (cells stack : ℕ) (lay : Layout) (items : List Item) (begins : List ℕ) (s : Setting l a cells stack lay items begins) (z : Started l a cells stack items) (whole : NeverMissing l) where
   -- no run with limits is missing

@@ -1,12 +1,15 @@
 -- The labels of a block's own rise.
-use Rattle.std.proofs.Common.{◌≡◌, ℕ, suc, ◌≤◌, List, refl, arith}
+use Rattle.std.proofs.Common.{ℕ, suc, ◌≤◌, List, arith}
 use Rattle.parallel_move.specs.declared.Spot.{Spot}
-use Rattle.low_code.specs.Tree.{Code, set, prim, load, save, take, put, get, call, join, give, tail, choose, fail, Arms, otherwise, arm, Program}
-use Rattle.register_alloc.specs.Assignment.{Assignment, place_of}
+use Rattle.low_code.specs.Tree.{Code, set, prim, load, save, take, put, get, call, join, give, tail, choose, fail, Arms, otherwise, arm, Procedure, Program}
+use Rattle.low_code.specs.Formed.{variables}
+use Rattle.register_alloc.specs.Assignment.{Assignment, place_of, words_at}
+use Rattle.register_alloc.specs.Fits.{slots_of}
 use Rattle.rv32_items.specs.declared.Item.{Item}
 use Rattle.rv32_select.specs.declared.source.Way.{Way}
-use Rattle.rv32_select.specs.declared.source.Way.TheVariants.{Follows}
-use Rattle.rv32_select.specs.IsSelected.{Emits, EmitsArms, further, places}
+use Rattle.rv32_select.specs.declared.source.Way.TheVariants.{Returns, Follows}
+use Rattle.rv32_select.specs.Emit.{result_spots}
+use Rattle.rv32_select.specs.IsSelected.{Emits, EmitsArms, EmitsProcedure, further, places}
 
 module _ (l : Program) (a : Assignment) (cells stack words saved : ℕ) where
   mutual
@@ -34,3 +37,7 @@ module _ (l : Program) (a : Assignment) (cells stack words saved : ℕ) where
         let first = emits_up c to (further way) (suc n) h.0 h.1 h.2 in
         let second = arms_up as' to way h.0 m h.3.0 h.3.2 in
         omega arith
+
+pub procedure_up : (l : Program) (a : Assignment) (cells stack f : ℕ) (q : Procedure) (n m : ℕ) (items : List Item) → EmitsProcedure l a cells stack f q n m items → n ≤ m
+procedure_up l a cells stack f q n m items e =
+    emits_up l a cells stack (words_at a f) (slots_of (place_of a) (variables q)) q.body (result_spots 10 q.results) Returns n m e.block e.body

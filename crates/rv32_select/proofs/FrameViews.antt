@@ -4,9 +4,7 @@ use Rattle.std.specs.Prelude.{pos, negsuc, nat_eq, nat_lt, if◌then◌else◌}
 use Rattle.std.proofs.lemmas.Bool.Decides.{nat_tests}
 use Rattle.std.proofs.Math.ListN.{length-set}
 use Rattle.rv32_isa.specs.declared.instr.Instr.{Instr}
-use Rattle.rv32_isa.specs.declared.instr.Instr.TheVariants.{Lui, Load, Store, OpImm, Op}
-use Rattle.rv32_isa.specs.declared.instr.LoadKind.TheVariants.{Lw}
-use Rattle.rv32_isa.specs.declared.instr.StoreKind.TheVariants.{Sw}
+use Rattle.rv32_isa.specs.declared.instr.Instr.TheVariants.{Lui, OpImm, Op}
 use Rattle.rv32_isa.specs.declared.instr.ImmKind.TheVariants.{Addi}
 use Rattle.rv32_isa.specs.declared.instr.OpKind.TheVariants as op
 use Rattle.rv32_machine.specs.Memory.{Stretch}
@@ -19,8 +17,8 @@ use Rattle.parallel_move.specs.declared.Spot.TheVariants.{Reg, Slot, Scratch}
 use Rattle.parallel_move.specs.declared.Move.{Move}
 use Rattle.parallel_move.specs.Moves.{Values, same, moved, one_by_one}
 use Rattle.rv32_select.specs.Emit.{lower, upper, copy, slot_bytes, slot_base, reach, load_slot, store_slot, from_spot, slot_from, move_to, moves_code}
-use Rattle.rv32_select.proofs.Straight.{Data, with_reg, with_stack, decide, Good, good_reg, Does, does_nothing, does_to, does_on, does_lui, does_imm, does_op, does_load_stack, does_store_stack}
-use Rattle.rv32_select.proofs.NumberParts.{ext, itself, other, value_is, set_here, set_there, again, nothing_set, parts_sum}
+use Rattle.rv32_select.proofs.Straight.{Data, with_reg, with_stack, decide, Good, Does, does_nothing, does_to, does_on, does_lui, does_imm, does_op, does_load_stack, does_store_stack}
+use Rattle.rv32_select.proofs.NumberParts.{value_is, set_there, again, nothing_set, parts_sum}
 
 abbrev pub put : Spot → ℕ → Values → Values
 put s v u t = cond (same t s) v (u t)

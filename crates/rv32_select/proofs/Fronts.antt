@@ -1,13 +1,13 @@
 -- What a course is of a longer one.
-use Rattle.std.proofs.Common.{◌≡◌, ◌≢◌, ℕ, zero, suc, ◌+◌, ◌-◌, ◌≤◌, ◌<◌, List, [], ◌∷◌, ◌++◌, length, drop, Some, None, ◌⊎◌, inl, inr, refl, sym, ap, ◌∙◌, subst, arith, append_assoc, length-append, length-drop}
+use Rattle.std.proofs.Common.{◌≡◌, ℕ, zero, suc, ◌+◌, ◌≤◌, List, [], ◌∷◌, ◌++◌, length, drop, Some, None, ◌⊎◌, inl, inr, refl, sym, ap, ◌∙◌, subst, arith, append_assoc, length-append, length-drop}
 use Rattle.std.specs.Prelude.{Bool, true, false, Option, slice_get}
 use Rattle.std.proofs.lemmas.Grind.{common_steps}
 use Rattle.rv32_machine.specs.Steps.{given}
 use Rattle.rv32_items.specs.declared.Item.{Item}
 use Rattle.rv32_items.specs.declared.Item.TheVariants.{Label, Plain, Branch, Jump}
-use Rattle.rv32_items.specs.Course.{Layout, Point, Turn, Next, Written, Asked, Ended, Trapped, turn, behind, state_at, End, Going, Exited, Stopped, Course, stands, after, onward, course, label_of}
+use Rattle.rv32_items.specs.Course.{Layout, Point, Turn, Next, Written, Asked, Ended, Trapped, turn, behind, state_at, Going, Exited, Stopped, Course, stands, after, onward, course, label_of}
 use Rattle.rv32_items.specs.Told.{is_call, returns, home_by, home_to, ReturnsHome}
-use Rattle.rv32_select.proofs.Courses.{course_more, course_none, home_more}
+use Rattle.rv32_select.proofs.Courses.{course_more, course_none}
 
 -- a is a front of b: b has written, read and passed the same and more, and where a has ended b is a
 pub record IsFront (a b : Course) : Type 0 where

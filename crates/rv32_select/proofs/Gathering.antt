@@ -1,22 +1,21 @@
 -- Operands that go to spots at once: moves in an order that does them so, and behind them the numbers.
-use Rattle.std.proofs.Common.{◌≡◌, ◌≢◌, ℕ, suc, ◌+◌, ◌≤◌, ◌<◌, List, [], ◌∷◌, ◌++◌, map, cond, Bool, true, false, ◌⊎◌, inl, inr, refl, sym, ap, ◌∙◌, subst, arith}
-use Rattle.std.specs.Prelude.{nat_eq, nat_le, nat_lt, ◌&&◌}
+use Rattle.std.proofs.Common.{◌≡◌, ◌≢◌, ℕ, List, [], ◌∷◌, ◌++◌, map, cond, Bool, true, false, ◌⊎◌, inl, inr, refl, sym, ap, ◌∙◌, subst, arith}
+use Rattle.std.specs.Prelude.{nat_le, nat_lt, ◌&&◌}
 use Rattle.std.proofs.lemmas.Bool.Decides.{nat_tests}
-use Rattle.std.proofs.lemmas.Grind.{common_steps}
 use Rattle.rv32_isa.specs.declared.instr.Instr.{Instr}
 use Rattle.rv32_machine.specs.Memory.{Stretch}
 use Rattle.rv32_steps.specs.Data.{Bases}
 use Rattle.parallel_move.specs.declared.Spot.{Spot}
 use Rattle.parallel_move.specs.declared.Spot.TheVariants.{Reg, Slot, Scratch}
 use Rattle.parallel_move.specs.declared.Move.{Move}
-use Rattle.parallel_move.specs.Moves.{Values, same, origin, at_once, one_by_one, AllEnds}
+use Rattle.parallel_move.specs.Moves.{same, origin, at_once, AllEnds}
 use Rattle.rv32_select.specs.declared.source.Source.{Source}
 use Rattle.rv32_select.specs.declared.source.Source.TheVariants.{At, Number}
-use Rattle.rv32_select.specs.Emit.{moves_code, move_from, number_from, spot_moves, number_moves}
+use Rattle.rv32_select.specs.Emit.{moves_code, move_from, spot_moves, number_moves}
 use Rattle.rv32_select.specs.IsSelected.{IsOrder, moves_between}
-use Rattle.rv32_select.proofs.Straight.{Data, decide, Good, Does, does_nothing, does_on}
+use Rattle.rv32_select.proofs.Straight.{Data, Good, Does, does_nothing, does_on}
 use Rattle.rv32_select.proofs.FrameViews.{spots, InFrame, Ok, Kept, kept, kept_on, in_frame, AllOk, moves_made}
-use Rattle.rv32_select.proofs.OperandsRead.{read, Readable, IsPlace, itself', differ, Sets, sets_number}
+use Rattle.rv32_select.proofs.OperandsRead.{read, Readable, IsPlace, itself', differ, sets_number}
 use Rattle.rv32_select.proofs.PlaceFacts.{NotAmong, Different}
 
 pub same_spot : (s t : Spot) → same s t ≡ true → s ≡ t

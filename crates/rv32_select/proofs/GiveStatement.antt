@@ -1,39 +1,37 @@
 -- Words that a block gives.
-use Rattle.std.proofs.Common.{◌≡◌, ◌≢◌, ℕ, zero, suc, ◌+◌, ◌*◌, ◌^◌, ◌<◌, ◌≤◌, List, [], ◌∷◌, ◌++◌, map, length, get_or, Bool, true, false, Some, None, ◌⊎◌, inl, inr, refl, sym, ap, ◌∙◌, subst, arith}
+use Rattle.std.proofs.Common.{◌≡◌, ℕ, suc, ◌+◌, ◌≤◌, List, [], ◌∷◌, ◌++◌, length, get_or, Some, None, inr, refl, sym, ap, ◌∙◌, subst, arith}
 use Rattle.std.specs.Prelude.{Option, pos, slice_get}
-use Rattle.rv32_isa.specs.declared.instr.Instr.{Instr}
 use Rattle.rv32_isa.specs.declared.instr.Instr.TheVariants.{Jalr}
 use Rattle.rv32_machine.specs.Steps.{set_reg}
 use Rattle.parallel_move.specs.declared.Spot.{Spot}
-use Rattle.parallel_move.specs.declared.Spot.TheVariants.{Reg}
 use Rattle.parallel_move.specs.Moves.{Values}
 use Rattle.low_code.specs.declared.program.Operand.{Operand}
-use Rattle.low_code.specs.Tree.{Code, give, Procedure, Program}
-use Rattle.low_code.specs.Formed.{is_among, uses, used_by_all, variables}
-use Rattle.low_code.specs.Values.{Word, Env, World, Answer, need, gives}
+use Rattle.low_code.specs.Tree.{give, Procedure, Program}
+use Rattle.low_code.specs.Formed.{variables}
+use Rattle.low_code.specs.Values.{Word, Env, World, need, gives}
 use Rattle.low_code.specs.Run.{Calls, code, operands}
 use Rattle.register_alloc.specs.Fits.{slots_of}
 use Rattle.register_alloc.specs.Assignment.{Assignment, place_of, words_at}
 use Rattle.rv32_items.specs.declared.Item.{Item}
 use Rattle.rv32_items.specs.declared.Item.TheVariants.{Label, Plain, Jump}
-use Rattle.rv32_items.specs.Course.{Layout, Point, label_from, address_from}
+use Rattle.rv32_items.specs.Course.{Layout, address_from}
 use Rattle.rv32_select.specs.declared.source.Way.{Way}
 use Rattle.rv32_select.specs.declared.source.Way.TheVariants.{Returns, Follows, Jumps}
 use Rattle.rv32_select.specs.Emit.{plain, moves_code, number_moves, leave_code, return_items, result_spots}
 use Rattle.rv32_select.specs.IsSelected.{sources, way_out}
-use Rattle.rv32_select.proofs.Courses.{Goes, Stands, front, back, stays}
-use Rattle.rv32_select.proofs.Straight.{Data, with_reg, Good, good_reg, at, plain_length}
+use Rattle.rv32_select.proofs.Courses.{Stands, front, back, stays}
+use Rattle.rv32_select.proofs.Straight.{Data, good_reg, at}
 use Rattle.rv32_select.proofs.NumberParts.{set_there}
 use Rattle.rv32_select.proofs.JumpStretches.{with_regs, jumped, jumps, returns_to, there_less, address_small}
 use Rattle.rv32_select.proofs.FrameViews.{spots}
 use Rattle.rv32_select.proofs.OperandsRead.{read, IsPlace}
 use Rattle.rv32_select.proofs.Gathering.{AllPlaces, gathered}
-use Rattle.rv32_select.proofs.Relation.{bases, regs_of, word_of, AllHold, HoldsWorld, Stood, Back, Ran, ran_on, quiet, Does', does_after, Given, Needed}
-use Rattle.rv32_select.proofs.PlaceFacts.{NotAmong, IsOwn, AllOwn, ProcedureFine, Setting}
-use Rattle.rv32_select.proofs.BlockFacts.{room, Block, Simulates, Changed, InRegisters, Ready, own_place, own_places, world_kept, stood_changed}
-use Rattle.rv32_select.proofs.OneBound.{Cut, cut, ready_at, plain_ran}
+use Rattle.rv32_select.proofs.Relation.{bases, AllHold, Stood, Back, Ran, ran_on, quiet, Does', does_after, Given, Needed}
+use Rattle.rv32_select.proofs.PlaceFacts.{IsOwn, AllOwn, ProcedureFine, Setting}
+use Rattle.rv32_select.proofs.BlockFacts.{Block, Simulates, Changed, InRegisters, Ready, own_place, own_places, world_kept, stood_changed}
+use Rattle.rv32_select.proofs.OneBound.{cut, ready_at, plain_ran}
 use Rattle.rv32_select.proofs.WordStatements.{stood_same}
-use Rattle.rv32_select.proofs.BlockEnds.{all_hold, results_in_registers, same_registers, leaves, world_same, good_jumped, jumped_reg, jumped_spot, OperandsRead, operands_read}
+use Rattle.rv32_select.proofs.BlockEnds.{all_hold, results_in_registers, same_registers, leaves, world_same, good_jumped, jumped_reg, jumped_spot, operands_read}
 
 pub all_same : (l : Program) (lay : Layout) (stack j slots : ℕ) (to : List Spot) (vs : List Word) (u u' : Values) → AllPlaces lay.code (bases stack) j slots to → ((t : Spot) → IsPlace lay.code (bases stack) j slots t → u' t ≡ u t) → AllHold l.width to vs u → AllHold l.width to vs u'
 all_same l lay stack j slots [] vs u u' o e h = tt

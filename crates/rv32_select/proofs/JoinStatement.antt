@@ -1,25 +1,25 @@
 -- Joins: a block gives its words to variables, and what follows goes on with them.
-use Rattle.std.proofs.Common.{◌≡◌, ◌≢◌, ℕ, zero, suc, ◌+◌, ◌*◌, ◌<◌, ◌≤◌, List, [], ◌∷◌, ◌++◌, map, length, Bool, true, false, Some, None, ◌⊎◌, inl, inr, refl, sym, ap, ◌∙◌, subst, arith, length-append}
+use Rattle.std.proofs.Common.{◌≡◌, ℕ, suc, ◌+◌, ◌≤◌, List, [], ◌∷◌, ◌++◌, map, length, true, Some, None, inl, inr, refl, sym, ap, ◌∙◌, subst, arith, length-append}
 use Rattle.std.specs.Prelude.{Option, slice_get}
 use Rattle.parallel_move.specs.declared.Spot.{Spot}
 use Rattle.low_code.specs.Tree.{Code, join, Procedure, Program}
 use Rattle.low_code.specs.Formed.{is_among, uses, variables}
-use Rattle.low_code.specs.Values.{Word, Env, World, Answer, need, then_do, with_vars}
+use Rattle.low_code.specs.Values.{Word, Env, World, need, with_vars}
 use Rattle.low_code.specs.Run.{Calls, code}
 use Rattle.register_alloc.specs.Fits.{slots_of}
 use Rattle.register_alloc.specs.Assignment.{Assignment, place_of, words_at}
 use Rattle.rv32_items.specs.declared.Item.{Item}
 use Rattle.rv32_items.specs.declared.Item.TheVariants.{Label}
-use Rattle.rv32_items.specs.Course.{Layout, Point, label_from}
+use Rattle.rv32_items.specs.Course.{Layout}
 use Rattle.rv32_select.specs.declared.source.Way.{Way}
-use Rattle.rv32_select.specs.declared.source.Way.TheVariants.{Returns, Follows, Jumps}
+use Rattle.rv32_select.specs.declared.source.Way.TheVariants.{Follows}
 use Rattle.rv32_select.specs.IsSelected.{first_label}
 use Rattle.rv32_select.proofs.EmittedLabels.{emits_up}
-use Rattle.rv32_select.proofs.Courses.{Stands, front, back}
+use Rattle.rv32_select.proofs.Courses.{front, back}
 use Rattle.rv32_select.proofs.Straight.{Data, at}
 use Rattle.rv32_select.proofs.FrameViews.{spots}
 use Rattle.rv32_select.proofs.Relation.{bases, word_of, AllHold, Stood, Ran, Does', does_after, does_then, Given, Needed}
-use Rattle.rv32_select.proofs.PlaceFacts.{NotAmong, IsOwn, ProcedureFine, Setting}
+use Rattle.rv32_select.proofs.PlaceFacts.{ProcedureFine, Setting}
 use Rattle.rv32_select.proofs.BlockFacts.{room, Block, Simulates, among_left, among_right, bound_word, still_scoped, apart_not_among, apart_different}
 use Rattle.rv32_select.proofs.OneBound.{Cut, cut, ready_at}
 use Rattle.rv32_select.proofs.TakeStatement.{scope_owned}

@@ -1,6 +1,6 @@
 -- Code around a call to the machine: registers wait in x4 to x7, and come back.
-use Rattle.std.proofs.Common.{◌≡◌, ◌≢◌, ℕ, zero, suc, ◌+◌, ◌-◌, ◌*◌, ◌/◌, ◌%◌, ◌^◌, ◌<◌, ◌≤◌, List, [], ◌∷◌, ◌++◌, length, get_or, set, Bool, true, false, Some, ◌⊎◌, inl, inr, refl, sym, ap, ◌∙◌, subst, arith, get_or-set_same, get_or-set_other}
-use Rattle.std.specs.Prelude.{pos, negsuc, nat_eq, if◌then◌else◌, slice_get}
+use Rattle.std.proofs.Common.{◌≡◌, ◌≢◌, ℕ, suc, ◌+◌, ◌*◌, ◌%◌, ◌^◌, ◌<◌, ◌≤◌, List, [], ◌∷◌, ◌++◌, length, get_or, set, Bool, true, false, Some, inl, inr, refl, sym, ap, ◌∙◌, subst, arith, get_or-set_same, get_or-set_other}
+use Rattle.std.specs.Prelude.{pos, nat_eq, slice_get}
 use Rattle.std.proofs.lemmas.Bool.Decides.{nat_tests}
 use Rattle.std.proofs.Math.ListN.{length-set}
 use Rattle.rv32_isa.specs.declared.instr.Instr.{Instr}
@@ -8,22 +8,18 @@ use Rattle.rv32_isa.specs.declared.instr.Instr.TheVariants.{OpImm, Ecall}
 use Rattle.rv32_isa.specs.declared.instr.ImmKind.TheVariants.{Addi}
 use Rattle.rv32_machine.specs.Memory.{Stretch}
 use Rattle.rv32_machine.specs.Arithmetic.{plus}
-use Rattle.rv32_machine.specs.Steps.{set_reg, act}
-use Rattle.rv32_steps.specs.Data.{Bases, IsSlot, IsWord, slot, word_at}
+use Rattle.rv32_machine.specs.Steps.{set_reg}
+use Rattle.rv32_steps.specs.Data.{Bases, IsWord}
 use Rattle.rv32_steps.specs.Straight.{value}
 use Rattle.rv32_steps.specs.Laws.{Called}
 use Rattle.rv32_steps.proofs.Bytes.{bytes_are_written, bytes_are_asked, bytes_are_taken}
-use Rattle.parallel_move.specs.declared.Spot.{Spot}
-use Rattle.parallel_move.specs.declared.Spot.TheVariants.{Reg, Slot, Scratch}
 use Rattle.rv32_items.specs.declared.Item.{Item}
 use Rattle.rv32_items.specs.declared.Item.TheVariants.{Plain}
-use Rattle.rv32_items.specs.Course.{Layout, Point, Written, Asked, turn, turn_of, behind, behind_plain, state_at, label_of}
-use Rattle.rv32_select.specs.Emit.{aside, back, number_to}
+use Rattle.rv32_items.specs.Course.{Layout, Written, Asked, turn, turn_of, behind, behind_plain, label_of}
+use Rattle.rv32_select.specs.Emit.{aside, back}
 use Rattle.rv32_select.proofs.Courses.{Goes, one_written, one_asked}
 use Rattle.rv32_select.proofs.Straight.{Data, words, with_reg, with_stack, decide, Good, Does, does_on, does_imm, at, standing, stack_read, stack_written}
 use Rattle.rv32_select.proofs.NumberParts.{value_is, set_there, does_number}
-use Rattle.rv32_select.proofs.FrameViews.{spots}
-use Rattle.rv32_select.proofs.OperandsRead.{IsPlace}
 
 abbrev pub four : (file number : ℕ) → List Instr
 four file number = OpImm Addi 10 0 (pos file) ∷ OpImm Addi 11 2 (pos 0) ∷ OpImm Addi 12 0 (pos 1) ∷ OpImm Addi 17 0 (pos number) ∷ []

@@ -1,6 +1,6 @@
 -- Statements that bind one variable or change a word of a cell.
-use Rattle.std.proofs.Common.{◌≡◌, ◌≢◌, ℕ, zero, suc, ◌+◌, ◌-◌, ◌*◌, ◌/◌, ◌%◌, ◌^◌, ◌<◌, ◌≤◌, List, [], ◌∷◌, ◌++◌, map, length, get_or, cond, Bool, true, false, Some, None, ◌⊎◌, inl, inr, refl, sym, ap, ◌∙◌, subst, arith, length-append}
-use Rattle.std.specs.Prelude.{Option, nat_eq, nat_lt, ◌||◌, slice_get}
+use Rattle.std.proofs.Common.{◌≡◌, ℕ, ◌+◌, ◌*◌, ◌%◌, ◌^◌, ◌<◌, ◌≤◌, List, [], ◌∷◌, ◌++◌, length, cond, Bool, true, false, Some, None, inl, refl, sym, ap, ◌∙◌, subst, arith, length-append}
+use Rattle.std.specs.Prelude.{Option, nat_eq, nat_lt, ◌||◌}
 use Rattle.std.proofs.lemmas.Bool.Decides.{nat_tests}
 use Rattle.std.proofs.Math.Nat.{mul-le-mul_left}
 use Rattle.rv32_isa.specs.declared.instr.Instr.{Instr}
@@ -9,24 +9,21 @@ use Rattle.low_code.specs.declared.program.Operand.{Operand}
 use Rattle.low_code.specs.declared.program.Operand.TheVariants.{Var, Num, Cell}
 use Rattle.low_code.specs.Tree.{Code, set, Procedure, Program}
 use Rattle.low_code.specs.Formed.{is_among, uses, used_by, variables}
-use Rattle.low_code.specs.Values.{Word, number, cell, Env, World, Answer, with_var, with_vars, need}
+use Rattle.low_code.specs.Values.{Word, number, cell, Env, World, with_var, need}
 use Rattle.low_code.specs.Run.{Calls, code, operand}
 use Rattle.register_alloc.specs.Fits.{slots_of}
 use Rattle.register_alloc.specs.Assignment.{Assignment, place_of, words_at}
 use Rattle.rv32_items.specs.declared.Item.{Item}
 use Rattle.rv32_items.specs.Course.{Layout, Point}
-use Rattle.rv32_select.specs.declared.source.Source.{Source}
-use Rattle.rv32_select.specs.declared.source.Source.TheVariants.{At, Number}
 use Rattle.rv32_select.specs.declared.source.Way.{Way}
-use Rattle.rv32_select.specs.declared.source.Way.TheVariants.{Returns, Follows, Jumps}
 use Rattle.rv32_select.specs.Emit.{plain, set_code}
-use Rattle.rv32_select.specs.IsSelected.{heap_base, stack_end, source, Emits, Then}
+use Rattle.rv32_select.specs.IsSelected.{heap_base, source, Emits}
+use Rattle.low_code.specs.Literals.{IsSmall}
 use Rattle.rv32_select.proofs.Courses.{Stands, front, back, Goes}
-use Rattle.rv32_select.proofs.Straight.{Data, Good, Does, decide, plain_length, at, block}
-use Rattle.rv32_select.proofs.FrameViews.{spots, Kept}
+use Rattle.rv32_select.proofs.Straight.{Data, Good, Does, plain_length, at, block}
 use Rattle.rv32_select.proofs.OperandsRead.{read, Readable, Sets, sets_source}
 use Rattle.rv32_select.proofs.Relation.{bases, word_of, HoldsWorld, Stood, Ran, quiet, Does', does_after, Given, Needed}
-use Rattle.rv32_select.proofs.PlaceFacts.{IsSmall, NotAmong, IsOwn, Binds, Fine, ProcedureFine, Setting}
+use Rattle.rv32_select.proofs.PlaceFacts.{IsOwn, Binds, Fine, ProcedureFine, Setting}
 use Rattle.rv32_select.proofs.BlockFacts.{room, Ready, Block, Simulates, Changed, among_left, among_right, own_place, world_kept, stood_bound, still_scoped}
 
 -- a piece of items, and what stands behind it

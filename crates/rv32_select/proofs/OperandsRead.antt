@@ -1,25 +1,21 @@
 -- Operands in registers, and the code of statements that change one place or a word of a cell.
-use Rattle.std.proofs.Common.{◌≡◌, ◌≢◌, ℕ, suc, ◌+◌, ◌-◌, ◌*◌, ◌/◌, ◌%◌, ◌^◌, ◌<◌, ◌≤◌, List, [], ◌∷◌, ◌++◌, length, get_or, set, cond, Bool, true, false, ◌⊎◌, inl, inr, refl, sym, ap, ◌∙◌, subst, arith}
-use Rattle.std.specs.Prelude.{pos, nat_eq, if◌then◌else◌}
+use Rattle.std.proofs.Common.{◌≡◌, ◌≢◌, ℕ, ◌^◌, ◌<◌, ◌≤◌, List, [], ◌++◌, cond, Bool, true, false, ◌⊎◌, inl, inr, refl, sym, ap, ◌∙◌, subst, arith}
+use Rattle.std.specs.Prelude.{nat_eq, if◌then◌else◌}
 use Rattle.std.proofs.lemmas.Bool.Decides.{nat_tests}
 use Rattle.rv32_isa.specs.declared.instr.Instr.{Instr}
-use Rattle.rv32_isa.specs.declared.instr.Instr.TheVariants.{Load, Store}
-use Rattle.rv32_isa.specs.declared.instr.LoadKind.TheVariants.{Lw}
-use Rattle.rv32_isa.specs.declared.instr.StoreKind.TheVariants.{Sw}
 use Rattle.rv32_machine.specs.Memory.{Stretch}
-use Rattle.rv32_machine.specs.Arithmetic.{plus}
 use Rattle.rv32_machine.specs.Steps.{set_reg}
 use Rattle.rv32_steps.specs.Data.{Bases}
 use Rattle.rv32_steps.specs.Straight.{value}
 use Rattle.parallel_move.specs.declared.Spot.{Spot}
 use Rattle.parallel_move.specs.declared.Spot.TheVariants.{Reg, Slot, Scratch}
 use Rattle.parallel_move.specs.Moves.{Values, same}
-use Rattle.rv32_select.specs.Emit.{number_to, load_slot, store_slot, move_to, target, keep, held, hold, number_into, set_code, load_code, save_code, word_offset}
+use Rattle.rv32_select.specs.Emit.{number_to, move_to, target, keep, held, hold, number_into, set_code}
 use Rattle.rv32_select.specs.declared.source.Source.{Source}
 use Rattle.rv32_select.specs.declared.source.Source.TheVariants.{At, Number}
-use Rattle.rv32_select.proofs.Straight.{Data, with_reg, with_heap, with_stack, decide, Good, Does, does_nothing, does_to, does_on, does_load_heap, does_store_heap}
-use Rattle.rv32_select.proofs.NumberParts.{other, value_is, set_here, set_there, again, nothing_set, does_number}
-use Rattle.rv32_select.proofs.FrameViews.{put, spots, InFrame, Ok, Kept, kept, kept_on, in_frame, kept_reg, seen_reg, seen_scratch, unseen, loaded, Makes, makes_nothing, makes_on, stores, move_made}
+use Rattle.rv32_select.proofs.Straight.{Data, with_reg, Good, Does, does_nothing, does_to, does_on}
+use Rattle.rv32_select.proofs.NumberParts.{other, value_is, set_here, set_there, nothing_set, does_number}
+use Rattle.rv32_select.proofs.FrameViews.{put, spots, InFrame, Ok, Kept, kept_on, in_frame, kept_reg, seen_reg, loaded, Makes, stores, move_made}
 
 pub differ : (s t : Spot) → s ≢ t → same s t ≡ false
 differ (Reg r) (Reg q) h = other r q (λ e. h (ap Reg e))

@@ -1,20 +1,18 @@
 -- What the courses of items are where the machine does what each run of a program does, however many units it has.
-use Rattle.std.proofs.Common.{◌≡◌, ◌≢◌, ℕ, zero, suc, ◌+◌, ◌-◌, ◌≤◌, ◌<◌, List, [], ◌∷◌, ◌++◌, length, Bool, true, false, Some, None, ◌⊎◌, inl, inr, refl, sym, ap, ◌∙◌, subst, arith, append_assoc, length-append}
-use Rattle.std.specs.Prelude.{Option, nat_eq, nat_lt, if◌then◌else◌, slice_get}
+use Rattle.std.proofs.Common.{◌≡◌, ℕ, suc, ◌+◌, ◌-◌, ◌≤◌, ◌<◌, List, [], ◌∷◌, ◌++◌, length, Bool, true, false, Some, ◌⊎◌, inl, inr, refl, sym, ap, ◌∙◌, subst, arith, append_assoc, length-append}
+use Rattle.std.specs.Prelude.{nat_eq, nat_lt, if◌then◌else◌, slice_get}
 use Rattle.std.proofs.lemmas.Bool.Decides.{nat_tests}
 use Rattle.std.proofs.lemmas.Grind.{common_steps}
-use Rattle.headline.specs.Carries.{Begins}
-use Rattle.low_code.specs.Values.{Word, World, Stop, Answer, gives, stops, no_alternative, out_of_units, missing, heap_full, stack_full}
-use Rattle.low_code.specs.Run.{done, ended, end_of, world_of}
-use Rattle.rv32_machine.specs.declared.machine.TrapKind.{TrapKind}
+use Rattle.low_code.specs.Values.{World, Answer, gives, stops, no_alternative, out_of_units, missing, heap_full, stack_full}
+use Rattle.low_code.specs.Run.{end_of, world_of}
 use Rattle.rv32_steps.specs.Trace.{procedures_at, procedure_from}
 use Rattle.rv32_items.specs.declared.Item.{Item}
 use Rattle.rv32_items.specs.declared.Item.TheVariants.{Label}
-use Rattle.rv32_items.specs.Course.{Layout, Point, Turn, Next, turn, turn_of, onward, label_of, End, Going, Exited, Stopped, Course, stands, after, course}
+use Rattle.rv32_items.specs.Course.{Layout, Point, turn, onward, label_of, Going, Exited, Course, stands, after, course}
 use Rattle.rv32_items.specs.Told.{ReturnsHome}
 use Rattle.rv32_select.specs.Selects.{exit_of, SameEnd, Finishes, Follows, Matches, Arrives}
-use Rattle.rv32_select.proofs.Courses.{Goes, Exits, course_more, course_none}
-use Rattle.rv32_select.proofs.Fronts.{IsFront, front_itself, left_less, passed_few, course_front, home_front}
+use Rattle.rv32_select.proofs.Courses.{course_more, course_none}
+use Rattle.rv32_select.proofs.Fronts.{IsFront, front_itself, passed_few, course_front, home_front}
 use Rattle.rv32_select.proofs.Relation.{Ran, Ends, Waits}
 
 nothing_more : (xs : List ℕ) → xs ≡ xs ++ []

@@ -1,11 +1,8 @@
 -- What the simulation asks of places, saved registers, labels and layout.
-use Rattle.std.proofs.Common.{◌≡◌, ◌≢◌, ℕ, zero, suc, ◌+◌, ◌-◌, ◌*◌, ◌%◌, ◌^◌, ◌<◌, ◌≤◌, List, [], ◌∷◌, ◌++◌, map, length, Bool, true, false, Some, ◌⊎◌, inl, inr, refl, arith}
-use Rattle.std.specs.Prelude.{Option, slice_get}
+use Rattle.std.proofs.Common.{◌≡◌, ◌≢◌, ℕ, ◌+◌, ◌*◌, ◌%◌, ◌^◌, ◌<◌, ◌≤◌, List, [], ◌∷◌, ◌++◌, map, length, true, Some, ◌⊎◌}
+use Rattle.std.specs.Prelude.{slice_get}
 use Rattle.parallel_move.specs.declared.Spot.{Spot}
 use Rattle.parallel_move.specs.declared.Spot.TheVariants.{Reg, Slot, Scratch}
-use Rattle.low_code.specs.declared.program.Operand.{Operand}
-use Rattle.low_code.specs.declared.program.Operand.TheVariants.{Var, Num, Cell}
-use Rattle.low_code.specs.declared.program.LowTest.{LowTest}
 use Rattle.low_code.specs.Tree.{Code, set, prim, load, save, take, put, get, call, join, give, tail, choose, fail, Arms, otherwise, arm, Procedure, Program}
 use Rattle.low_code.specs.Formed.{is_among, uses, variables}
 use Rattle.register_alloc.specs.Live.{IsLive}
@@ -18,23 +15,10 @@ use Rattle.rv32_items.specs.declared.Item.TheVariants.{Label}
 use Rattle.rv32_items.specs.Course.{Layout, label_from}
 use Rattle.rv32_items.specs.Placed.{Rises}
 use Rattle.rv32_select.specs.Emit.{argument_spots, result_spots, stop_items}
-use Rattle.rv32_select.specs.IsSelected.{heap_base, stack_end, EmitsProcedure, places, first_label, no_alternative}
+use Rattle.rv32_select.specs.IsSelected.{heap_base, EmitsProcedure, first_label}
+use Rattle.low_code.specs.Literals.{IsSmall, AreSmall, TestsSmall}
 use Rattle.rv32_select.proofs.Courses.{Stands}
 use Rattle.rv32_select.proofs.Relation.{Keeps}
-
--- literals are words
-abbrev pub IsSmall : Operand → Type 0
-IsSmall (Var x) = Unit {0}
-IsSmall (Num k) = k < 2 ^ 32
-IsSmall (Cell i) = Unit {0}
-
-abbrev pub AreSmall : List Operand → Type 0
-AreSmall [] = Unit {0}
-AreSmall (o ∷ os) = IsSmall o × AreSmall os
-
-abbrev pub TestsSmall : List LowTest → Type 0
-TestsSmall [] = Unit {0}
-TestsSmall (t ∷ ts) = (IsSmall t.left × (t.right < 2 ^ 32)) × TestsSmall ts
 
 -- no spot twice
 abbrev pub NotAmong : Spot → List Spot → Type 0

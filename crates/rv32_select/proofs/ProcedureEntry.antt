@@ -1,6 +1,6 @@
 -- The entry of a procedure: its label, the test of the stack, its frame and its parameters.
-use Rattle.std.proofs.Common.{◌≡◌, ◌≢◌, ℕ, zero, suc, ◌+◌, ◌-◌, ◌*◌, ◌/◌, ◌%◌, ◌^◌, ◌<◌, ◌≤◌, List, [], ◌∷◌, ◌++◌, map, length, get_or, set, cond, Bool, true, false, Some, None, ◌⊎◌, inl, inr, refl, sym, ap, ◌∙◌, subst, arith, length-append, get_or-set_same, get_or-set_other}
-use Rattle.std.specs.Prelude.{Option, pos, nat_eq, nat_lt, slice_get}
+use Rattle.std.proofs.Common.{◌≡◌, ◌≢◌, ℕ, suc, ◌+◌, ◌-◌, ◌*◌, ◌<◌, ◌≤◌, List, [], ◌∷◌, ◌++◌, map, length, get_or, set, true, false, Some, inl, inr, refl, sym, ap, ◌∙◌, subst, arith, length-append, get_or-set_same, get_or-set_other}
+use Rattle.std.specs.Prelude.{pos, nat_lt, slice_get}
 use Rattle.std.proofs.lemmas.Bool.Decides.{nat_tests}
 use Rattle.std.proofs.lemmas.Grind.{common_steps}
 use Rattle.std.proofs.lemmas.Option.{slice_get_within}
@@ -11,35 +11,31 @@ use Rattle.rv32_isa.specs.declared.instr.StoreKind.TheVariants.{Sw}
 use Rattle.rv32_machine.specs.Arithmetic.{plus}
 use Rattle.rv32_machine.specs.Steps.{set_reg}
 use Rattle.rv32_steps.specs.Straight.{value}
-use Rattle.rv32_steps.specs.Trace.{procedures_at, procedure_from}
 use Rattle.parallel_move.specs.declared.Spot.{Spot}
 use Rattle.parallel_move.specs.declared.Spot.TheVariants.{Reg, Slot, Scratch}
-use Rattle.parallel_move.specs.Moves.{Values}
-use Rattle.low_code.specs.Tree.{Code, Procedure, Program}
-use Rattle.low_code.specs.Formed.{is_among, uses, variables}
-use Rattle.low_code.specs.Values.{Word, Env, World, Answer, with_vars, no_vars, need, gives, stops, stack_full as stack_full', missing, then_do}
-use Rattle.low_code.specs.Run.{Calls, code, calls, spent, spend, as_many, body}
+use Rattle.low_code.specs.Tree.{Procedure, Program}
+use Rattle.low_code.specs.Formed.{is_among, variables}
+use Rattle.low_code.specs.Values.{Word, Env, World, with_vars, no_vars, need}
+use Rattle.low_code.specs.Run.{calls, spent}
 use Rattle.register_alloc.specs.Fits.{slots_of}
 use Rattle.register_alloc.specs.Assignment.{Assignment, place_of, words_at}
 use Rattle.rv32_items.specs.declared.Cond.TheVariants.{Ltu}
 use Rattle.rv32_items.specs.declared.Item.{Item}
-use Rattle.rv32_items.specs.declared.Item.TheVariants.{Label, Branch}
-use Rattle.rv32_items.specs.Course.{Layout, Point, label_from, address_from}
-use Rattle.rv32_select.specs.declared.source.Way.TheVariants.{Returns}
-use Rattle.rv32_select.specs.Emit.{plain, add_to, number_to, negated, keep, argument_spot, argument_spots, parameters_code, entry_items, result_spots}
-use Rattle.rv32_select.specs.IsSelected.{heap_base, stack_end}
-use Rattle.rv32_select.proofs.Courses.{Goes, Stands, front, back, stays}
-use Rattle.rv32_select.proofs.Straight.{Data, with_reg, with_stack, decide, Good, Does, does_nothing, does_on, does_store_stack, at}
-use Rattle.rv32_select.proofs.NumberParts.{value_is, set_there, Added, does_add, does_number}
+use Rattle.rv32_items.specs.declared.Item.TheVariants.{Branch}
+use Rattle.rv32_items.specs.Course.{Layout, label_from}
+use Rattle.rv32_select.specs.Emit.{plain, add_to, number_to, negated, argument_spots, parameters_code, entry_items}
+use Rattle.rv32_select.specs.IsSelected.{stack_end}
+use Rattle.rv32_select.proofs.Courses.{Stands, front, back}
+use Rattle.rv32_select.proofs.Straight.{Data, with_reg, with_stack, Good, Does, does_nothing, does_on, does_store_stack, at}
+use Rattle.rv32_select.proofs.NumberParts.{value_is, set_there, does_add, does_number}
 use Rattle.rv32_select.proofs.JumpStretches.{with_regs, passes, branches, goes_on}
 use Rattle.rv32_select.proofs.FrameViews.{spots, InFrame, Kept, kept, kept_on, in_frame, stores}
 use Rattle.rv32_select.proofs.OperandsRead.{IsPlace, put_here, put_there}
-use Rattle.rv32_select.proofs.Gathering.{AllPlaces}
-use Rattle.rv32_select.proofs.Relation.{bases, regs_of, word_of, AllHold, HoldsCells, HoldsWorld, Keeps, Untouched, Stood, Back, Ran, Ends, Waits, ran_on, ends_on, quiet, enters, Does', does_after, does_then, Given, Needed}
-use Rattle.rv32_select.proofs.PlaceFacts.{NotAmong, Different, IsOwn, AllOwn, AllFree, ProcedureFine, StandsAt, Setting}
-use Rattle.rv32_select.proofs.BlockFacts.{room, Block, Simulates, CallsSimulated, bound_word, still_scoped, own_place, own_places, own_at, kept_not_own, apart_different}
-use Rattle.rv32_select.proofs.OneBound.{Cut, cut, plain_ran}
-use Rattle.rv32_select.proofs.Stops.{good_far, StopAt, stack_full_stop}
+use Rattle.rv32_select.proofs.Relation.{bases, regs_of, word_of, AllHold, HoldsWorld, Stood, Ran, Ends, ran_on, ends_on, quiet, enters, Needed}
+use Rattle.rv32_select.proofs.PlaceFacts.{NotAmong, Different, AllOwn, AllFree, ProcedureFine, StandsAt, Setting}
+use Rattle.rv32_select.proofs.BlockFacts.{bound_word, own_place, apart_different}
+use Rattle.rv32_select.proofs.OneBound.{plain_ran}
+use Rattle.rv32_select.proofs.Stops.{good_far, stack_full_stop}
 use Rattle.rv32_select.proofs.BlockEnds.{world_same}
 
 -- ---- parameters go to their slots

@@ -1,6 +1,6 @@
 -- How the machine's data stand for the state of a run of low code, and what it is that the machine does what a run does.
-use Rattle.std.proofs.Common.{◌≡◌, ◌≢◌, ℕ, zero, suc, ◌+◌, ◌-◌, ◌*◌, ◌/◌, ◌%◌, ◌^◌, ◌<◌, ◌≤◌, List, [], ◌∷◌, ◌++◌, length, get_or, Bool, true, false, Some, None, ◌⊎◌, inl, inr, refl, sym, ap, ◌∙◌, subst, arith, append_assoc}
-use Rattle.std.specs.Prelude.{Option, drop, slice_get}
+use Rattle.std.proofs.Common.{◌≡◌, ℕ, suc, ◌+◌, ◌-◌, ◌*◌, ◌%◌, ◌<◌, ◌≤◌, List, [], ◌∷◌, ◌++◌, length, get_or, true, false, Some, ◌⊎◌, refl, sym, ap, ◌∙◌, subst, arith, append_assoc}
+use Rattle.std.specs.Prelude.{drop, slice_get}
 use Rattle.std.proofs.lemmas.Grind.{common_steps}
 use Rattle.headline.specs.Carries.{IsBytes}
 use Rattle.parallel_move.specs.declared.Spot.{Spot}
@@ -8,7 +8,7 @@ use Rattle.parallel_move.specs.declared.Spot.TheVariants.{Reg, Slot, Scratch}
 use Rattle.parallel_move.specs.Moves.{Values}
 use Rattle.low_code.specs.Tree.{Code, Program}
 use Rattle.low_code.specs.Formed.{is_among, uses, all_variables}
-use Rattle.low_code.specs.Values.{Word, number, cell, Env, World, Stop, no_alternative, out_of_units, missing, heap_full, stack_full, Answer, gives, stops, then_do}
+use Rattle.low_code.specs.Values.{Word, number, cell, Env, World, no_alternative, out_of_units, missing, heap_full, stack_full, Answer, gives, stops, then_do}
 use Rattle.low_code.specs.Run.{spent, written, byte_taken}
 use Rattle.register_alloc.specs.Assignment.{Assignment, place_of, may_change}
 use Rattle.rv32_steps.specs.Data.{Bases}
@@ -19,7 +19,7 @@ use Rattle.rv32_items.specs.Course.{Layout, Point, label_from}
 use Rattle.rv32_select.specs.declared.source.Way.{Way}
 use Rattle.rv32_select.specs.declared.source.Way.TheVariants.{Returns, Follows, Jumps}
 use Rattle.rv32_select.specs.IsSelected.{heap_base, stack_end}
-use Rattle.rv32_select.proofs.Courses.{Goes, Exits, stays, goes, exits}
+use Rattle.rv32_select.proofs.Courses.{Goes, Exits, goes, exits}
 use Rattle.rv32_select.proofs.Straight.{Data, Good, at}
 use Rattle.rv32_select.proofs.FrameViews.{spots, InFrame}
 

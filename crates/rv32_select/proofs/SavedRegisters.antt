@@ -1,9 +1,9 @@
 -- Registers that are saved in slots, and come back.
-use Rattle.std.proofs.Common.{◌≡◌, ◌≢◌, ℕ, zero, suc, ◌+◌, ◌≤◌, ◌<◌, List, [], ◌∷◌, ◌++◌, length, cond, Bool, true, false, Some, None, ◌⊎◌, inl, inr, refl, sym, ap, ◌∙◌, subst, arith}
+use Rattle.std.proofs.Common.{◌≡◌, ℕ, zero, suc, ◌+◌, ◌≤◌, ◌<◌, List, [], ◌∷◌, length, cond, Bool, true, false, Some, inl, inr, refl, sym, ap, ◌∙◌, subst, arith}
 use Rattle.std.specs.Prelude.{nat_eq, ◌||◌, slice_get}
 use Rattle.std.proofs.lemmas.Bool.Decides.{nat_tests}
 use Rattle.parallel_move.specs.declared.Spot.{Spot}
-use Rattle.parallel_move.specs.declared.Spot.TheVariants.{Reg, Slot, Scratch}
+use Rattle.parallel_move.specs.declared.Spot.TheVariants.{Reg, Slot}
 use Rattle.parallel_move.specs.declared.Move.{Move}
 use Rattle.parallel_move.specs.Moves.{Values, same, moved, one_by_one, is_target}
 use Rattle.low_code.specs.Formed.{is_among}

@@ -1,23 +1,21 @@
 -- The machine does what runs of low code do: blocks by their structure, and calls by the units that are left.
-use Rattle.std.proofs.Common.{◌≡◌, ◌≢◌, ℕ, zero, suc, ◌+◌, ◌*◌, ◌<◌, ◌≤◌, List, [], ◌∷◌, ◌++◌, map, length, Some, None, ◌⊎◌, inl, inr, refl, sym, ap, ◌∙◌, subst, arith}
-use Rattle.std.specs.Prelude.{Option, slice_get}
-use Rattle.std.proofs.lemmas.Option.{slice_get_within}
+use Rattle.std.proofs.Common.{◌≡◌, ℕ, zero, suc, ◌+◌, ◌*◌, List, [], ◌∷◌, ◌++◌, map, length, Some, None, arith}
+use Rattle.std.specs.Prelude.{Option}
 use Rattle.parallel_move.specs.declared.Spot.{Spot}
 use Rattle.low_code.specs.Tree.{Code, set, prim, load, save, take, put, get, call, join, give, tail, choose, fail, Arms, otherwise, arm, Procedure, Program}
-use Rattle.low_code.specs.Formed.{uses, arms_uses}
-use Rattle.low_code.specs.Values.{Word, Env, World, Answer, with_var, stops, out_of_units}
-use Rattle.low_code.specs.Run.{Calls, code, arms, calls}
+use Rattle.low_code.specs.Formed.{uses}
+use Rattle.low_code.specs.Values.{Word, Env, World, with_var}
+use Rattle.low_code.specs.Run.{Calls, calls}
 use Rattle.register_alloc.specs.Assignment.{Assignment, place_of, words_at}
 use Rattle.rv32_items.specs.declared.Item.{Item}
 use Rattle.rv32_items.specs.declared.Item.TheVariants.{Label}
-use Rattle.rv32_items.specs.Course.{Layout, Point, label_from, address_from}
+use Rattle.rv32_items.specs.Course.{Layout, address_from}
 use Rattle.rv32_select.specs.declared.source.Way.{Way}
 use Rattle.rv32_select.specs.declared.source.Way.TheVariants.{Returns, Follows}
 use Rattle.rv32_select.specs.Emit.{result_spots}
 use Rattle.rv32_select.specs.IsSelected.{further, tests_items}
-use Rattle.rv32_select.proofs.Courses.{Stands, stays}
 use Rattle.rv32_select.proofs.Straight.{Data, at}
-use Rattle.rv32_select.proofs.Relation.{bases, Back, Does', Needed}
+use Rattle.rv32_select.proofs.Relation.{bases, Back, Needed}
 use Rattle.rv32_select.proofs.PlaceFacts.{ProcedureFine, Setting}
 use Rattle.rv32_select.proofs.BlockFacts.{room, Block, Simulates, CallsSimulated}
 use Rattle.rv32_select.proofs.OneBound.{set_simulated}

@@ -1,36 +1,29 @@
 -- The start-up: registers and globals, the call of the start, and the exit behind it.
-use Rattle.std.proofs.Common.{◌≡◌, ◌≢◌, ℕ, zero, suc, ◌+◌, ◌-◌, ◌*◌, ◌/◌, ◌%◌, ◌^◌, ◌<◌, ◌≤◌, List, [], ◌∷◌, ◌++◌, map, length, get_or, set, replicate, Bool, true, false, Some, None, ◌⊎◌, inl, inr, refl, sym, ap, ◌∙◌, subst, arith, append_assoc, length-append}
-use Rattle.std.specs.Prelude.{Option, pos, nat_eq, nat_lt, if◌then◌else◌, slice_get, slice_set}
+use Rattle.std.proofs.Common.{◌≡◌, ◌≢◌, ℕ, zero, suc, ◌+◌, ◌-◌, ◌*◌, ◌/◌, ◌%◌, ◌^◌, ◌<◌, ◌≤◌, List, [], ◌∷◌, ◌++◌, map, length, set, replicate, Bool, true, false, Some, refl, sym, ap, ◌∙◌, subst, arith, append_assoc, length-append}
+use Rattle.std.specs.Prelude.{pos, nat_eq, if◌then◌else◌, slice_get, slice_set}
 use Rattle.std.proofs.lemmas.Bool.Decides.{nat_tests}
 use Rattle.std.proofs.lemmas.Grind.{common_steps}
-use Rattle.std.proofs.lemmas.List.{length-replicate}
 use Rattle.std.proofs.Math.ListN.{length-set}
-use Rattle.std.proofs.Math.Nat.{mul-le-mul_left, mul-le-mul_right}
-use Rattle.headline.specs.Carries.{IsBytes}
-use Rattle.rv32_isa.specs.declared.instr.Instr.{Instr}
-use Rattle.rv32_isa.specs.declared.instr.Instr.TheVariants.{OpImm, Store}
+use Rattle.std.proofs.Math.Nat.{mul-le-mul_left}
 use Rattle.rv32_isa.specs.declared.instr.ImmKind.TheVariants.{Addi}
-use Rattle.rv32_isa.specs.declared.instr.StoreKind.TheVariants.{Sw}
 use Rattle.rv32_machine.specs.Memory.{Stretch}
 use Rattle.rv32_machine.specs.Arithmetic.{plus}
 use Rattle.rv32_machine.specs.Steps.{set_reg}
 use Rattle.rv32_steps.specs.Data.{words_bytes}
 use Rattle.rv32_steps.specs.Straight.{value}
-use Rattle.rv32_steps.proofs.Words.{zero_words, zeros_are_words}
-use Rattle.parallel_move.specs.declared.Spot.{Spot}
-use Rattle.parallel_move.specs.declared.Spot.TheVariants.{Reg, Slot, Scratch}
-use Rattle.low_code.specs.Tree.{Procedure, Program}
-use Rattle.low_code.specs.Values.{Word, number, cell}
-use Rattle.low_code.specs.Run.{empty_cell, global_cell}
+use Rattle.rv32_steps.proofs.Words.{zero_words}
+use Rattle.low_code.specs.Tree.{Program}
+use Rattle.low_code.specs.Values.{Word, number}
 use Rattle.rv32_items.specs.declared.Item.{Item}
-use Rattle.rv32_items.specs.Course.{Layout, Point}
+use Rattle.rv32_items.specs.Course.{Layout}
 use Rattle.rv32_select.specs.declared.source.Source.TheVariants.{Number}
 use Rattle.rv32_select.specs.Emit.{held, hold, number_to, globals_code}
 use Rattle.rv32_select.specs.IsSelected.{heap_base, stack_end}
-use Rattle.rv32_select.specs.Selects.{zeros, start_at}
-use Rattle.rv32_select.proofs.Straight.{Data, with_reg, with_heap, decide, Good, Does, does_nothing, does_on, does_to, does_imm, does_store_heap, at}
-use Rattle.rv32_select.proofs.NumberParts.{value_is, set_here, set_there, nothing_set, does_number}
-use Rattle.rv32_select.proofs.Relation.{bases, word_of, HoldsCells}
+use Rattle.rv32_select.specs.Selects.{start_at}
+use Rattle.low_code.specs.Literals.{TagsSmall}
+use Rattle.rv32_select.proofs.Straight.{Data, with_reg, with_heap, Good, Does, does_nothing, does_on, does_to, does_imm, does_store_heap, at}
+use Rattle.rv32_select.proofs.NumberParts.{value_is, set_here, nothing_set, does_number}
+use Rattle.rv32_select.proofs.Relation.{bases, HoldsCells}
 use Rattle.rv32_select.proofs.CellWords.{cell_inside, cells_taken, cells_stored}
 
 -- ---- a number in a register, whatever the frame
@@ -67,10 +60,6 @@ set_behind (z ∷ xs) x y = ap (λ l. z ∷ l) (set_behind xs x y)
 get_behind : {A : Type 0} (xs : List A) (x : A) → slice_get (xs ++ x ∷ []) (length xs) ≡ Some x
 get_behind [] x = refl
 get_behind (z ∷ xs) x = get_behind xs x
-
-abbrev pub TagsSmall : List ℕ → Type 0
-TagsSmall [] = Unit {0}
-TagsSmall (t ∷ ts) = (t < 2 ^ 32) × TagsSmall ts
 
 module _ (l : Program) (lay : Layout) (cells stack : ℕ) (wide : 1 ≤ l.width) (narrow : l.width ≤ 14) where
   abbrev tag_cell : ℕ → List Word

@@ -1,32 +1,28 @@
 -- The stops: exits at a label; and the test for room.
-use Rattle.std.proofs.Common.{◌≡◌, ◌≢◌, ℕ, zero, suc, ◌+◌, ◌-◌, ◌*◌, ◌%◌, ◌^◌, ◌<◌, ◌≤◌, List, [], ◌∷◌, ◌++◌, map, length, Bool, true, false, Some, ◌⊎◌, inl, inr, refl, sym, ap, ◌∙◌, subst, arith, length-append}
+use Rattle.std.proofs.Common.{◌≡◌, ◌≢◌, ℕ, suc, ◌+◌, ◌^◌, ◌<◌, ◌≤◌, List, [], ◌∷◌, ◌++◌, length, Bool, true, false, Some, refl, sym, ap, ◌∙◌, subst, arith, length-append}
 use Rattle.std.specs.Prelude.{pos, nat_eq, nat_lt, if◌then◌else◌, slice_get}
 use Rattle.std.proofs.lemmas.Bool.Decides.{nat_tests}
-use Rattle.std.proofs.lemmas.Grind.{common_steps}
-use Rattle.rv32_isa.specs.declared.instr.Instr.{Instr}
 use Rattle.rv32_isa.specs.declared.instr.Instr.TheVariants.{OpImm, Ecall}
 use Rattle.rv32_isa.specs.declared.instr.ImmKind.TheVariants.{Addi}
-use Rattle.rv32_machine.specs.declared.machine.TrapKind.TheVariants.{UnknownCall}
-use Rattle.rv32_machine.specs.Memory.{Stretch}
-use Rattle.rv32_machine.specs.Arithmetic.{plus, is_taken}
-use Rattle.rv32_machine.specs.Steps.{State, Outcome, Ended as Ended', Trapped as Trapped', set_reg, write_call, read_call}
+use Rattle.rv32_machine.specs.Arithmetic.{plus}
+use Rattle.rv32_machine.specs.Steps.{set_reg}
 use Rattle.rv32_steps.specs.Data.{Bases}
 use Rattle.rv32_steps.specs.Straight.{value}
-use Rattle.rv32_steps.specs.Trace.{procedures_at, procedure_from}
+use Rattle.rv32_steps.specs.Trace.{procedures_at}
 use Rattle.rv32_steps.proofs.Calls.{dispatch}
 use Rattle.rv32_items.specs.declared.Cond.TheVariants.{Ltu}
 use Rattle.rv32_items.specs.declared.Item.{Item}
 use Rattle.rv32_items.specs.declared.Item.TheVariants.{Label, Plain, Branch}
-use Rattle.rv32_items.specs.Course.{Layout, Point, Ended, turn, turn_of, behind_plain, state_at, label_of, label_from}
+use Rattle.rv32_items.specs.Course.{Layout, Ended, turn, turn_of, behind_plain, state_at, label_of, label_from}
 use Rattle.low_code.specs.Tree.{Program}
 use Rattle.low_code.specs.Values.{World}
 use Rattle.register_alloc.specs.Assignment.{Assignment}
 use Rattle.rv32_items.specs.Placed.{Rises}
-use Rattle.rv32_select.specs.Emit.{plain, add_to, room_items, exit_with, stop_items}
-use Rattle.rv32_select.proofs.Courses.{Stands, front, back, Goes, Exits, goes, one_ended}
-use Rattle.rv32_select.proofs.Straight.{Data, with_reg, decide, Good, Does, does_on, does_imm, at}
+use Rattle.rv32_select.specs.Emit.{plain, add_to, room_items, exit_with}
+use Rattle.rv32_select.proofs.Courses.{Stands, front, back, Goes, Exits, one_ended}
+use Rattle.rv32_select.proofs.Straight.{Data, with_reg, Good, does_on, does_imm, at}
 use Rattle.rv32_select.proofs.JumpStretches.{with_regs, passes, branches, goes_on}
-use Rattle.rv32_select.proofs.NumberParts.{value_is, set_there, Added, does_add}
+use Rattle.rv32_select.proofs.NumberParts.{set_there, does_add}
 use Rattle.rv32_select.proofs.FrameViews.{Kept, kept_reg, kept_on}
 use Rattle.rv32_select.proofs.Relation.{bases, Ran, Ends, ran_on, ends_on, quiet, quiet_labels, ends_now}
 use Rattle.rv32_select.proofs.PlaceFacts.{Setting}

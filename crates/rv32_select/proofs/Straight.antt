@@ -1,21 +1,21 @@
 -- Plain instructions that change registers, words of the heap and words of the stack, and the stretch of a course that they are.
-use Rattle.std.proofs.Common.{◌≡◌, ◌≢◌, ℕ, ℤ, zero, suc, ◌+◌, ◌-◌, ◌*◌, ◌/◌, ◌%◌, ◌^◌, ◌<◌, ◌≤◌, List, [], ◌∷◌, ◌++◌, map, length, get_or, set, Bool, true, false, Some, ◌⊎◌, inl, inr, refl, sym, ap, ◌∙◌, subst, arith}
+use Rattle.std.proofs.Common.{◌≡◌, ◌≢◌, ℕ, ℤ, zero, suc, ◌+◌, ◌*◌, ◌^◌, ◌<◌, ◌≤◌, List, [], ◌∷◌, ◌++◌, map, length, get_or, set, Bool, true, false, Some, ◌⊎◌, inl, inr, refl, sym, ap, ◌∙◌, subst, arith}
 use Rattle.std.specs.Prelude.{nat_eq, nat_lt, if◌then◌else◌, slice_get}
 use Rattle.std.proofs.Math.ListN.{length-set}
 use Rattle.std.proofs.lemmas.Bool.Decides.{nat_tests}
 use Rattle.rv32_isa.specs.declared.instr.Instr.{Instr}
 use Rattle.rv32_isa.specs.declared.instr.Instr.TheVariants.{Lui, Auipc, Jal, Jalr, Branch, Load, Store, OpImm, Shift, Op, Fence, Ecall, Ebreak}
-use Rattle.rv32_isa.specs.declared.instr.LoadKind.TheVariants.{Lb, Lh, Lw, Lbu, Lhu}
-use Rattle.rv32_isa.specs.declared.instr.StoreKind.TheVariants.{Sb, Sh, Sw}
+use Rattle.rv32_isa.specs.declared.instr.LoadKind.TheVariants.{Lw}
+use Rattle.rv32_isa.specs.declared.instr.StoreKind.TheVariants.{Sw}
 use Rattle.rv32_isa.specs.declared.instr.OpKind.{OpKind}
 use Rattle.rv32_isa.specs.declared.instr.ImmKind.{ImmKind}
 use Rattle.rv32_machine.specs.Memory.{Stretch}
 use Rattle.rv32_machine.specs.Arithmetic.{plus, pattern, op_value, imm_value}
 use Rattle.rv32_machine.specs.Steps.{set_reg, act}
 use Rattle.rv32_steps.specs.Trace.{is_return}
-use Rattle.rv32_steps.specs.Data.{AreWords, Bases, Words, memory_of, LaidOut, slot, IsSlot, IsWord, word_at, with_word}
+use Rattle.rv32_steps.specs.Data.{AreWords, Bases, Words, memory_of, LaidOut, slot, IsSlot, word_at, with_word}
 use Rattle.rv32_steps.specs.Straight.{value, Asks, AllAsk, regs_after, words_after, straight_regs, straight_words}
-use Rattle.rv32_steps.proofs.Straight.{in_heap, in_stack, still_apart, acts_on}
+use Rattle.rv32_steps.proofs.Straight.{in_heap, still_apart, acts_on}
 use Rattle.rv32_items.specs.declared.Item.{Item}
 use Rattle.rv32_items.specs.declared.Item.TheVariants.{Plain}
 use Rattle.rv32_items.specs.Course.{Layout, Point, Next, turn, turn_of, behind_plain, to_item, address_from, label_of, state_at}

@@ -1,36 +1,31 @@
 -- Tail calls.
-use Rattle.std.proofs.Common.{◌≡◌, ◌≢◌, ℕ, zero, suc, ◌+◌, ◌-◌, ◌*◌, ◌^◌, ◌<◌, ◌≤◌, List, [], ◌∷◌, ◌++◌, map, length, get_or, Bool, true, false, Some, None, ◌⊎◌, inl, inr, refl, sym, ap, ◌∙◌, subst, arith, append_assoc}
-use Rattle.std.specs.Prelude.{Option, slice_get}
-use Rattle.rv32_isa.specs.declared.instr.Instr.{Instr}
+use Rattle.std.proofs.Common.{◌≡◌, ◌≢◌, ℕ, ◌+◌, ◌*◌, ◌<◌, ◌≤◌, List, [], ◌∷◌, ◌++◌, map, length, get_or, Some, None, inl, inr, refl, sym, ap, ◌∙◌, subst, arith, append_assoc}
+use Rattle.std.specs.Prelude.{Option}
 use Rattle.parallel_move.specs.declared.Spot.{Spot}
 use Rattle.parallel_move.specs.declared.Spot.TheVariants.{Reg, Slot, Scratch}
-use Rattle.parallel_move.specs.declared.Move.{Move}
-use Rattle.parallel_move.specs.Moves.{Values}
 use Rattle.low_code.specs.declared.program.Operand.{Operand}
-use Rattle.low_code.specs.Tree.{Code, tail, Procedure, Program}
-use Rattle.low_code.specs.Formed.{is_among, uses, used_by_all, variables}
-use Rattle.low_code.specs.Values.{Word, Env, World, Answer, need}
+use Rattle.low_code.specs.Tree.{tail, Procedure, Program}
+use Rattle.low_code.specs.Values.{Word, Env, World, need}
 use Rattle.low_code.specs.Run.{Calls, code, operands}
-use Rattle.register_alloc.specs.Fits.{slots_of}
 use Rattle.register_alloc.specs.Assignment.{Assignment, place_of, words_at}
 use Rattle.rv32_items.specs.declared.Item.{Item}
 use Rattle.rv32_items.specs.declared.Item.TheVariants.{Jump}
-use Rattle.rv32_items.specs.Course.{Layout, Point, label_from, address_from}
+use Rattle.rv32_items.specs.Course.{Layout, Point, address_from}
 use Rattle.rv32_select.specs.declared.source.Way.{Way}
 use Rattle.rv32_select.specs.declared.source.Way.TheVariants.{Returns}
 use Rattle.rv32_select.specs.Emit.{plain, moves_code, spot_moves, number_moves, leave_code, argument_spots, result_spots}
 use Rattle.rv32_select.specs.IsSelected.{sources, params_of, argument_spots_of, IsOrder}
-use Rattle.rv32_select.proofs.Courses.{Goes, Stands, front, back}
-use Rattle.rv32_select.proofs.Straight.{Data, Good, Does, does_on, at}
+use Rattle.rv32_select.proofs.Courses.{Stands}
+use Rattle.rv32_select.proofs.Straight.{Data, Does, does_on, at}
 use Rattle.rv32_select.proofs.JumpStretches.{jumped, jumps}
 use Rattle.rv32_select.proofs.FrameViews.{spots, in_frame}
-use Rattle.rv32_select.proofs.OperandsRead.{read, IsPlace}
+use Rattle.rv32_select.proofs.OperandsRead.{read}
 use Rattle.rv32_select.proofs.Gathering.{gathered}
-use Rattle.rv32_select.proofs.Relation.{bases, regs_of, word_of, AllHold, HoldsWorld, Keeps, Stood, Back, Ran, ran_on, quiet, Does', does_after, does_map, Given, Needed}
-use Rattle.rv32_select.proofs.PlaceFacts.{AllFree, CallFits, ProcedureFine, StandsAt, Setting}
-use Rattle.rv32_select.proofs.BlockFacts.{room, Block, Simulates, CallsSimulated, InRegisters, own_places, kept_not_own, world_kept}
-use Rattle.rv32_select.proofs.OneBound.{Cut, cut, plain_ran}
-use Rattle.rv32_select.proofs.BlockEnds.{all_hold, results_widen, leaves, world_same, good_jumped, jumped_reg, OperandsRead, operands_read}
+use Rattle.rv32_select.proofs.Relation.{bases, regs_of, AllHold, Back, ran_on, quiet, Does', does_after, does_map, Given}
+use Rattle.rv32_select.proofs.PlaceFacts.{AllFree, CallFits, ProcedureFine, Setting}
+use Rattle.rv32_select.proofs.BlockFacts.{Block, Simulates, CallsSimulated, InRegisters, own_places, kept_not_own, world_kept}
+use Rattle.rv32_select.proofs.OneBound.{cut, plain_ran}
+use Rattle.rv32_select.proofs.BlockEnds.{all_hold, results_widen, leaves, world_same, good_jumped, jumped_reg, operands_read}
 
 -- words in the registers of arguments are there whatever the frame, where the registers are the same
 pub free_hold : (l : Program) (a : Assignment) (lay : Layout) (stack j slots g : ℕ) (ss : List Spot) (vs : List Word) (d d' : Data) → AllFree l a g ss → ((r : ℕ) → 8 ≤ r → r < 32 → d'.regs r ≡ d.regs r) → AllHold l.width ss vs (spots lay.code (bases stack) j slots d) → AllHold l.width ss vs (regs_of d')

@@ -1,6 +1,6 @@
 -- Taking cells.
-use Rattle.std.proofs.Common.{◌≡◌, ◌≢◌, ℕ, zero, suc, ◌+◌, ◌-◌, ◌*◌, ◌/◌, ◌%◌, ◌^◌, ◌<◌, ◌≤◌, List, [], ◌∷◌, ◌++◌, map, length, get_or, replicate, cond, Bool, true, false, Some, None, ◌⊎◌, inl, inr, refl, sym, ap, ◌∙◌, subst, arith, length-append}
-use Rattle.std.specs.Prelude.{Option, pos, nat_eq, nat_lt, ◌||◌, slice_get}
+use Rattle.std.proofs.Common.{◌≡◌, ℕ, suc, ◌+◌, ◌*◌, ◌^◌, ◌<◌, ◌≤◌, List, [], ◌∷◌, ◌++◌, map, length, get_or, replicate, Bool, true, false, Some, None, inl, inr, refl, sym, ap, ◌∙◌, subst, arith, length-append}
+use Rattle.std.specs.Prelude.{Option, pos, nat_eq, nat_lt}
 use Rattle.std.proofs.lemmas.Bool.Decides.{nat_tests}
 use Rattle.std.proofs.lemmas.List.{length-replicate}
 use Rattle.std.proofs.Math.Nat.{mul-le-mul_left}
@@ -12,27 +12,27 @@ use Rattle.parallel_move.specs.declared.Spot.{Spot}
 use Rattle.parallel_move.specs.declared.Spot.TheVariants.{Reg, Slot, Scratch}
 use Rattle.parallel_move.specs.Moves.{Values}
 use Rattle.low_code.specs.Tree.{Code, take, Procedure, Program}
-use Rattle.low_code.specs.Formed.{is_among, uses, variables}
-use Rattle.low_code.specs.Values.{Word, number, cell, Env, World, Answer, with_vars, need, stops, heap_full as heap_full'}
-use Rattle.low_code.specs.Run.{Calls, code, places as cell_places, with_cells, empty_cell, within_limit}
+use Rattle.low_code.specs.Formed.{is_among, variables}
+use Rattle.low_code.specs.Values.{Word, Env, World, with_vars, need, stops, heap_full as heap_full'}
+use Rattle.low_code.specs.Run.{Calls, code, places as cell_places, with_cells, empty_cell}
 use Rattle.register_alloc.specs.Fits.{slots_of}
 use Rattle.register_alloc.specs.Assignment.{Assignment, place_of, words_at}
 use Rattle.rv32_items.specs.declared.Item.{Item}
-use Rattle.rv32_items.specs.Course.{Layout, Point}
+use Rattle.rv32_items.specs.Course.{Layout}
 use Rattle.rv32_select.specs.declared.source.Way.{Way}
-use Rattle.rv32_select.specs.Emit.{plain, room_items, cells_code, take_items}
-use Rattle.rv32_select.specs.IsSelected.{heap_base, stack_end}
+use Rattle.rv32_select.specs.Emit.{plain, room_items, cells_code}
+use Rattle.rv32_select.specs.IsSelected.{heap_base}
 use Rattle.rv32_select.proofs.Courses.{Stands, stays}
-use Rattle.rv32_select.proofs.Straight.{Data, with_reg, decide, Good, Does, does_on, does_imm, at}
-use Rattle.rv32_select.proofs.NumberParts.{value_is, set_there}
-use Rattle.rv32_select.proofs.FrameViews.{spots, InFrame, Kept, in_frame}
+use Rattle.rv32_select.proofs.Straight.{Data, with_reg, does_on, does_imm, at}
+use Rattle.rv32_select.proofs.NumberParts.{set_there}
+use Rattle.rv32_select.proofs.FrameViews.{spots, in_frame}
 use Rattle.rv32_select.proofs.OperandsRead.{IsPlace}
 use Rattle.rv32_select.proofs.Gathering.{AllPlaces}
-use Rattle.rv32_select.proofs.TakenCells.{AllAt, Celled, celled}
-use Rattle.rv32_select.proofs.Relation.{bases, word_of, AllHold, HoldsCells, HoldsWorld, Stood, Ran, Ends, ran_on, quiet, Does', does_after, Given, Needed}
+use Rattle.rv32_select.proofs.TakenCells.{AllAt, celled}
+use Rattle.rv32_select.proofs.Relation.{bases, AllHold, HoldsCells, HoldsWorld, Ran, ran_on, quiet, Does', does_after, Given}
 use Rattle.rv32_select.proofs.CellWords.{cells_taken}
 use Rattle.rv32_select.proofs.PlaceFacts.{IsOwn, AllOwn, ProcedureFine, Setting}
-use Rattle.rv32_select.proofs.BlockFacts.{room, Block, Simulates, Changed, among_right, or_true, own_place, own_places, own_at, apart_different, stood_bound, still_scoped}
+use Rattle.rv32_select.proofs.BlockFacts.{room, Block, Simulates, Changed, among_right, or_true, own_places, apart_different, stood_bound, still_scoped}
 use Rattle.rv32_select.proofs.OneBound.{Cut, cut, ready_at, plain_ran}
 use Rattle.rv32_select.proofs.Stops.{Tested, tested}
 

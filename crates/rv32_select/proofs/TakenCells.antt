@@ -1,22 +1,18 @@
 -- Code that takes cells: each place gets the address of its cell, and x3 goes to the cell behind them.
-use Rattle.std.proofs.Common.{◌≡◌, ◌≢◌, ℕ, zero, suc, ◌+◌, ◌-◌, ◌*◌, ◌%◌, ◌^◌, ◌<◌, ◌≤◌, List, [], ◌∷◌, ◌++◌, length, get_or, set, cond, Bool, true, false, ◌⊎◌, inl, inr, refl, sym, ap, ◌∙◌, subst, arith, append_assoc}
-use Rattle.std.specs.Prelude.{pos, nat_eq, nat_lt, if◌then◌else◌}
-use Rattle.std.proofs.lemmas.Bool.Decides.{nat_tests}
-use Rattle.rv32_isa.specs.declared.instr.Instr.{Instr}
+use Rattle.std.proofs.Common.{◌≡◌, ◌≢◌, ℕ, suc, ◌+◌, ◌*◌, ◌^◌, ◌<◌, List, [], ◌∷◌, ◌++◌, length, get_or, Bool, true, false, refl, sym, ap, ◌∙◌, subst, arith}
+use Rattle.std.specs.Prelude.{pos, if◌then◌else◌}
 use Rattle.rv32_isa.specs.declared.instr.Instr.TheVariants.{OpImm}
 use Rattle.rv32_isa.specs.declared.instr.ImmKind.TheVariants.{Addi}
 use Rattle.rv32_machine.specs.Memory.{Stretch}
 use Rattle.rv32_machine.specs.Arithmetic.{plus}
-use Rattle.rv32_machine.specs.Steps.{set_reg}
 use Rattle.rv32_steps.specs.Data.{Bases}
-use Rattle.rv32_steps.specs.Straight.{value}
 use Rattle.parallel_move.specs.declared.Spot.{Spot}
 use Rattle.parallel_move.specs.declared.Spot.TheVariants.{Reg, Slot, Scratch}
-use Rattle.parallel_move.specs.Moves.{Values, same}
+use Rattle.parallel_move.specs.Moves.{Values}
 use Rattle.rv32_select.specs.Emit.{target, keep, is_offset, next_offset, go_on, cells_code}
-use Rattle.rv32_select.proofs.Straight.{Data, with_reg, decide, Good, Does, does_nothing, does_to, does_on, does_imm}
-use Rattle.rv32_select.proofs.NumberParts.{value_is, set_here, set_there, again, nothing_set}
-use Rattle.rv32_select.proofs.FrameViews.{spots, InFrame, Ok, Outside, Kept, in_frame, kept_reg, kept_on, seen_reg, stores}
+use Rattle.rv32_select.proofs.Straight.{Data, with_reg, Good, Does, does_nothing, does_to, does_on, does_imm}
+use Rattle.rv32_select.proofs.NumberParts.{set_here, set_there, again, nothing_set}
+use Rattle.rv32_select.proofs.FrameViews.{spots, InFrame, Outside, Kept, in_frame, kept_reg, kept_on, seen_reg, stores}
 use Rattle.rv32_select.proofs.OperandsRead.{IsPlace, put_here, put_there, seen_past}
 use Rattle.rv32_select.proofs.Gathering.{AllPlaces}
 use Rattle.rv32_select.proofs.PlaceFacts.{NotAmong, Different}

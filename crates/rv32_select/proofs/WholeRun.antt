@@ -1,42 +1,40 @@
 -- From the first item on the machine does what the run of the program does.
-use Rattle.std.proofs.Common.{◌≡◌, ◌≢◌, ℕ, zero, suc, ◌+◌, ◌-◌, ◌*◌, ◌/◌, ◌%◌, ◌^◌, ◌<◌, ◌≤◌, List, [], ◌∷◌, ◌++◌, map, length, get_or, replicate, Bool, true, false, Some, None, ◌⊎◌, inl, inr, refl, sym, ap, ◌∙◌, subst, arith, length-append}
+use Rattle.std.proofs.Common.{◌≡◌, ◌≢◌, ℕ, zero, suc, ◌+◌, ◌*◌, ◌/◌, ◌%◌, ◌^◌, ◌<◌, ◌≤◌, List, [], ◌∷◌, ◌++◌, map, length, get_or, replicate, Bool, true, false, Some, None, refl, sym, ap, ◌∙◌, subst, arith, length-append}
 use Rattle.std.specs.Prelude.{Option, nat_eq, nat_lt, if◌then◌else◌, slice_get}
 use Rattle.std.proofs.lemmas.Bool.Decides.{nat_tests}
-use Rattle.std.proofs.lemmas.Grind.{common_steps}
 use Rattle.std.proofs.lemmas.List.{length-replicate, length-map}
 use Rattle.std.proofs.Math.Nat.{mul-le-mul_left}
 use Rattle.headline.specs.Carries.{IsBytes}
 use Rattle.rv32_isa.specs.declared.instr.Instr.{Instr}
 use Rattle.rv32_machine.specs.Steps.{set_reg}
-use Rattle.rv32_steps.specs.Straight.{value}
-use Rattle.rv32_steps.specs.Data.{LaidOut}
 use Rattle.rv32_steps.proofs.Words.{zeros_are_words}
 use Rattle.parallel_move.specs.declared.Spot.{Spot}
 use Rattle.parallel_move.specs.declared.Spot.TheVariants.{Reg, Slot, Scratch}
 use Rattle.low_code.specs.Tree.{Procedure, Program}
-use Rattle.low_code.specs.Values.{Word, cell, World, Stop, Answer, gives, stops, no_alternative, out_of_units, missing, heap_full as heap_full', stack_full as stack_full'}
-use Rattle.low_code.specs.Run.{done, ended, end_of, calls, global_cell, start_world, start_words, run_in, limited}
+use Rattle.low_code.specs.Values.{Word, cell, World, Answer, gives, stops, no_alternative, out_of_units, missing, heap_full as heap_full', stack_full as stack_full'}
+use Rattle.low_code.specs.Run.{ended, end_of, calls, global_cell, start_world, start_words, run_in, limited}
 use Rattle.register_alloc.specs.Assignment.{Assignment, place_of, words_at}
 use Rattle.rv32_items.specs.declared.Item.{Item}
 use Rattle.rv32_items.specs.declared.Item.TheVariants.{Jump}
-use Rattle.rv32_items.specs.Course.{Layout, Point, label_from}
+use Rattle.rv32_items.specs.Course.{Layout, label_from}
 use Rattle.rv32_items.specs.Placed.{is_instruction}
 use Rattle.rv32_select.specs.declared.source.Source.TheVariants.{Number}
 use Rattle.rv32_select.specs.Emit.{plain, number_to, room_items, globals_code, start_items, argument_spots, number_moves, result_spots, exit_with}
-use Rattle.rv32_select.specs.IsSelected.{heap_base, stack_end, heap_end, step, heap_full, first_call, sources, start_argument, argument_spots_of, params_of}
-use Rattle.rv32_select.proofs.Courses.{Stands, front, back, stays}
+use Rattle.rv32_select.specs.IsSelected.{heap_base, stack_end, sources, start_argument}
+use Rattle.low_code.specs.Literals.{TagsSmall}
+use Rattle.rv32_select.proofs.Courses.{Stands, front, back}
 use Rattle.rv32_select.proofs.Straight.{Data, words, with_reg, Good, Does, does_nothing, does_on, at}
 use Rattle.rv32_select.proofs.NumberParts.{set_here, set_there, does_number}
 use Rattle.rv32_select.proofs.JumpStretches.{jumped, calls_to, comes_back}
-use Rattle.rv32_select.proofs.Relation.{bases, regs_of, word_of, AllHold, HoldsCells, HoldsWorld, Back, Ran, Ends, Waits, ran_on, ends_on, quiet, Does'}
-use Rattle.rv32_select.proofs.PlaceFacts.{AllFree, ProcedureFine, StandsAt, Setting}
+use Rattle.rv32_select.proofs.Relation.{bases, regs_of, AllHold, HoldsCells, HoldsWorld, Back, Ran, Ends, ran_on, ends_on, quiet, Does'}
+use Rattle.rv32_select.proofs.PlaceFacts.{AllFree, Setting}
 use Rattle.rv32_select.proofs.BlockFacts.{room}
-use Rattle.rv32_select.proofs.OneBound.{plain_ran, cell_small}
+use Rattle.rv32_select.proofs.OneBound.{plain_ran}
 use Rattle.rv32_select.proofs.Stops.{Tested, tested, exits_here}
 use Rattle.rv32_select.proofs.BlockEnds.{good_jumped, jumped_reg}
 use Rattle.rv32_select.proofs.CallStatement.{behind_call}
 use Rattle.rv32_select.proofs.Simulation.{calls_simulated}
-use Rattle.rv32_select.proofs.StartUp.{TagsSmall, Globals, globals_done, start_data}
+use Rattle.rv32_select.proofs.StartUp.{globals_done, start_data}
 use Rattle.rv32_select.proofs.Outcomes.{Outcome}
 
 -- what the start-up asks

@@ -1,7 +1,6 @@
 -- Operations, loads and stores of words.
-use Rattle.std.proofs.Common.{◌≡◌, ◌≢◌, ℕ, zero, suc, ◌+◌, ◌-◌, ◌*◌, ◌/◌, ◌%◌, ◌^◌, ◌<◌, ◌≤◌, List, [], ◌∷◌, ◌++◌, map, length, get_or, set as set_at, cond, Bool, true, false, Some, None, ◌⊎◌, inl, inr, refl, sym, ap, ◌∙◌, subst, arith}
-use Rattle.std.specs.Prelude.{Option, nat_eq, nat_lt, slice_get, slice_set}
-use Rattle.std.proofs.lemmas.Bool.Decides.{nat_tests}
+use Rattle.std.proofs.Common.{◌≡◌, ℕ, ◌+◌, ◌*◌, ◌<◌, ◌≤◌, List, [], ◌∷◌, ◌++◌, length, get_or, set as set_at, Some, None, inl, inr, refl, sym, ap, ◌∙◌, subst, arith}
+use Rattle.std.specs.Prelude.{Option, slice_get, slice_set}
 use Rattle.std.proofs.lemmas.Option.{slice_get_within}
 use Rattle.std.proofs.Math.ListN.{length-set}
 use Rattle.parallel_move.specs.declared.Spot.{Spot}
@@ -9,27 +8,27 @@ use Rattle.parallel_move.specs.declared.Spot.TheVariants.{Reg}
 use Rattle.low_code.specs.declared.program.Operand.{Operand}
 use Rattle.low_code.specs.declared.program.PrimOp.{PrimOp}
 use Rattle.low_code.specs.Tree.{Code, prim, load, save, Procedure, Program}
-use Rattle.low_code.specs.Formed.{is_among, uses, used_by, variables}
+use Rattle.low_code.specs.Formed.{uses, used_by, variables}
 use Rattle.low_code.specs.Arithmetic.{arithmetic}
-use Rattle.low_code.specs.Values.{Word, number, cell, Env, World, Answer, with_var, need, and_then, number_of, cell_of}
+use Rattle.low_code.specs.Values.{Word, number, cell, Env, World, with_var, need, and_then, number_of, cell_of}
 use Rattle.low_code.specs.Run.{Calls, code, operand, number_in, cell_in, with_word}
 use Rattle.register_alloc.specs.Fits.{slots_of}
 use Rattle.register_alloc.specs.Assignment.{Assignment, place_of, words_at}
 use Rattle.rv32_items.specs.declared.Item.{Item}
-use Rattle.rv32_items.specs.Course.{Layout, Point}
+use Rattle.rv32_items.specs.Course.{Layout}
 use Rattle.rv32_select.specs.declared.source.Way.{Way}
 use Rattle.rv32_select.specs.Emit.{plain, prim_code, load_code, save_code}
-use Rattle.rv32_select.specs.IsSelected.{heap_base, stack_end, source}
+use Rattle.rv32_select.specs.IsSelected.{heap_base, source}
 use Rattle.rv32_select.proofs.Courses.{Goes}
-use Rattle.rv32_select.proofs.Straight.{Data, Good, at, block as stretch, plain_length}
-use Rattle.rv32_select.proofs.FrameViews.{spots, InFrame}
-use Rattle.rv32_select.proofs.OperandsRead.{read, Readable, IsPlace, Sets}
+use Rattle.rv32_select.proofs.Straight.{Data, at, block as stretch, plain_length}
+use Rattle.rv32_select.proofs.FrameViews.{spots}
+use Rattle.rv32_select.proofs.OperandsRead.{read, IsPlace, Sets}
 use Rattle.rv32_select.proofs.Computed.{sets_load, sets_prim, stores_word}
-use Rattle.rv32_select.proofs.Relation.{bases, word_of, HoldsCells, HoldsWorld, Keeps, Untouched, Stood, Ran, quiet, Does', does_after, Given, Needed}
+use Rattle.rv32_select.proofs.Relation.{bases, word_of, HoldsCells, HoldsWorld, Stood, quiet, Does', does_after, Given, Needed}
 use Rattle.rv32_select.proofs.CellWords.{cell_inside, cells_stored}
 use Rattle.rv32_select.proofs.PlaceFacts.{IsOwn, ProcedureFine, Setting}
 use Rattle.rv32_select.proofs.BlockFacts.{room, Block, Simulates, among_left, among_right, own_place}
-use Rattle.rv32_select.proofs.OneBound.{cut, ready_at, plain_ran, operand_read, one_bound}
+use Rattle.rv32_select.proofs.OneBound.{cut, ready_at, operand_read, one_bound}
 
 pub number_there : (r : Option Word) (k : ℕ) → and_then r number_of ≡ Some k → r ≡ Some (number k)
 number_there None k e = absurd (cc)

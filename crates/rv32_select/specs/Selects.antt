@@ -1,12 +1,12 @@
 -- Items that do what low code does, in frames and on a heap of the given sizes.
-use Rattle.std.specs.Prelude.{◌⊎◌, ◌≡◌, ℕ, suc, ◌+◌, ◌-◌, ◌*◌, ◌≤◌, ◌<◌, Bool, true, false, List, [], ◌∷◌, length, replicate, Option, Some, None, slice_get}
+use Rattle.std.specs.Prelude.{◌≡◌, ℕ, ◌+◌, ◌-◌, ◌*◌, ◌≤◌, true, false, List, [], ◌∷◌, length, replicate, Option, Some, None, slice_get}
 use Rattle.headline.specs.Carries.{IsBytes, Begins}
 use Rattle.low_code.specs.Tree.{Program}
 use Rattle.low_code.specs.Values.{Answer, no_alternative, out_of_units, missing, heap_full, stack_full}
 use Rattle.low_code.specs.Run.{End, done, ended, end_of, world_of, limited}
 use Rattle.low_code.specs.Size.{low_all, calls_of, AtMostTwoTests}
 use Rattle.register_alloc.specs.Assignment.{Assignment, words_at}
-use Rattle.rv32_machine.specs.Memory.{Stretch}
+use Rattle.rv32_machine.specs.Memory.{Stretch, end_of as end_of_stretch}
 use Rattle.rv32_steps.specs.Trace.{is_one_of, AllDifferent, procedures_at}
 use Rattle.rv32_items.specs.declared.Item.{Item}
 use Rattle.rv32_items.specs.Course.{Layout, Point, End as CourseEnd, Going, Exited, Stopped, Course, course}
@@ -27,6 +27,10 @@ start_at width cells stack lay = record {
   item = 0;
   memory = lay.code ∷ zeros 0x50000000 (4 * width * cells) ∷ zeros (0x78000000 - stack) stack ∷ [];
 }
+
+-- the code ends before the heap begins
+abbrev pub BelowHeap : Layout → Type 0
+BelowHeap lay = end_of_stretch lay.code ≤ 0x50000000
 
 -- ---- what the items do
 
@@ -77,13 +81,13 @@ pub record Selects (l : Program) (a : Assignment) (cells stack : ℕ) (items : L
   pub flows : Flows begins items
   -- no more items, counted as they are placed, than this
   pub few : AtMostTwoTests l → size_of items ≤ 64 * (length l.procs + length l.globals + 1) + 8 * low_all l + 256 * calls_of l
-  -- whatever the layout: after any number of items the course follows the run with as many units as procedures were passed,
-  pub follows : (lay : Layout) → Rises items lay → (i : List ℕ) → IsBytes i → (k : ℕ) →
+  -- whatever the layout, where the code is below the heap: after any number of items the course follows the run with as many units as procedures were passed,
+  pub follows : (lay : Layout) → Rises items lay → BelowHeap lay → (i : List ℕ) → IsBytes i → (k : ℕ) →
       let c = course lay items k i (start_at l.width cells stack lay) in
       Follows begins i (limited l (words_at a) cells stack i (length (procedures_at begins c.passed))) c
   -- for any number of units it arrives where the run does,
-  pub arrives : (lay : Layout) → Rises items lay → (i : List ℕ) → IsBytes i → (n : ℕ) →
+  pub arrives : (lay : Layout) → Rises items lay → BelowHeap lay → (i : List ℕ) → IsBytes i → (n : ℕ) →
       (k : ℕ) × Arrives i (limited l (words_at a) cells stack i n) (course lay items k i (start_at l.width cells stack lay))
   -- and each return goes behind the last call that is open
-  pub home : (lay : Layout) → Rises items lay → (i : List ℕ) → IsBytes i → (k : ℕ) →
+  pub home : (lay : Layout) → Rises items lay → BelowHeap lay → (i : List ℕ) → IsBytes i → (k : ℕ) →
       ReturnsHome lay items k i (start_at l.width cells stack lay) []

@@ -1,41 +1,19 @@
 -- What a program and its places are, so that each of its items can be written: places are in the lists and no scratch spots,
 -- registers are x0 to x31, and words that go to spots at once go to different ones.
-use Rattle.std.specs.Prelude.{◌≡◌, ◌≢◌, ℕ, ◌+◌, ◌*◌, ◌≤◌, ◌<◌, ◌^◌, nat_lt, Bool, true, false, ◌||◌, List, [], ◌∷◌, map, length, Some, slice_get}
-use Rattle.parallel_move.specs.declared.Spot.{Spot}
-use Rattle.parallel_move.specs.declared.Spot.TheVariants.{Scratch}
-use Rattle.parallel_move.specs.Moves.{same}
+use Rattle.std.specs.Prelude.{◌≡◌, ℕ, ◌*◌, ◌≤◌, ◌<◌, ◌^◌, List, [], ◌∷◌, map, length, Some, slice_get}
 use Rattle.low_code.specs.declared.program.Operand.{Operand}
 use Rattle.low_code.specs.declared.program.Operand.TheVariants.{Var, Num, Cell}
 use Rattle.low_code.specs.declared.program.LowTest.{LowTest}
 use Rattle.low_code.specs.Tree.{Code, set, prim, load, save, take, put, get, call, join, give, tail, choose, fail, Arms, otherwise, arm, Procedure, Program}
-use Rattle.register_alloc.specs.Assignment.{Assignment, place_of, saves_at}
+use Rattle.low_code.specs.Formed.{variables}
+use Rattle.register_alloc.specs.Assignment.{Assignment, place_of, saves_at, words_at}
+use Rattle.register_alloc.specs.Fits.{slots_of}
 use Rattle.rv32_select.specs.Emit.{argument_spots}
-use Rattle.rv32_select.specs.Ranges.{in_range}
+use Rattle.rv32_select.specs.Ranges.{IsSpot, AreRegisters, Different, AreTargets}
 
-abbrev pub is_spot_in : Spot → List Spot → Bool
-is_spot_in s [] = false
-is_spot_in s (t ∷ ts) = same s t || is_spot_in s ts
-
--- no spot twice
-abbrev pub Different : List Spot → Type 0
-Different [] = Unit {0}
-Different (s ∷ ss) = (is_spot_in s ss ≡ false) × Different ss
-
-abbrev pub IsSpot : Spot → Type 0
-IsSpot s = (in_range s ≡ true) × (s ≢ Scratch)
-
-abbrev pub AreSpots : List Spot → Type 0
-AreSpots [] = Unit {0}
-AreSpots (s ∷ ss) = IsSpot s × AreSpots ss
-
--- spots to which words can go at once
-pub record AreTargets (to : List Spot) : Type 0 where
-  pub spots : AreSpots to
-  pub different : Different to
-
-abbrev pub AreRegisters : List ℕ → Type 0
-AreRegisters [] = Unit {0}
-AreRegisters (r ∷ rs) = (r < 32) × AreRegisters rs
+-- a frame of less than 2^28 bytes, and the first of its slots for saved registers
+abbrev pub FrameFits : (words saved : ℕ) → Type 0
+FrameFits words saved = (words < 67108864) × (saved < 67108864)
 
 module _ (l : Program) (a : Assignment) where
   abbrev pub HasPlace : ℕ → Type 0
@@ -61,6 +39,12 @@ module _ (l : Program) (a : Assignment) where
   abbrev pub TargetsPlaced : List ℕ → Type 0
   TargetsPlaced xs = HavePlaces xs × Different (map (place_of a) xs)
 
+  -- registers are saved only where they are variables': x8 to x31
+  abbrev pub CallPlaced : (proc site : ℕ) → List Operand → List ℕ → Type 0
+  CallPlaced f site as' xs =
+      (f < length l.procs) × (site < length a.saves) × AreRegisters (saves_at a site) × (length (saves_at a site) ≤ 24)
+      × OperandsPlaced as' × TargetsPlaced xs
+
   abbrev mutual
     pub Placed : Code → Type 0
     Placed (set x b c) = HasPlace x × OperandPlaced b × Placed c
@@ -70,12 +54,10 @@ module _ (l : Program) (a : Assignment) where
     Placed (take xs c) = HavePlaces xs × (4 * l.width * length xs < 2 ^ 32) × Placed c
     Placed (put b c) = OperandPlaced b × Placed c
     Placed (get x c) = HasPlace x × Placed c
-    Placed (call f site as' xs c) =
-        (f < length l.procs) × (site < length a.saves) × AreRegisters (saves_at a site)
-        × OperandsPlaced as' × TargetsPlaced xs × Placed c
+    Placed (call f site as' xs c) = CallPlaced f site as' xs × Placed c
     Placed (join xs b c) = TargetsPlaced xs × Placed b × Placed c
     Placed (give as') = OperandsPlaced as'
-    Placed (tail f site as') = (f < length l.procs) × OperandsPlaced as'
+    Placed (tail f site as') = (f < length l.procs) × (site < length a.saves) × OperandsPlaced as'
     Placed (choose as') = ArmsPlaced as'
     Placed fail = Unit {0}
 
@@ -83,10 +65,15 @@ module _ (l : Program) (a : Assignment) where
     ArmsPlaced (otherwise c) = Placed c
     ArmsPlaced (arm ts c as') = TestsPlaced ts × Placed c × ArmsPlaced as'
 
+  abbrev pub ArmPlaced : List LowTest × Code → Type 0
+  ArmPlaced t = TestsPlaced t.0 × Placed t.1
+
   pub record ProcedurePlaced (q : Procedure) : Type 0 where
     pub few_params : length q.params ≤ 16
     pub few_results : q.results ≤ 13
     pub params : HavePlaces q.params
+    pub bound : HavePlaces (variables q)
+    pub slots : slots_of (place_of a) (variables q) < 67108864
     pub arguments : AreTargets (argument_spots 0 (map (place_of a) q.params))
     pub body : Placed q.body
 
@@ -95,4 +82,8 @@ module _ (l : Program) (a : Assignment) where
     pub procedures : (f : ℕ) (q : Procedure) → slice_get l.procs f ≡ Some q → ProcedurePlaced q
     pub few_procedures : length l.procs ≤ 131072
     pub frames : length a.frames ≡ length l.procs
+    pub words : (f : ℕ) → words_at a f < 67108864
     pub start : l.start < length l.procs
+
+  abbrev pub CanWrite : (cells : ℕ) → Type 0
+  CanWrite cells = Writable × (cells ≤ 8000000)

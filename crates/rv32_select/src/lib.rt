@@ -1,8 +1,61 @@
 //! Instruction selection: the items that do what low code does.
 #![tactic(auto)]
 
+ghost use Rattle.std.specs.Prelude.{IfOk};
+ghost use Rattle.low_code.specs.Tree.{program_of};
+ghost use Rattle.rv32_select.specs.Selectable.{Selectable};
+ghost use Rattle.rv32_select.specs.IsSelected.{IsSelected};
+
+use crate::blocks::Selection;
+use crate::code::Code;
+use crate::context::Context;
+use low_code::Low;
+use register_alloc::Places;
+use rv32_items::Asm;
+use std::alloc::{AllocError, Global};
+
+mod blocks;
 mod code;
+mod context;
+mod laws;
+mod procedures;
+mod slots;
 mod source;
 mod statements;
 
+pub use laws::selected_items_do;
 pub use source::{Source, Way};
+
+/// The items of a program over its places, for a heap of so many cells and frames of so many bytes. `AllocError` where memory
+/// is wanting.
+pub fn select(
+    alloc: Global,
+    low: &Low,
+    places: &Places,
+    cells: u32,
+    stack: u32,
+) -> Result<Asm, AllocError>
+    requires { Selectable (program_of low.now) places.now cells stack }
+    ensures selected { IfOk result (λ asm. IsSelected (program_of low.now) places.now cells stack asm.items) }
+{
+    let context = Context {
+        alloc,
+        low,
+        places,
+        cells,
+        stack,
+    };
+    let mut out = Selection {
+        code: Code::new(alloc),
+        next: 3 + low.procs.len() as u32,
+    };
+    context.start_up(&mut out.code)?;
+    context.first_call(&mut out.code)?;
+    for proc in 0..low.procs.len() {
+        context.procedure(&mut out, proc as u32)?;
+    }
+    context.stops(&mut out.code)?;
+    Ok(Asm {
+        items: out.code.into_items(),
+    })
+}

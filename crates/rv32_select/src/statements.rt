@@ -3,7 +3,7 @@
 
 ghost use Rattle.std.specs.Prelude.{◌≡◌, ◌++◌, [], ◌∷◌, ◌<◌, ◌*◌, ◌≤◌, length, OnOk, IfOk, true};
 ghost use Rattle.rv32_select.specs.Emit.{plain, set_code, operation as operation_code, is_immediate as immediate_number, immediate as immediate_code, operands_held as held_code, operate_on as on_code, is_free as is_free_order, operate_in_order as in_order_code, prim_code, load_code, save_code, word_offset as offset_of_word, room_items, next_offset as offset_behind, go_on as go_on_code, cells_code, take_items, aside as aside_code, back as back_code, call_code, byte_given as byte_given_code, put_code, get_code, exit_with as exit_items, test_items};
-ghost use Rattle.rv32_select.specs.Ranges.{in_range, AllInRange, SourceInRange};
+ghost use Rattle.rv32_select.specs.Ranges.{in_range, AllInRange, IsSource};
 
 use crate::code::{Code, add_immediate, held, is_short, lower, negated, target};
 use crate::source::Source;
@@ -64,7 +64,7 @@ fn next_offset(step: u32, offset: u32) -> u32
 
 impl Code {
     pub(crate) fn set(&mut self, to: Spot, source: Source) -> Result<(), AllocError>
-        requires { (in_range to ≡ true) × SourceInRange source }
+        requires { (in_range to ≡ true) × IsSource source }
         ensures { OnOk result (self.new ≡ self.old ++ plain (set_code to source)) }
     {
         match source {
@@ -119,7 +119,7 @@ impl Code {
         left: Source,
         right: Source,
     ) -> Result<(), AllocError>
-        requires { SourceInRange left × SourceInRange right }
+        requires { IsSource left × IsSource right }
         ensures { OnOk result (self.new ≡ self.old ++ plain (held_code f t left right)) }
     {
         self.hold(Reg(5), left)?;
@@ -134,7 +134,7 @@ impl Code {
         left: Source,
         right: Source,
     ) -> Result<(), AllocError>
-        requires { SourceInRange left × SourceInRange right }
+        requires { IsSource left × IsSource right }
         ensures { OnOk result (self.new ≡ self.old ++ plain (on_code f t left right)) }
     {
         match right {
@@ -157,7 +157,7 @@ impl Code {
         left: Source,
         right: Source,
     ) -> Result<(), AllocError>
-        requires { SourceInRange left × SourceInRange right }
+        requires { IsSource left × IsSource right }
         ensures { OnOk result (self.new ≡ self.old ++ plain (in_order_code f t left right)) }
     {
         match left {
@@ -178,7 +178,7 @@ impl Code {
         left: Source,
         right: Source,
     ) -> Result<(), AllocError>
-        requires { (in_range to ≡ true) × SourceInRange left × SourceInRange right }
+        requires { (in_range to ≡ true) × IsSource left × IsSource right }
         ensures { OnOk result (self.new ≡ self.old ++ plain (prim_code f to left right)) }
     {
         self.operate_in_order(f, target(Reg(5), to), left, right)?;
@@ -186,7 +186,7 @@ impl Code {
     }
 
     pub(crate) fn load(&mut self, to: Spot, cell: Source, k: u32) -> Result<(), AllocError>
-        requires { (in_range to ≡ true) × SourceInRange cell }
+        requires { (in_range to ≡ true) × IsSource cell }
         ensures { OnOk result (self.new ≡ self.old ++ plain (load_code to cell k)) }
     {
         self.hold(Reg(5), cell)?;
@@ -197,7 +197,7 @@ impl Code {
     }
 
     pub(crate) fn save(&mut self, cell: Source, k: u32, word: Source) -> Result<(), AllocError>
-        requires { SourceInRange cell × SourceInRange word }
+        requires { IsSource cell × IsSource word }
         ensures { OnOk result (self.new ≡ self.old ++ plain (save_code cell k word)) }
     {
         self.hold(Reg(5), cell)?;
@@ -296,7 +296,7 @@ impl Code {
 
     /// The low byte of a word is written; the frame's first word is the byte's while the return address is in x1.
     pub(crate) fn put_byte(&mut self, heap_end: u32, word: Source) -> Result<(), AllocError>
-        requires { SourceInRange word }
+        requires { IsSource word }
         ensures { OnOk result (self.new ≡ self.old ++ plain (put_code heap_end word)) }
     {
         self.instr(Instr::Load(LoadKind::Lw, Reg(1), Reg(2), Imm12(0)))?;
@@ -343,7 +343,7 @@ impl Code {
 
     /// A word that isn't this number goes on to the label.
     pub(crate) fn test(&mut self, next: u32, word: Source, n: u32) -> Result<(), AllocError>
-        requires { SourceInRange word }
+        requires { IsSource word }
         ensures { OnOk result (self.new ≡ self.old ++ test_items next word n) }
     {
         self.hold(Reg(5), word)?;

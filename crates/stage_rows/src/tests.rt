@@ -22,10 +22,10 @@ use std::mem;
 use std::test::Fail;
 
 /// `Nil` and `Cons`, 25 bytes.
-const LISTS: &str = "data Nil 0; data Cons 2; ";
+pub(crate) const LISTS: &str = "data Nil 0; data Cons 2; ";
 
 /// The normal form of a text that breaks no rule.
-fn checked(alloc: Global, text: &str) -> Result<Checked, Fail>
+pub(crate) fn checked(alloc: Global, text: &str) -> Result<Checked, Fail>
     ensures { IfOk result (λ p. IsValid (program p)) }
 {
     let core = read(alloc, text.as_bytes())?;
@@ -33,7 +33,7 @@ fn checked(alloc: Global, text: &str) -> Result<Checked, Fail>
 }
 
 /// The listing of a stage of a text.
-fn listed(alloc: Global, text: &str, after: PassName) -> Result<Vec<u8>, Fail> {
+pub(crate) fn listed(alloc: Global, text: &str, after: PassName) -> Result<Vec<u8>, Fail> {
     let p = checked(alloc, text)?;
     let g = stage(alloc, &p, after)?;
     Ok(list(alloc, &g)?)
@@ -65,7 +65,7 @@ fn largest(alloc: Global, text: &str) -> Result<u64, Fail> {
 
 /// A text in which k functions are delayed, and each of their results is given to one function. Once inlined, its program
 /// has the size 9 k k + 14 k + 42.
-fn many_delayed(alloc: Global, k: u32) -> Result<String, AllocError> {
+pub(crate) fn many_delayed(alloc: Global, k: u32) -> Result<String, AllocError> {
     let mut text = String::from_str(alloc, LISTS)?;
     for i in 0..k {
         write!(text, "f{i} x = x; ")?;
@@ -181,15 +181,6 @@ fn programs_have_a_size_once_inlined(rt: HostRuntime) -> Result<(), Fail> {
         let text = many_delayed(alloc, k)?;
         assert_eq!(rt; expanded(alloc, text.as_str())?, size);
     }
-    Ok(())
-}
-
-#[test]
-fn a_large_program_has_its_last_stage(rt: HostRuntime) -> Result<(), Fail> {
-    let alloc = rt.alloc();
-    let text = many_delayed(alloc, 84)?;
-    let p = checked(alloc, text.as_str())?;
-    assert!(rt; stage(alloc, &p, PassName::Apply).is_ok());
     Ok(())
 }
 

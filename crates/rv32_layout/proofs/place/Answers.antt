@@ -3,6 +3,7 @@ use Rattle.std.specs.Prelude.{IfOk}
 use Rattle.std.proofs.lemmas.Result.{IfOk-weaker}
 use Rattle.rv32_items.specs.declared.Item.{Item}
 use Rattle.rv32_items.specs.Placed.{Placed}
+use Rattle.rv32_layout.specs.declared.form.Way.{Way}
 use Rattle.rv32_layout.specs.Places.{code, Encode}
 use Rattle.rv32_layout.proofs.Laid.{laid}
 use Rattle.rv32_layout.proofs.place.Goals as goal
@@ -10,6 +11,7 @@ use Rattle.rv32_layout.proofs.place.Goals as goal
 pub returns : goal.returns
 returns c =
     let items : List Item = c.args.asm.now.items in
-    let read = subst (λ is. IfOk c.words.result (λ words. Encode (code is (length is)) words.items)) c.as_slice-items.ensures c.words.ensures in
-    IfOk-weaker c.words.result (λ words. Encode (code items (length items)) words.items) (λ words. Placed items words.items)
-    (λ words h. laid items words.items c.requires.size h c.requires.labels c.requires.plain) read
+    let ways : List Way = c.in_ok-plan.plan.ways.items in
+    let read = subst (λ is. IfOk c.words.result (λ words. Encode (code ways is (length is)) words.items)) c.as_slice-items.ensures c.words.ensures in
+    IfOk-weaker c.words.result (λ words. Encode (code ways items (length items)) words.items) (λ words. Placed items words.items)
+    (λ words h. laid ways items words.items c.requires.size h c.requires.labels c.requires.plain) read

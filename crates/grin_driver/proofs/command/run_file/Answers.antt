@@ -1,15 +1,16 @@
 use Rattle.std.proofs.Common.{ℕ, List, arith}
 use mathlib.Core.Logic.{inr}
-use Rattle.grin_io.specs.Changes.{of_shelf, of_sink}
+use Rattle.grin_io.specs.Changes.{of_shelf, of_source, of_sink}
 use Rattle.grin_driver.specs.Outcome.{Outcome}
-use Rattle.grin_driver.specs.Answer.{default_steps}
 use Rattle.grin_driver.proofs.Files.{of_file}
 use Rattle.grin_driver.proofs.Outcomes.{outcome_long}
 use Rattle.grin_driver.proofs.command.run_file.Goals as goal
 
 pub returns-in-Ok-clause-answer : goal.returns-in-Ok-clause-answer
 returns-in-Ok-clause-answer g c =
-    let says = λ (text : List ℕ). Outcome (of_sink g.K.Sink.put_gives g.K.Sink.taken g.K.Sink.faults c.args.out.now c.run_text.new.out) text default_steps c.run_text.result in
+    let i = of_source g.I.Source.left g.I.Source.faults c.args.input.now c.run_text.new.input in
+    let o = of_sink g.K.Sink.put_gives g.K.Sink.taken g.K.Sink.faults c.args.out.now c.run_text.new.out in
+    let says = λ (text : List ℕ). Outcome i o text c.args.options.cells c.args.options.stack c.args.steps c.run_text.result in
     inr (of_file (of_shelf g.F.Shelf.content g.F.Shelf.faults c.args.shelf.now c.read_file.new.shelf) 1048577 c.args.file.now c.in-Ok.text.items says
-    (λ text full long h. outcome_long (of_sink g.K.Sink.put_gives g.K.Sink.taken g.K.Sink.faults c.args.out.now c.run_text.new.out) c.in-Ok.text.items text default_steps (omega (arith, full)) (omega (arith, long)) c.run_text.result h)
+    (λ text full long h. outcome_long i o c.in-Ok.text.items text c.args.options.cells c.args.options.stack c.args.steps (omega (arith, full)) (omega (arith, long)) c.run_text.result h)
     c.in-Ok.ensures.read (rw c.as_slice.ensures.value at c.run_text.ensures.outcome))

@@ -1,4 +1,4 @@
-use Rattle.std.proofs.Common.{rules, ◌≡◌, ◌≤◌, ◌<◌, ◌+◌, ◌-◌, ℕ, suc, List, [], ◌∷◌, ◌++◌, map, length, take, drop, get_or, Some, None, IfOk, OnOk, refl, sym, ap, ◌∙◌, subst, arith}
+use Rattle.std.proofs.Common.{rules, get_or}
 use Rattle.low_translate.proofs.Operations.{first_done, first_rest}
 use Rattle.low_translate.proofs.Emitting.{adds_prim}
 use Rattle.low_translate.proofs.blocks.primitive.Goals as goal

@@ -1,5 +1,4 @@
-use Rattle.std.proofs.Common.{rules, ◌≡◌, ◌≤◌, ◌<◌, ◌+◌, ℕ, suc, List, [], ◌∷◌, ◌++◌, map, length, take, drop, get_or, Some, None, IfOk, OnOk, refl, sym, ap, ◌∙◌, subst, arith}
-use Rattle.low_code.specs.declared.program.Operand.TheVariants.{Var}
+use Rattle.std.proofs.Common.{rules}
 use Rattle.low_translate.proofs.Items.{saves_step}
 use Rattle.low_translate.proofs.Emitting.{leaves_more, adds_save}
 use Rattle.low_translate.proofs.emit.save_words.Goals as goal

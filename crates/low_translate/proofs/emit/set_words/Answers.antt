@@ -1,4 +1,4 @@
-use Rattle.std.proofs.Common.{rules, ◌≡◌, ◌≤◌, ◌<◌, ◌+◌, ℕ, suc, List, [], ◌∷◌, ◌++◌, map, length, take, drop, get_or, Some, None, IfOk, OnOk, refl, sym, ap, ◌∙◌, subst, arith}
+use Rattle.std.proofs.Common.{rules}
 use Rattle.low_translate.proofs.Items.{sets_step}
 use Rattle.low_translate.proofs.Emitting.{leaves_more, adds_set}
 use Rattle.low_translate.proofs.emit.set_words.Goals as goal

@@ -1,4 +1,4 @@
-use Rattle.std.proofs.Common.{rules, ◌≡◌, ◌≤◌, ◌<◌, ◌+◌, ℕ, suc, List, [], ◌∷◌, ◌++◌, map, length, take, drop, get_or, Some, None, IfOk, OnOk, refl, sym, ap, ◌∙◌, subst, arith}
+use Rattle.std.proofs.Common.{sym, ◌∙◌, arith}
 use Rattle.low_code.specs.declared.program.Operand.TheVariants.{Num}
 use Rattle.low_translate.proofs.Items.{nth-get}
 use Rattle.low_translate.proofs.words.nth.Goals as goal

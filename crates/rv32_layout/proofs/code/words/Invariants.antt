@@ -1,10 +1,9 @@
 use Rattle.std.proofs.Common.{◌≡◌}
-use Rattle.rv32_layout.specs.Places.{bound, place, code, Encode}
+use Rattle.rv32_layout.specs.Places.{place, code, Encode}
 use Rattle.rv32_layout.proofs.code.words.Given as goal
 
-abbrev pub invariant-loop-item : goal.invariant-loop-item
-invariant-loop-item l = record {
-  bound_is : l.at.bound ≡ bound l.items l.item-index;
-  place_is : l.at.place ≡ place l.items l.item-index;
-  words_are : Encode (code l.items l.item-index) l.words.items;
+abbrev pub invariant-loop-n : goal.invariant-loop-n
+invariant-loop-n l = record {
+  at_is : l.at ≡ place l.plan.ways.items l.items l.n;
+  words_are : Encode (code l.plan.ways.items l.items l.n) l.words.items;
 }

@@ -1,75 +1,51 @@
 use Rattle.std.proofs.Common.{◌≡◌, ℕ, ◌+◌, List, length, Some, slice_get, refl, sym, ap, ◌∙◌, arith}
 use Rattle.std.proofs.lemmas.Option.{slice_get_read}
 use Rattle.rv32_items.specs.declared.Item.{Item}
+use Rattle.rv32_layout.specs.declared.form.Way.{Way}
 use Rattle.rv32_layout.specs.Forms.{width}
-use Rattle.rv32_layout.specs.Places.{goal as goal_of}
-use Rattle.rv32_layout.proofs.Counts.{bound_none, place_none, bound_le, place_le, bound_behind, place_behind, way_is}
-use Rattle.rv32_layout.proofs.Table.{place_noted, has_target, target_is}
+use Rattle.rv32_layout.proofs.Counts.{place_none, place_le, place_behind}
+use Rattle.rv32_layout.proofs.Table.{place_noted}
 use Rattle.rv32_layout.proofs.labels.places.Goals as goal
 
-pub loop-item-init : goal.loop-item-init
-loop-item-init c = record {
-  bound_is = sym (bound_none c.args.items.now);
-  place_is = sym (place_none c.args.items.now);
-  known = c.requires.known;
+pub loop-n-init : goal.loop-n-init
+loop-n-init c = record {
+  at_is = sym (place_none c.args.ways.now c.args.items.now);
+  known = λ l n s lt. absurd (omega arith);
   room = c.requires.room;
 }
-
-pub target-to-requires : goal.target-to-requires
-target-to-requires c =
-    let items : List Item = c.args.items.now in
-    let i : ℕ = c.loop-item.item-index in
-    let x : Item = c.item-item.result in
-    let here : slice_get items i ≡ Some x = slice_get_read items (length items) i x refl (omega arith) c.item-item.is in
-    let inv = c.loop-item.invariant in
-    let known = place_noted items i x c.loop-item.at c.loop-item.spots c.note.new.self here c.in_ok-note.ensures.noted inv.bound_is inv.place_is inv.known in
-    has_target items (i + 1) c.note.new.self known c.requires.labels i x here
-
-pub shortest-requires : goal.shortest-requires
-shortest-requires c =
-    let items : List Item = c.args.items.now in
-    let i : ℕ = c.loop-item.item-index in
-    let x : Item = c.item-item.result in
-    let here : slice_get items i ≡ Some x = slice_get_read items (length items) i x refl (omega arith) c.item-item.is in
-    let inv = c.loop-item.invariant in
-    let known = place_noted items i x c.loop-item.at c.loop-item.spots c.note.new.self here c.in_ok-note.ensures.noted inv.bound_is inv.place_is inv.known in
-    let to = target_is items (i + 1) c.note.new.self known c.requires.labels i x here c.target-to.result c.target-to.ensures in
-    let b = bound_le items i in
-    let t = bound_le items (goal_of items x) in
-    (omega (arith, inv.bound_is), omega (arith, to.bound_is))
-
-pub behind-at-requires : goal.behind-at-requires
-behind-at-requires c =
-    let items : List Item = c.args.items.now in
-    let i : ℕ = c.loop-item.item-index in
-    let b = bound_le items i in
-    let p = place_le items i in
-    let inv = c.loop-item.invariant in
-    (omega (arith, inv.bound_is), omega (arith, inv.place_is))
-
-pub loop-item-preserved : goal.loop-item-preserved
-loop-item-preserved c =
-    let items : List Item = c.args.items.now in
-    let i : ℕ = c.loop-item.item-index in
-    let x : Item = c.item-item.result in
-    let here : slice_get items i ≡ Some x = slice_get_read items (length items) i x refl (omega arith) c.item-item.is in
-    let inv = c.loop-item.invariant in
-    let known = place_noted items i x c.loop-item.at c.loop-item.spots c.note.new.self here c.in_ok-note.ensures.noted inv.bound_is inv.place_is inv.known in
-    let to = target_is items (i + 1) c.note.new.self known c.requires.labels i x here c.target-to.result c.target-to.ensures in
-    let way = c.shortest.ensures ∙ way_is items i x here c.loop-item.at.bound c.target-to.result.bound inv.bound_is to.bound_is in
-    let w = ap (λ v. width v x) way in
-    let b = bound_behind items i x here in
-    let p = place_behind items i x here in
-    record {
-      bound_is = omega (arith, c.behind-at.ensures.0, inv.bound_is);
-      place_is = omega (arith, c.behind-at.ensures.1, inv.place_is);
-      known = known;
-      room = λ n l r. c.in_ok-note.ensures.room l (inv.room n l r);
-    }
 
 pub note-requires : goal.note-requires
 note-requires c l is =
     let items : List Item = c.args.items.now in
-    let i : ℕ = c.loop-item.item-index in
-    let here : slice_get items i ≡ Some c.item-item.result = slice_get_read items (length items) i c.item-item.result refl (omega arith) c.item-item.is in
-    c.loop-item.invariant.room i l (here ∙ ap (λ x. Some x) is)
+    let n : ℕ = c.loop-n.n in
+    let x : Item = c.index-items-n.result in
+    let here : slice_get items n ≡ Some x = slice_get_read items (length items) n x refl c.loop-n-test.true c.index-items-n.is in
+    c.loop-n.invariant.room n l (here ∙ ap (λ i. Some i) is)
+
+pub overflow_add-at : goal.overflow_add-at
+overflow_add-at c =
+    let items : List Item = c.args.items.now in
+    let ways : List Way = c.args.ways.now in
+    let n : ℕ = c.loop-n.n in
+    let x : Item = c.index-items-n.result in
+    let here : slice_get items n ≡ Some x = slice_get_read items (length items) n x refl c.loop-n-test.true c.index-items-n.is in
+    let w = c.width-at.ensures ∙ ap (λ v. width v x) c.way_of.ensures in
+    let next = place_behind ways items n x here in
+    let total = place_le ways items (n + 1) in
+    record { fits = omega (arith, w, c.loop-n.invariant.at_is) }
+
+pub loop-n-preserved : goal.loop-n-preserved
+loop-n-preserved c =
+    let items : List Item = c.args.items.now in
+    let ways : List Way = c.args.ways.now in
+    let n : ℕ = c.loop-n.n in
+    let x : Item = c.index-items-n.result in
+    let here : slice_get items n ≡ Some x = slice_get_read items (length items) n x refl c.loop-n-test.true c.index-items-n.is in
+    let inv = c.loop-n.invariant in
+    let w = c.width-at.ensures ∙ ap (λ v. width v x) c.way_of.ensures in
+    let next = place_behind ways items n x here in
+    record {
+      at_is = omega (arith, w, inv.at_is);
+      known = place_noted items ways n x c.loop-n.at c.loop-n.spots c.note.new.self here c.in_ok-note.ensures.noted inv.at_is inv.known;
+      room = λ k l r. c.in_ok-note.ensures.room l (inv.room k l r);
+    }

@@ -1,12 +1,11 @@
-use Rattle.std.proofs.Common.{◌≡◌, length}
-use Rattle.rv32_layout.specs.Places.{bound, place}
-use Rattle.rv32_layout.specs.Spots.{HasRoom, KnowsLabels}
+use Rattle.std.proofs.Common.{◌≡◌}
+use Rattle.rv32_layout.specs.Places.{place}
+use Rattle.rv32_layout.specs.Spots.{HasRoom, KnowsPlaces}
 use Rattle.rv32_layout.proofs.labels.places.Given as goal
 
-abbrev pub invariant-loop-item : goal.invariant-loop-item
-invariant-loop-item l = record {
-  bound_is : l.at.bound ≡ bound l.items l.item-index;
-  place_is : l.at.place ≡ place l.items l.item-index;
-  known : KnowsLabels l.items (length l.items) l.item-index l.spots;
+abbrev pub invariant-loop-n : goal.invariant-loop-n
+invariant-loop-n l = record {
+  at_is : l.at ≡ place l.ways l.items l.n;
+  known : KnowsPlaces l.items l.ways l.n l.spots;
   room : HasRoom l.items l.spots;
 }

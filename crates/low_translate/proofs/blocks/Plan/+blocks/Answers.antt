@@ -1,7 +1,6 @@
-use Rattle.std.proofs.Common.{rules, ◌≡◌, ◌≤◌, ◌<◌, ◌+◌, ◌-◌, ℕ, suc, List, [], ◌∷◌, ◌++◌, map, length, take, drop, get_or, Some, None, IfOk, OnOk, inl, inr, refl, sym, ap, ◌∙◌, subst, arith}
-use Rattle.grin_syntax.specs.Tree.{act_of, before_of, all_before}
-use Rattle.low_translate.proofs.Operations.{end_alone, plain_first, plain_second, plain_third, ok_follows, take_next, stmts_next, block_is, plain_act, plain_end_act, case_done, nested_done, case_ends, nested_ends, store_done, bind_done, no_stmts, stmts_then, block_done, whole_block}
-use Rattle.low_translate.proofs.Alternatives.{ArmsSoFar, no_items, all_items, choice_is, choice_with, no_arms_yet, one_arm_more, arms_done, no_arms_done}
+use Rattle.std.proofs.Common.{rules, sym, ◌∙◌, subst}
+use Rattle.low_translate.proofs.Operations.{end_alone, plain_first, plain_second, plain_third, ok_follows, take_next, stmts_next, block_is, plain_act, plain_end_act, case_done, nested_done, case_ends, nested_ends, store_done, bind_done, stmts_then, block_done, whole_block}
+use Rattle.low_translate.proofs.Alternatives.{ArmsSoFar, no_items, all_items, choice_is, choice_with, one_arm_more, arms_done, no_arms_done}
 use Rattle.low_translate.proofs.blocks.Plan.+blocks.Goals as goal
 
 pub act-returns-in_ok-join-in-Case : goal.act-returns-in_ok-join-in-Case

@@ -1,5 +1,4 @@
-use Rattle.std.proofs.Common.{rules, ◌≡◌, ◌≤◌, ◌<◌, ◌+◌, ◌-◌, ℕ, suc, List, [], ◌∷◌, ◌++◌, map, length, take, drop, get_or, Some, None, IfOk, OnOk, inl, inr, refl, sym, ap, ◌∙◌, subst, arith}
-use Rattle.grin_syntax.specs.Tree.{act_of}
+use Rattle.std.proofs.Common.{rules, inl, inr}
 use Rattle.low_translate.proofs.Operations.{unit_done, eval_done, apply_done, fail_done}
 use Rattle.low_translate.proofs.blocks.Plan.plain_end.Goals as goal
 

@@ -1,4 +1,4 @@
-use Rattle.std.proofs.Common.{rules, ◌≡◌, ◌≤◌, ◌<◌, ◌+◌, ◌-◌, ℕ, suc, List, [], ◌∷◌, ◌++◌, map, length, take, drop, get_or, Some, None, IfOk, OnOk, refl, sym, ap, ◌∙◌, subst, arith}
+use Rattle.std.proofs.Common.{rules, sym, ap, ◌∙◌}
 use Rattle.low_translate.specs.Translation.{variables_of}
 use Rattle.low_translate.proofs.Operations.{through_done}
 use Rattle.low_translate.proofs.blocks.Plan.through.Goals as goal

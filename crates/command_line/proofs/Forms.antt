@@ -1,0 +1,104 @@
+-- The forms take options that there are, and each of them once.
+use Rattle.std.proofs.Common.{◌≡◌, ℕ, ◌≤◌, ◌⊎◌, inl, inr, Bool, true, false, ◌&&◌, List, [], ◌∷◌, length, codes, Option, Some, None, refl, sym, ◌∙◌, arith}
+use Rattle.std.specs.List.{list_any}
+use Rattle.std.specs.Option.{option_map, option_and_then}
+use Rattle.std.specs.Str.{bytes_eq}
+use Rattle.std.proofs.lemmas.Slice.Eq.{bytes_eq-Decides}
+use Rattle.command_line.specs.Commands.{CommandLine, RunFile, Given, Form, only, number_of, cells_of, stack_of, steps_of, run_form, check_form, list_form, exec_form}
+use Rattle.command_line.specs.Walk.{option_names}
+
+-- A form has no option but those that there are, and asks for nothing where one of its options has two values.
+pub record Strict (form : Form) : Type 0 where
+  pub known : (name : List ℕ) → list_any (bytes_eq name) option_names ≡ false → list_any (bytes_eq name) form.options ≡ false
+  pub once : (given : Given) (name operand : List ℕ) → list_any (bytes_eq name) form.options ≡ true → 2 ≤ length (given name) → form.asks given operand ≡ None
+
+-- lists of two or more
+pub only_two : {T : Type 0} (xs : List T) → 2 ≤ length xs → only xs ≡ None
+only_two [] two = absurd (omega arith)
+only_two (x ∷ []) two = absurd (omega arith)
+only_two (x ∷ y ∷ rest) two = refl
+
+number_two : (default least most : ℕ) (values : List (List ℕ)) → 2 ≤ length values → number_of default least most values ≡ None
+number_two default least most [] two = absurd (omega arith)
+number_two default least most (x ∷ []) two = absurd (omega arith)
+number_two default least most (x ∷ y ∷ rest) two = refl
+
+-- an option of a list is the first or one of the others
+first_or_other : (name first : List ℕ) (others : List (List ℕ)) → list_any (bytes_eq name) (first ∷ others) ≡ true
+    → (name ≡ first) ⊎ (list_any (bytes_eq name) others ≡ true)
+first_or_other name first others is = by_first (bytes_eq name first) refl where
+  by_first : (test : Bool) → bytes_eq name first ≡ test → (name ≡ first) ⊎ (list_any (bytes_eq name) others ≡ true)
+  by_first true same = inl ((bytes_eq-Decides name first).0 same)
+  by_first false other = inr (rw other at is)
+
+-- what has none in it is none
+then_none : {S T : Type 0} (o : Option S) (f : S → Option T) → ((x : S) → f x ≡ None) → option_and_then f o ≡ None
+then_none None f none = refl
+then_none (Some x) f none = none x
+
+-- the numbers of `run` where one is none
+module _ (file : List ℕ) (cells stack steps : Option ℕ) where
+  abbrev run_asks : Option CommandLine
+  run_asks = option_and_then (λ c. option_and_then (λ s. option_map (RunFile file c s) steps) stack) cells
+
+  no_stack : stack ≡ None → run_asks ≡ None
+  no_stack none = then_none cells (λ c. option_and_then (λ s. option_map (RunFile file c s) steps) stack) (λ c. rw none refl)
+
+  no_steps : steps ≡ None → run_asks ≡ None
+  no_steps none =
+      then_none cells (λ c. option_and_then (λ s. option_map (RunFile file c s) steps) stack)
+      (λ c. then_none stack (λ s. option_map (RunFile file c s) steps) (λ s. rw none refl))
+
+run_once : (given : Given) (name file : List ℕ) → list_any (bytes_eq name) run_form.options ≡ true → 2 ≤ length (given name) → run_form.asks given file ≡ None
+run_once given name file is two = elim (first_or_other name (codes "heap") (codes "stack" ∷ codes "steps" ∷ []) is) [
+  | inl heap ↦ rw (number_two 1000000 1 8000000 (given (codes "heap")) (rw heap at two)) refl
+  | inr other ↦ elim (first_or_other name (codes "stack") (codes "steps" ∷ []) other) [
+    | inl stack ↦ no_stack file (cells_of given) (stack_of given) (steps_of given) (number_two 1048576 1024 67108864 (given (codes "stack")) (rw stack at two))
+    | inr last ↦ elim (first_or_other name (codes "steps") [] last) [
+      | inl steps ↦ no_steps file (cells_of given) (stack_of given) (steps_of given) (number_two 1000000000 1 1000000000000 (given (codes "steps")) (rw steps at two))
+      | inr none ↦ absurd (cc none)
+    ]
+  ]
+]
+
+list_once : (given : Given) (name file : List ℕ) → list_any (bytes_eq name) list_form.options ≡ true → 2 ≤ length (given name) → list_form.asks given file ≡ None
+list_once given name file is two = elim (first_or_other name (codes "after") [] is) [
+  | inl after ↦ rw (only_two (given (codes "after")) (rw after at two)) refl
+  | inr none ↦ absurd (cc none)
+]
+
+exec_once : (given : Given) (name image : List ℕ) → list_any (bytes_eq name) exec_form.options ≡ true → 2 ≤ length (given name) → exec_form.asks given image ≡ None
+exec_once given name image is two = elim (first_or_other name (codes "steps") [] is) [
+  | inl steps ↦ rw (number_two 1000000000 1 1000000000000 (given (codes "steps")) (rw steps at two)) refl
+  | inr none ↦ absurd (cc none)
+]
+
+-- each option of a list is one of these names
+abbrev among : (options names : List (List ℕ)) → Bool
+among [] names = true
+among (option ∷ options) names = list_any (bytes_eq option) names && among options names
+
+known_among : (options names : List (List ℕ)) → among options names ≡ true → (name : List ℕ) → list_any (bytes_eq name) names ≡ false
+    → list_any (bytes_eq name) options ≡ false
+known_among [] names all name none = refl
+known_among (option ∷ options) names all name none = by_test (bytes_eq name option) refl (list_any (bytes_eq option) names) refl (known_among options names) where
+  by_test : (same : Bool) → bytes_eq name option ≡ same → (known : Bool) → list_any (bytes_eq option) names ≡ known
+      → (among options names ≡ true → (name : List ℕ) → list_any (bytes_eq name) names ≡ false → list_any (bytes_eq name) options ≡ false)
+      → list_any (bytes_eq name) (option ∷ options) ≡ false
+  by_test same is false known rest = absurd (cc (rw known at all))
+  by_test true is true known rest =
+      let found : list_any (bytes_eq name) names ≡ true = rw ((bytes_eq-Decides name option).0 is) known in
+      absurd (cc (sym found ∙ none))
+  by_test false is true known rest = rw is (rest (rw known at all) name none)
+
+pub run_strict : Strict run_form
+run_strict = record { known = known_among run_form.options option_names refl; once = run_once }
+
+pub check_strict : Strict check_form
+check_strict = record { known = known_among check_form.options option_names refl; once = λ given name file is two. absurd (cc is) }
+
+pub list_strict : Strict list_form
+list_strict = record { known = known_among list_form.options option_names refl; once = list_once }
+
+pub exec_strict : Strict exec_form
+exec_strict = record { known = known_among exec_form.options option_names refl; once = exec_once }

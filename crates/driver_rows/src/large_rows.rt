@@ -1,0 +1,105 @@
+//! Texts whose programs are long, or nest or bind much.
+
+use crate::outside::{LISTS, Outside};
+use crate::texts::QUEENS;
+use std::alloc::{AllocError, Global};
+use std::test::Fail;
+
+/// The numbers from `i` to `n`.
+const UPTO: &str = "upto i n = case lt n i of { 1 -> Nil; _ -> Cons i (upto (add i 1) n) }; ";
+
+/// The sum of a list, by nested evaluations.
+const SUM: &str = "sum xs = case xs of { Nil -> 0; Cons h t -> add h (sum t) }; \
+                   main = Cons (sum (upto 1 100000)) Nil;";
+
+/// The length of a list, in a loop.
+const COUNT: &str =
+    "count xs acc = case xs of { Nil -> acc; Cons h t -> case add acc 1 of { a -> count t a } }; \
+                     main = case count (upto 1 100000) 0 of { 100000 -> Cons 79 Nil };";
+
+/// A function with a branch for each number below 300.
+fn many_branches(alloc: Global) -> Result<String, AllocError> {
+    let mut text = String::from_str(alloc, LISTS)?;
+    text.push_str("f n = case n of { ")?;
+    for k in 0..300 {
+        if k > 0 {
+            text.push_str("; ")?;
+        }
+        write!(text, "{k} -> Cons {k} Nil")?;
+    }
+    text.push_str(" }; main = f 299;")?;
+    Ok(text)
+}
+
+/// A text in which k functions are delayed, and each of their results is given to one function. Once inlined, its program
+/// has the size 9 k k + 14 k + 42.
+fn many_delayed(alloc: Global, k: u32) -> Result<String, AllocError> {
+    let mut text = String::from_str(alloc, LISTS)?;
+    for i in 0..k {
+        write!(text, "f{i} x = x; ")?;
+    }
+    text.push_str("h y = let ")?;
+    for i in 0..k {
+        write!(text, "b{i} = f{i} y; ")?;
+    }
+    for i in 0..k {
+        if i > 0 {
+            text.push_str("; ")?;
+        }
+        write!(text, "c{i} = h b{i}")?;
+    }
+    text.push_str(" in Nil; main = h Nil;")?;
+    Ok(text)
+}
+
+#[test]
+fn deep_and_long_evaluations(rt: HostRuntime) -> Result<(), Fail> {
+    let words = ["grinc", "run", "a", "--stack", "65536"];
+    let text = format!(in rt.alloc(); "{LISTS}{UPTO}{SUM}")?;
+    let shown = Outside::of(text.as_bytes()).run(rt.alloc(), &words)?;
+    assert!(rt; shown.is(5, "", "grinc: stack full\n"));
+    let text = format!(in rt.alloc(); "{LISTS}{UPTO}{COUNT}")?;
+    let shown = Outside::of(text.as_bytes()).run(rt.alloc(), &words)?;
+    assert!(rt; shown.is(0, "O", ""));
+    Ok(())
+}
+
+#[test]
+fn a_function_longer_than_a_branch_reaches(rt: HostRuntime) -> Result<(), Fail> {
+    let text = many_branches(rt.alloc())?;
+    let shown = Outside::of(text.as_bytes()).run(rt.alloc(), &["grinc", "run", "a"])?;
+    assert!(rt; shown.is_bytes(0, &[0x2B], ""));
+    Ok(())
+}
+
+#[test]
+fn eight_queens(rt: HostRuntime) -> Result<(), Fail> {
+    let shown = Outside::of(QUEENS.as_bytes()).run(rt.alloc(), &["grinc", "run", "a"])?;
+    assert!(rt; shown.is(0, "92\n", ""));
+    Ok(())
+}
+
+#[test]
+fn twelve_fields(rt: HostRuntime) -> Result<(), Fail> {
+    let text = format!(in rt.alloc(); "{LISTS}data T 12; main = Nil;")?;
+    let shown = Outside::of(text.as_bytes()).run(rt.alloc(), &["grinc", "check", "a"])?;
+    assert!(rt; shown.is(0, "ok functions 1 constructors 3 size 8\n", ""));
+    let text = format!(in rt.alloc();
+        "{LISTS}data T 12; f x = case x of {{ T a b c d e g h i j k l m -> Cons l Nil }}; \
+         main = f (T 65 66 67 68 69 70 71 72 73 74 75 76);"
+    )?;
+    let shown = Outside::of(text.as_bytes()).run(rt.alloc(), &["grinc", "run", "a"])?;
+    assert!(rt; shown.is(0, "K", ""));
+    Ok(())
+}
+
+#[test]
+fn programs_about_the_largest_size(rt: HostRuntime) -> Result<(), Fail> {
+    let text = many_delayed(rt.alloc(), 119)?;
+    let shown = Outside::of(text.as_bytes()).run(rt.alloc(), &["grinc", "run", "a"])?;
+    assert!(rt; shown.is(0, "", ""));
+    let text = many_delayed(rt.alloc(), 120)?;
+    let shown = Outside::of(text.as_bytes()).run(rt.alloc(), &["grinc", "run", "a"])?;
+    assert!(rt; shown.is(1, "", "grinc: refused 36 at 131322\n"));
+    Ok(())
+}

@@ -1,0 +1,74 @@
+-- What the layers below a program of GRIN take and give.
+use Rattle.std.proofs.Common.{◌≡◌, ℕ, zero, suc, ◌*◌, ◌≤◌, List, [], ◌∷◌, length, Some, slice_get, ap, subst, arith}
+use Rattle.std.proofs.lemmas.List.{length-map}
+use Rattle.grin_syntax.specs.Tree as grin
+use Rattle.grin_syntax.specs.Formed.{AllOf}
+use Rattle.low_code.specs.Tree as low
+use Rattle.low_code.specs.Formed as low_formed
+use Rattle.low_code.specs.Size.{low_all, calls_of}
+use Rattle.low_translate.specs.Lowers.{Lowers, LowersSmall}
+use Rattle.register_alloc.specs.Assignment.{Assignment}
+use Rattle.register_alloc.specs.Fits.{Fits}
+use Rattle.register_alloc.specs.Gathered.{HaveFewResults}
+use Rattle.rv32_items.specs.declared.Item.{Item}
+use Rattle.rv32_items.specs.Placed.{size_of, Placed}
+use Rattle.rv32_select.specs.IsSelected.{IsSelected}
+use Rattle.rv32_select.specs.Laws.{SelectedItemsDo}
+use Rattle.rv32_select.specs.Selectable.{Selectable}
+use Rattle.rv32_select.specs.Selects.{Selects}
+use Rattle.grin_compile.specs.declared.layers.Layers.{Layers}
+use Rattle.grin_compile.specs.Lowerable.{IsLowerable}
+use Rattle.grin_compile.specs.Parts.{AreSizes, HasLayers}
+use Rattle.grin_compile.proofs.Frames.{few_frame_words}
+use Rattle.grin_compile.proofs.Sizes.{few_words}
+use Rattle.grin_compile.proofs.Tells.{low_never_missing}
+
+all_at : {A : Type 0} (P : A → Type 0) (xs : List A) → AllOf P xs → (k : ℕ) (x : A) → slice_get xs k ≡ Some x → P x
+all_at P [] all k x e = cc
+all_at P (y ∷ xs) all zero x e = let same : y ≡ x = cc in subst P same all.0
+all_at P (y ∷ xs) all (suc k) x e = all_at P xs all.1 k x e
+
+pub few_results : (g : grin.Program) (l : low.Program) → Lowers g l → HaveFewResults l.procs
+few_results g l lowers f q e = all_at (λ q. q.results ≤ 13) l.procs lowers.few_results f q e
+
+module _ (g : grin.Program) (l : low.Program) (a : Assignment) (cells stack : ℕ) (lowerable : IsLowerable g) (formed : low_formed.Formed l)
+    (lowers : Lowers g l) (small : LowersSmall g l) (fits : Fits l a) (sizes : AreSizes cells stack) where
+  few_globals : length l.globals ≤ 4096
+  few_globals = omega (arith, ap length lowers.globals, length-map g.globals (λ c. c.tag.0), lowerable.few_globals)
+
+  pub selectable : Selectable l a cells stack
+  selectable = record {
+    formed = formed;
+    fits = fits;
+    few_params = λ f q e. all_at (λ q. length q.params ≤ 16) l.procs lowers.few_params f q e;
+    few_results = few_results g l lowers;
+    width = (omega (arith, lowers.width), omega (arith, lowers.width, lowerable.ready.few_fields));
+    size = omega (arith, small.light, lowerable.slim.light, lowerable.fits);
+    procedures = omega (arith, lowers.procs, lowerable.few_procs, lowerable.fits);
+    globals = omega (arith, few_globals);
+    frames = λ f. omega (arith, few_frame_words lowerable.size lowerable.largest g l a lowerable.slim small fits f, lowerable.largest_fits, lowerable.fits);
+    few_cells = (sizes.range.some_cells, sizes.range.few_cells);
+    stack_bytes = (sizes.range.some_stack, sizes.range.small_stack, sizes.words);
+  }
+
+  module _ (items : List Item) (law : SelectedItemsDo) (selected : IsSelected l a cells stack items) where
+    pub selects : Selects l a cells stack items
+    selects = law l a cells stack items selectable (low_never_missing g l lowers lowerable.ready.never_missing) selected
+
+    pub items_fit : size_of items ≤ 268435456
+    items_fit =
+        let procs : length l.procs ≤ lowerable.size = omega (arith, lowers.procs, lowerable.few_procs) in
+        let light : low_all l ≤ 192 * lowerable.size = omega (arith, small.light, lowerable.slim.light) in
+        let calls : calls_of l ≤ lowerable.size = omega (arith, small.few_calls, lowerable.slim.few_calls) in
+        few_words (length l.procs) (length l.globals) (low_all l) (calls_of l) lowerable.size (size_of items) (size_of items) lowerable.fits procs few_globals light calls
+        (selects.few small.few_tests) (omega arith)
+
+pub has_layers : (g : grin.Program) (cells stack : ℕ) (m : Layers) (items : List Item) → Lowers g (low.program_of m.low) → LowersSmall g (low.program_of m.low)
+    → Fits (low.program_of m.low) m.places → Selects (low.program_of m.low) m.places cells stack items → Placed items m.code.items
+    → size_of items ≤ 268435456 → HasLayers g cells stack m
+has_layers g cells stack m items lowers small fits selects placed few = record {
+  items = items;
+  made = record { lowers = lowers; small = small; fits = fits; selects = selects; placed = placed };
+  some_words = placed.some selects.some_item.0 selects.some_item.1;
+  few_words = omega (arith, placed.few, few);
+}

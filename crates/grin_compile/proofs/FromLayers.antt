@@ -1,0 +1,82 @@
+-- The layers below the stages make an image of the program.
+use Rattle.std.proofs.Common.{◌≡◌, ℕ, ◌+◌, ◌*◌, ◌≤◌, List, length, refl, ap, subst, arith}
+use Rattle.headline.specs.Carries.{IsBytes}
+use Rattle.arity_check.specs.Accepted.{IsValid}
+use Rattle.arity_check.specs.Program as core
+use Rattle.core_meaning.specs.Told.{of_core}
+use Rattle.elf32.specs.File.{file_of, program}
+use Rattle.elf32.specs.Rules.{Loads}
+use Rattle.grin_syntax.specs.Tree as grin
+use Rattle.grin_meaning.specs.Keeps.{Keeps}
+use Rattle.grin_meaning.specs.Told.{of_grin, entered_by_grin}
+use Rattle.flow_system.specs.Solution.{Solution}
+use Rattle.apply_inline.specs.Inlining.{inlined, inlined_size}
+use Rattle.apply_inline.specs.Size.{largest_procedure}
+use Rattle.grin_translate.specs.Same.{ValidTranslationDoesAs}
+use Rattle.grin_translate.specs.Translation.{tr}
+use Rattle.low_code.specs.Tree.{Program}
+use Rattle.low_code.specs.Run.{NeverMissing}
+use Rattle.low_code.specs.Told.{of_low}
+use Rattle.register_alloc.specs.Assignment.{Assignment, words_at}
+use Rattle.rv32_items.specs.declared.Item.{Item}
+use Rattle.rv32_items.specs.Laws.{addresses_of}
+use Rattle.grin_compile.specs.Limits.{HeapOver, FramesOver, StackOver, frame_bound, heap_bytes}
+use Rattle.grin_compile.specs.Code.{start_with, IsCodeFor}
+use Rattle.grin_compile.specs.Stages.{passes, AreStages, IsLastSlim}
+use Rattle.grin_compile.specs.Made.{IsImageOf}
+use Rattle.grin_compile.specs.Layers.{AreLayers, MadeFromLayers}
+use Rattle.grin_compile.proofs.Tells.{tells_both, stages_keep, stage_tells, stage_never_missing, stage_no_deeper, low_never_missing}
+use Rattle.grin_compile.proofs.Frames.{over, few_frame_words}
+use Rattle.grin_compile.proofs.Sizes.{stages_outside, few_parts, few_words}
+use Rattle.grin_compile.proofs.Functions.{few_functions}
+use Rattle.grin_compile.proofs.Layered.{code_for}
+
+module _ (does : ValidTranslationDoesAs) (p : core.Program) (A : Solution) (stages : List grin.Program) (g : grin.Program) (l : Program)
+    (a : Assignment) (cells stack : ℕ) (items : List Item) (words file : List ℕ)
+    (valid : IsValid p) (fits : inlined_size A (tr p) ≤ 131072)
+    (are : AreStages p passes (inlined A (tr p)) stages) (last : IsLastSlim p A stages g)
+    (made : AreLayers g l a cells stack items words)
+    (is_file : file ≡ file_of words (heap_bytes g cells) stack) (loads : Loads file (program words (heap_bytes g cells) stack)) where
+  keeps : Keeps (tr p) g
+  keeps = stages_keep p passes (inlined A (tr p)) stages are last.at g last.there
+
+  pub never_missing : NeverMissing l
+  never_missing = low_never_missing g l made.lowers (stage_never_missing does p valid g keeps)
+
+  pub few : length words ≤ 268435456
+  few =
+      let parts = few_parts p (inlined A (tr p)) g l _ refl (stages_outside p passes (inlined A (tr p)) stages are last.at g last.there) last.slim made.lowers made.small in
+      let globals : length l.globals ≤ 4096 = omega (arith, parts.globals, few_functions p valid) in
+      few_words _ _ _ _ _ _ _ fits parts.procs globals parts.light parts.calls (made.selects.few made.small.few_tests) made.placed.few
+
+  abbrev frame : ℕ
+  frame = 1 + 20 * largest_procedure (inlined A (tr p))
+
+  full : (i : List ℕ) → IsBytes i → (n : ℕ) → FramesOver stack (of_low l (words_at a) i n) → StackOver (frame_bound p A) stack (of_core p i n)
+  full i bytes n h =
+      let f = made.lowers.frames (words_at a) frame (few_frame_words _ _ g l a last.slim made.small made.fits) i bytes n in
+      over stack (of_low l (words_at a) i n).depth ((of_grin g i n).depth + 1) ((of_core p i n).depth + 1) frame h f
+      (omega (arith, stage_no_deeper does p valid g keeps i n))
+
+  abbrev addresses : List ℕ
+  addresses = addresses_of made.placed.lay items made.selects.begins
+
+  heap_is : 4 * l.width * cells ≡ heap_bytes g cells
+  heap_is = ap (λ w. 4 * w * cells) made.lowers.width
+
+  pub image : IsImageOf p A g cells stack words addresses file
+  image = record {
+    few_words = few;
+    is_file = is_file;
+    loads = loads;
+    code_for = subst (λ m. IsCodeFor (HeapOver cells) (StackOver (frame_bound p A) stack) (of_core p) (entered_by_grin g) m words (start_with words (heap_bytes g cells) stack) addresses) made.lowers.procs
+        (subst (λ h. IsCodeFor (HeapOver cells) (StackOver (frame_bound p A) stack) (of_core p) (entered_by_grin g) (length l.procs) words (start_with words h stack) addresses) heap_is
+        (code_for (of_core p) (entered_by_grin g) (StackOver (frame_bound p A) stack) l a cells stack items words
+        (λ i bytes n. tells_both (of_core p i n) (of_grin g i n) (of_low l (words_at a) i n) (stage_tells does p valid g keeps i n) (made.lowers.tells (words_at a) i bytes n))
+        (λ i bytes n. made.lowers.enters (words_at a) i bytes n)
+        full never_missing made.selects made.placed few));
+  }
+
+pub made_from_layers : ValidTranslationDoesAs → MadeFromLayers
+made_from_layers does p A stages g l a cells stack items words file valid least fits are last made is_file loads =
+    image does p A stages g l a cells stack items words file valid fits are last made is_file loads

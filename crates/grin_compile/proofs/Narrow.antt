@@ -1,0 +1,115 @@
+-- In a vectorised program no operation goes to more than 14 variables.
+use Rattle.std.proofs.Common.{ℕ, ◌≤◌, Bool, true, false, cond, List, [], ◌∷◌, length, sym, subst, arith}
+use Rattle.std.proofs.lemmas.List.{length-map}
+use Rattle.grin_syntax.specs.declared.program.VarId.{VarId}
+use Rattle.grin_syntax.specs.declared.program.Target.{Target}
+use Rattle.grin_syntax.specs.declared.program.Target.TheVariants as to
+use Rattle.grin_syntax.specs.declared.program.Cell.{Cell}
+use Rattle.grin_syntax.specs.declared.program.Tag.{Tag}
+use Rattle.grin_syntax.specs.declared.program.TagKind.{TagKind}
+use Rattle.grin_syntax.specs.declared.program.TagKind.TheVariants as kind
+use Rattle.grin_syntax.specs.Tree.{Code, end, store, bind, Act, unit, fetch, fetch_word, update, eval, apply, call, prim, read, write, case, nested, fail, Arms, no_arm, arm, Procedure, Program}
+use Rattle.grin_syntax.specs.Binders.{target_vars}
+use Rattle.grin_syntax.specs.Formed.{AllOf}
+use Rattle.grin_meaning.specs.Checks.{is_fetch}
+use Rattle.grin_meaning.specs.Ready.{Any, EachAct, EachCode, EachArms, most_fields, value_fields, most_value_fields, Ready}
+use Rattle.vectorise.specs.Whole.{GivesNodes, NoVector, NoVectorTarget, IsWhole}
+use Rattle.vectorise.specs.Widened.{Width, ActWidths, CodeWidths, ArmsWidths, Widths, Widened}
+use Rattle.low_translate.specs.Lowers.{IsNarrow}
+
+abbrev Few : Target → Type 0
+Few t = length (target_vars t) ≤ 14
+
+any_cells : (cs : List Cell) → AllOf (λ c. Any c.val) cs
+any_cells [] = tt
+any_cells (c ∷ cs) = (tt, any_cells cs)
+
+module _ (most most_value : ℕ) (few : most ≤ 13) (few_value : most_value ≤ 13) where
+  narrow_target : (fetched : Bool) (t t' : Target) → NoVectorTarget t → Width most most_value fetched t t' → Few t'
+  narrow_target fetched to.Nothing t' h w = subst Few (sym w) (omega arith)
+  narrow_target fetched (to.One x) t' h w = subst Few (sym w) (omega arith)
+  narrow_target fetched (to.Vector xs) t' h w = absurd h
+  narrow_target fetched (to.Node x) t' h w = subst Few (sym w.1) (omega (arith, length-map w.0 (λ (x : VarId). x.0), w.2, room fetched))
+    where
+      room : (fetched : Bool) → cond fetched most most_value ≤ 13
+      room true = few
+      room false = few_value
+
+  mutual
+    unfolding EachAct ActWidths
+
+    act_narrow : (o o' : Act) → EachAct GivesNodes NoVectorTarget NoVector Any o → ActWidths most most_value o o' → EachAct Any Few Any Any o'
+    act_narrow o (unit v') e w = (tt, tt)
+    act_narrow o (fetch a') e w = tt
+    act_narrow o (fetch_word a' k') e w = tt
+    act_narrow o (update a' v') e w = (tt, tt)
+    act_narrow o (eval a') e w = tt
+    act_narrow o (apply v' a') e w = (tt, tt)
+    act_narrow o (call f' ws') e w = tt
+    act_narrow o (prim f' a' b') e w = tt
+    act_narrow o read e w = tt
+    act_narrow o (write a') e w = tt
+    act_narrow o fail e w = tt
+    act_narrow (case v as') (case v' bs') e w = (tt, tt, arms_narrow as' bs' e.2 w)
+    act_narrow (unit v) (case v' bs') e w = absurd w
+    act_narrow (fetch a) (case v' bs') e w = absurd w
+    act_narrow (fetch_word a k) (case v' bs') e w = absurd w
+    act_narrow (update a v) (case v' bs') e w = absurd w
+    act_narrow (eval a) (case v' bs') e w = absurd w
+    act_narrow (apply v a) (case v' bs') e w = absurd w
+    act_narrow (call f ws) (case v' bs') e w = absurd w
+    act_narrow (prim f a b) (case v' bs') e w = absurd w
+    act_narrow read (case v' bs') e w = absurd w
+    act_narrow (write a) (case v' bs') e w = absurd w
+    act_narrow fail (case v' bs') e w = absurd w
+    act_narrow (nested b) (case v' bs') e w = absurd w
+    act_narrow (nested b) (nested b') e w = (tt, code_narrow b b' e.1 w)
+    act_narrow (unit v) (nested b'') e w = absurd w
+    act_narrow (fetch a) (nested b'') e w = absurd w
+    act_narrow (fetch_word a k) (nested b'') e w = absurd w
+    act_narrow (update a v) (nested b'') e w = absurd w
+    act_narrow (eval a) (nested b'') e w = absurd w
+    act_narrow (apply v a) (nested b'') e w = absurd w
+    act_narrow (call f ws) (nested b'') e w = absurd w
+    act_narrow (prim f a b) (nested b'') e w = absurd w
+    act_narrow read (nested b'') e w = absurd w
+    act_narrow (write a) (nested b'') e w = absurd w
+    act_narrow fail (nested b'') e w = absurd w
+    act_narrow (case v as') (nested b'') e w = absurd w
+
+    code_narrow : (b b' : Code) → EachCode GivesNodes NoVectorTarget NoVector Any b → CodeWidths most most_value b b' → EachCode Any Few Any Any b'
+    code_narrow (end o) (end o') e w = act_narrow o o' e w
+    code_narrow (end o) (store cs' b') e w = absurd w
+    code_narrow (end o) (bind t' o' b') e w = absurd w
+    code_narrow (store cs b) (store cs' b') e w = (any_cells cs', code_narrow b b' e.1 w)
+    code_narrow (store cs b) (end o') e w = absurd w
+    code_narrow (store cs b) (bind t' o' b') e w = absurd w
+    code_narrow (bind t o b) (end o') e w = absurd w
+    code_narrow (bind t o b) (store cs' b') e w = absurd w
+    code_narrow (bind t o b) (bind t' o' b') e w = (narrow_target (is_fetch o) t t' e.0 w.0, act_narrow o o' e.1 w.1, code_narrow b b' e.2 w.2)
+
+    arms_narrow : (as' bs' : Arms) → EachArms GivesNodes NoVectorTarget NoVector Any as' → ArmsWidths most most_value as' bs' → EachArms Any Few Any Any bs'
+    arms_narrow no_arm no_arm e w = tt
+    arms_narrow no_arm (arm s' b' bs') e w = absurd w
+    arms_narrow (arm s b as') no_arm e w = absurd w
+    arms_narrow (arm s b as') (arm s' b' bs') e w = (tt, code_narrow b b' e.1 w.0, arms_narrow as' bs' e.2 w.1)
+
+  procs_narrow : (qs rs : List Procedure) → AllOf (λ q. EachCode GivesNodes NoVectorTarget NoVector Any q.body) qs → Widths most most_value qs rs
+      → AllOf (λ r. EachCode Any Few Any Any r.body) rs
+  procs_narrow [] [] e w = tt
+  procs_narrow [] (r ∷ rs) e w = absurd w
+  procs_narrow (q ∷ qs) [] e w = absurd w
+  procs_narrow (q ∷ qs) (r ∷ rs) e w = (code_narrow q.body r.body e.0 w.0, procs_narrow qs rs e.1 w.1)
+
+pub narrow : (g h : Program) → Ready g → IsWhole g → Widened g h → IsNarrow h
+narrow g h ready whole widened =
+    procs_narrow (most_fields g.tags) (most_value_fields g.tags) ready.few_fields (omega (arith, ready.few_fields, few_value_fields g.tags)) g.procs h.procs whole widened.widths
+  where
+    few_value_fields : (ts : List Tag) → most_value_fields ts ≤ most_fields ts
+    few_value_fields [] = omega arith
+    few_value_fields (t ∷ ts) = omega (arith, fewer t.kind t.fields, few_value_fields ts)
+      where
+        fewer : (k : TagKind) (n : ℕ) → value_fields k n ≤ n
+        fewer kind.Con n = omega arith
+        fewer kind.Fun n = omega arith
+        fewer kind.Part n = omega arith

@@ -1,0 +1,126 @@
+-- Code that is made of a slim stage has few words.
+use Rattle.std.proofs.Common.{◌≡◌, ℕ, zero, suc, ◌+◌, ◌*◌, ◌≤◌, Bool, true, false, List, [], ◌∷◌, ◌++◌, length, Some, slice_get, refl, sym, ap, ◌∙◌, subst, arith}
+use Rattle.std.specs.Prelude.{◌==◌, if◌then◌else◌}
+use Rattle.std.proofs.lemmas.List.{length-map}
+use Rattle.arity_check.specs.Program as core
+use Rattle.grin_syntax.specs.Tree.{Code, end, store, bind, Act, unit, fetch, fetch_word, update, eval, apply, call, prim, read, write, case, nested, fail, Procedure, Program}
+use Rattle.grin_syntax.specs.SameOutside.{names_of, SameOutside}
+use Rattle.grin_meaning.specs.Slim.{Slim}
+use Rattle.apply_inline.specs.Size.{act_size, code_size, procedure_size, total, largest, size, largest_procedure}
+use Rattle.grin_opt.specs.declared.pass.PassName.{PassName}
+use Rattle.grin_opt.specs.declared.pass.PassName.TheVariants.{Translate, Eval, Apply, Vectorise}
+use Rattle.grin_translate.specs.declared.tags.Delay.TheVariants.{Calls}
+use Rattle.grin_translate.specs.declared.tags.Kind.TheVariants.{Waits}
+use Rattle.grin_translate.specs.Tags.{tag}
+use Rattle.grin_translate.specs.Translation.{global_cells, tr}
+use Rattle.low_code.specs.Tree as low
+use Rattle.low_code.specs.Size.{low_all, calls_of}
+use Rattle.low_translate.specs.Lowers.{Lowers, LowersSmall}
+use Rattle.grin_compile.specs.Stages.{shape_of, AreStages}
+
+-- ---- the procedures and global cells of a stage
+
+outside_both : (f g h : Program) → SameOutside f g → SameOutside g h → SameOutside f h
+outside_both f g h a b = record {
+  same_tags = b.same_tags ∙ a.same_tags;
+  same_globals = b.same_globals ∙ a.same_globals;
+  same_start = b.same_start ∙ a.same_start;
+  same_argument = b.same_argument ∙ a.same_argument;
+  same_names = b.same_names ∙ a.same_names;
+}
+
+outside_itself : (g : Program) → SameOutside g g
+outside_itself g = record { same_tags = refl; same_globals = refl; same_start = refl; same_argument = refl; same_names = refl }
+
+shaped_outside : (k : PassName) (g h : Program) → shape_of k g h → SameOutside g h
+shaped_outside Translate g h s = absurd s
+shaped_outside Eval g h s = absurd s
+shaped_outside Apply g h s = absurd s
+shaped_outside Vectorise g h s = s.outside
+
+pub stages_outside : (p : core.Program) (ks : List PassName) (g : Program) (hs : List Program) → AreStages p ks g hs
+    → (k : ℕ) (h : Program) → slice_get hs k ≡ Some h → SameOutside g h
+stages_outside p [] g [] are k h there = cc
+stages_outside p [] g (x ∷ hs) are k h there = absurd are
+stages_outside p (a ∷ ks) g [] are k h there = absurd are
+stages_outside p (a ∷ ks) g (x ∷ hs) are zero h there = let e : x ≡ h = cc in subst (SameOutside g) e (shaped_outside a g x are.1.0)
+stages_outside p (a ∷ ks) g (x ∷ hs) are (suc k) h there =
+    outside_both g x h (shaped_outside a g x are.1.0) (stages_outside p ks x hs are.1.1 k h there)
+
+pub as_many_procs : (g h : Program) → SameOutside g h → length h.procs ≡ length g.procs
+as_many_procs g h s = sym (named h.procs) ∙ ap length s.same_names ∙ named g.procs
+  where
+    named : (qs : List Procedure) → length (names_of qs) ≡ length qs
+    named [] = refl
+    named (q ∷ qs) = ap suc (named qs)
+
+one_more : {A : Type 0} (b : Bool) (x : A) (rest : List A) → length ((if b then x ∷ [] else []) ++ rest) ≤ 1 + length rest
+one_more true x rest = omega arith
+one_more false x rest = omega arith
+
+pub few_globals : (p : core.Program) (fs : List core.Function) (f : ℕ) → length (global_cells p fs f) ≤ length fs
+few_globals p [] f = omega arith
+few_globals p (g ∷ gs) f =
+    let here = one_more (g.params == 0) (record { name = g.name; site = record { 0 = f }; tag = tag p (Waits (Calls f)) }) (global_cells p gs (suc f)) in
+    omega (arith, here, few_globals p gs (suc f))
+
+-- ---- sizes
+
+some_act : (o : Act) → 1 ≤ act_size o
+unfolding act_size
+some_act (unit v) = omega arith
+some_act (fetch a) = omega arith
+some_act (fetch_word a i) = omega arith
+some_act (update a v) = omega arith
+some_act (eval a) = omega arith
+some_act (apply v a) = omega arith
+some_act (call f ws) = omega arith
+some_act (prim f a b) = omega arith
+some_act read = omega arith
+some_act (write a) = omega arith
+some_act (case v as') = omega arith
+some_act (nested b) = omega arith
+some_act fail = omega arith
+
+some_code : (b : Code) → 1 ≤ code_size b
+unfolding code_size
+some_code (end o) = some_act o
+some_code (store cs b) = omega (arith, some_code b)
+some_code (bind t o b) = omega (arith, some_code b)
+
+pub few_procs : (qs : List Procedure) → length qs ≤ total procedure_size qs
+few_procs [] = omega arith
+few_procs (q ∷ qs) = omega (arith, some_code q.body, few_procs qs)
+
+largest_below : (qs : List Procedure) → largest procedure_size qs ≤ total procedure_size qs
+largest_below [] = omega arith
+largest_below (q ∷ qs) = omega (arith, largest_below qs)
+
+pub largest_is_small : (g : Program) → largest_procedure g ≤ size g
+largest_is_small g = largest_below g.procs
+
+-- ---- words
+
+pub record FewParts (inlined : Program) (functions : ℕ) (l : low.Program) : Type 0 where
+  pub procs : length l.procs ≤ size inlined
+  pub globals : length l.globals ≤ functions
+  pub light : low_all l ≤ 192 * size inlined
+  pub calls : calls_of l ≤ size inlined
+
+pub few_parts : (p : core.Program) (inlined g : Program) (l : low.Program) (most : ℕ) → inlined.globals ≡ (tr p).globals
+    → SameOutside inlined g → Slim (size inlined) most g → Lowers g l → LowersSmall g l → FewParts inlined (length p.funs) l
+few_parts p inlined g l most same outside slim lowers small = record {
+  procs = omega (arith, lowers.procs, as_many_procs inlined g outside, few_procs inlined.procs);
+  globals =
+      let n : length l.globals ≡ length g.globals = ap length lowers.globals ∙ length-map g.globals _ in
+      let m : length g.globals ≡ length (tr p).globals = ap length (outside.same_globals ∙ same) in
+      omega (arith, n, m, few_globals p p.funs 0);
+  light = omega (arith, small.light, slim.light);
+  calls = omega (arith, small.few_calls, slim.few_calls);
+}
+
+pub few_words : (procs globals low_all calls size : ℕ) (words items : ℕ) → size ≤ 131072 → procs ≤ size → globals ≤ 4096
+    → low_all ≤ 192 * size → calls ≤ size
+    → items ≤ 64 * (procs + globals + 1) + 8 * low_all + 256 * calls → words ≤ items → words ≤ 268435456
+few_words procs globals low_all calls size words items fits some few light called bound placed =
+    omega (arith, fits, some, few, light, called, bound, placed)

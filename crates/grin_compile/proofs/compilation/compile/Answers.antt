@@ -1,0 +1,20 @@
+use Rattle.std.proofs.Common.{◌*◌, ap, ◌∙◌, subst}
+use Rattle.arity_check.specs.Program.{program}
+use Rattle.elf32.specs.File as elf
+use Rattle.elf32.specs.Rules.{Loads}
+use Rattle.low_code.specs.Tree as low
+use Rattle.grin_compile.specs.Limits.{whole_words}
+use Rattle.grin_compile.proofs.Whole.{compilation, made_by}
+use Rattle.grin_compile.proofs.compilation.compile.Goals as goal
+
+pub returns-clause-parts : goal.returns-clause-parts
+returns-clause-parts c =
+    let heap = 4 * (low.program_of c.in_ok-layers.layers.low).width * c.args.options.cells in
+    let stack = whole_words c.args.options.stack in
+    let code = c.as_slice.ensures.value in
+    compilation c.valid_translation_does_as.ensures (program c.args.p.now) c.requires.valid c.args.options.cells stack _ c.in_ok-stages.ensures.stages c.in_ok-layers.ensures
+    (c.in_ok-image.ensures.bytes ∙ ap (λ words. elf.file_of words heap stack) code)
+    (subst (λ words. Loads c.in_ok-image.image.items (elf.program words heap stack)) code c.in_ok-image.ensures.loads)
+
+pub returns-clause-made : goal.returns-clause-made
+returns-clause-made c = made_by (program c.args.p.now) c.args.options.cells (whole_words c.args.options.stack) _ (returns-clause-parts c)

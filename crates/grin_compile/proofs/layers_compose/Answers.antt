@@ -1,5 +1,0 @@
-use Rattle.grin_compile.proofs.Layered.{layers_compose}
-use Rattle.grin_compile.proofs.layers_compose.Goals as goal
-
-pub returns : goal.returns
-returns c = layers_compose

@@ -1,0 +1,56 @@
+-- What a compiled program holds.
+use Rattle.std.specs.Prelude.{◌≡◌, ◌*◌, ◌≤◌, ℕ, List, map, length}
+use Rattle.arity_check.specs.Program as core
+use Rattle.grin_syntax.specs.Tree as grin
+use Rattle.grin_syntax.specs.Tree.{program_of}
+use Rattle.flow_system.specs.Solution.{Solution}
+use Rattle.apply_inline.specs.Inlining.{inlined}
+use Rattle.grin_translate.specs.Translation.{tr}
+use Rattle.grin_opt.specs.declared.pass.PassName.{PassName}
+use Rattle.grin_opt.specs.declared.pass.PassName.TheVariants.{Translate, Eval, Apply, Vectorise}
+use Rattle.grin_stages.specs.Stage.{Analyses, IsStage}
+use Rattle.low_code.specs.Tree as low
+use Rattle.low_code.specs.Told.{of_low, entered_by_low}
+use Rattle.low_translate.specs.Lowers.{Lowers}
+use Rattle.register_alloc.specs.Assignment.{words_at}
+use Rattle.register_alloc.specs.Fits.{Fits}
+use Rattle.grin_compile.specs.declared.compilation.Compiled.{Compiled}
+use Rattle.grin_compile.specs.Limits.{HeapOver, FramesOver, frame_bound, heap_bytes}
+use Rattle.grin_compile.specs.Code.{start_with, IsCodeFor}
+use Rattle.grin_compile.specs.Stages.{passes, AreStages, IsLastSlim}
+use Rattle.grin_compile.specs.Made.{IsImageOf}
+
+-- the program after a stage
+abbrev pub after : Compiled → PassName → grin.Program
+after c Translate = program_of c.stages.translated
+after c Eval = program_of c.stages.evaluated
+after c Apply = program_of c.stages.applied
+after c Vectorise = program_of c.stages.vectorised
+
+-- the stages behind the inlining
+abbrev pub later : Compiled → List grin.Program
+later c = map (after c) passes
+
+-- the stages of p; the low code of the last one that is slim, with places that fit it; and an image
+-- that is made of that stage and keeps within the frames of these places
+pub record IsCompilation (p : core.Program) (cells stack : ℕ) (c : Compiled) : Type 0 where
+  pub translated : IsStage p Translate (after c Translate)
+  pub evaluated : IsStage p Eval (after c Eval)
+  pub solution : Solution
+  pub least : Analyses p solution
+  pub applied : after c Apply ≡ inlined solution (tr p)
+  pub stages : AreStages p passes (after c Apply) (later c)
+  pub g : grin.Program
+  pub last : IsLastSlim p solution (later c) g
+  pub lowers : Lowers g (low.program_of c.low)
+  pub fits : Fits (low.program_of c.low) c.places
+  pub small_frames : (f : ℕ) → 4 * words_at c.places f ≤ frame_bound p solution
+  pub addresses : List ℕ
+  pub image : IsImageOf p solution g cells stack c.code.items addresses c.image.items
+  -- the code enters the procedures of the low code at the same addresses, and the stack is full only
+  -- where its frames are more
+  pub within_frames :
+      let l = low.program_of c.low in
+      IsCodeFor (HeapOver cells) (FramesOver stack) (of_low l (words_at c.places))
+      (entered_by_low l (words_at c.places)) (length g.procs) c.code.items
+      (start_with c.code.items (heap_bytes g cells) stack) addresses

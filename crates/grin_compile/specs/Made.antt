@@ -1,0 +1,39 @@
+-- An image that is made of the last slim stage of a program: it carries the program, and enters the
+-- procedures of that stage.
+use Rattle.std.specs.Prelude.{◌≡◌, ◌≤◌, ℕ, List, length}
+use Rattle.arity_check.specs.Program as core
+use Rattle.core_meaning.specs.Told.{of_core}
+use Rattle.elf32.specs.File.{file_of, program}
+use Rattle.elf32.specs.Rules.{Loads}
+use Rattle.grin_syntax.specs.Tree.{Program}
+use Rattle.grin_meaning.specs.Told.{entered_by_grin}
+use Rattle.flow_system.specs.Solution.{Solution}
+use Rattle.apply_inline.specs.Inlining.{inlined}
+use Rattle.grin_translate.specs.Translation.{tr}
+use Rattle.grin_stages.specs.Stage.{Analyses}
+use Rattle.grin_compile.specs.Limits.{HeapOver, StackOver, frame_bound, heap_bytes}
+use Rattle.grin_compile.specs.Code.{start_with, IsCodeFor}
+use Rattle.grin_compile.specs.Stages.{passes, AreStages, IsLastSlim}
+
+-- the file of an image with so many cells and so many bytes of stack. Its words are code for p that
+-- enters the procedures of the stage g, each at its address
+pub record IsImageOf (p : core.Program) (A : Solution) (g : Program) (cells stack : ℕ)
+    (code addresses file : List ℕ) : Type 0 where
+  pub few_words : length code ≤ 268435456
+  pub is_file : file ≡ file_of code (heap_bytes g cells) stack
+  pub loads : Loads file (program code (heap_bytes g cells) stack)
+  pub code_for :
+      IsCodeFor (HeapOver cells) (StackOver (frame_bound p A) stack) (of_core p) (entered_by_grin g)
+      (length g.procs) code (start_with code (heap_bytes g cells) stack) addresses
+
+-- all of this is chosen before the input
+pub record Made (p : core.Program) (cells stack : ℕ) (file : List ℕ) : Type 0 where
+  pub solution : Solution
+  pub least : Analyses p solution
+  pub stages : List Program
+  pub stages_are : AreStages p passes (inlined solution (tr p)) stages
+  pub g : Program
+  pub last : IsLastSlim p solution stages g
+  pub code : List ℕ
+  pub addresses : List ℕ
+  pub image : IsImageOf p solution g cells stack code addresses file

@@ -1,0 +1,42 @@
+-- What the functions inside the crate have made of a program.
+use Rattle.std.specs.Prelude.{◌≡◌, ◌≤◌, ◌<◌, ◌%◌, ℕ, List, [], ◌∷◌, length}
+use Rattle.arity_check.specs.Program as core
+use Rattle.grin_syntax.specs.Tree as grin
+use Rattle.grin_syntax.specs.Tree.{program_of}
+use Rattle.flow_system.specs.Solution.{Solution}
+use Rattle.apply_inline.specs.Inlining.{inlined, inlined_size}
+use Rattle.grin_translate.specs.Translation.{tr}
+use Rattle.grin_opt.specs.declared.pass.PassName.TheVariants.{Translate, Eval}
+use Rattle.grin_stages.specs.Stage.{Analyses, IsStage}
+use Rattle.low_code.specs.Tree as low
+use Rattle.rv32_items.specs.declared.Item.{Item}
+use Rattle.grin_compile.specs.declared.stages.Stages.{Stages}
+use Rattle.grin_compile.specs.declared.layers.Layers.{Layers}
+use Rattle.grin_compile.specs.Layers.{AreLayers}
+use Rattle.grin_compile.specs.Limits.{InRange}
+use Rattle.grin_compile.specs.Lowerable.{IsLowerable}
+use Rattle.grin_compile.specs.Stages.{passes, AreStages, IsLastSlim}
+
+-- the stages of a program that is not too large, of which the last can be lowered
+pub record HasStages (p : core.Program) (s : Stages) : Type 0 where
+  pub translated : IsStage p Translate (program_of s.translated)
+  pub evaluated : IsStage p Eval (program_of s.evaluated)
+  pub solution : Solution
+  pub least : Analyses p solution
+  pub applied : program_of s.applied ≡ inlined solution (tr p)
+  pub fits : inlined_size solution (tr p) ≤ 131072
+  pub later : AreStages p passes (inlined solution (tr p)) (program_of s.vectorised ∷ [])
+  pub last : IsLastSlim p solution (program_of s.vectorised ∷ []) (program_of s.vectorised)
+  pub lowerable : IsLowerable (program_of s.vectorised)
+
+-- the cells and the bytes of stack, in whole words
+pub record AreSizes (cells stack : ℕ) : Type 0 where
+  pub range : InRange cells stack
+  pub words : stack % 4 ≡ 0
+
+-- the layers below a program of GRIN, with as much code as can be placed
+pub record HasLayers (g : grin.Program) (cells stack : ℕ) (m : Layers) : Type 0 where
+  pub items : List Item
+  pub made : AreLayers g (low.program_of m.low) m.places cells stack items m.code.items
+  pub some_words : 0 < length m.code.items
+  pub few_words : length m.code.items ≤ 268435456

@@ -1,0 +1,41 @@
+-- The stages behind the inlining, and the last one of which code can be made.
+use Rattle.std.specs.Prelude.{◌≡◌, ℕ, ◌<◌, List, [], ◌∷◌, Some, slice_get}
+use Rattle.arity_check.specs.Program as core
+use Rattle.grin_syntax.specs.Tree.{Program}
+use Rattle.grin_meaning.specs.Keeps.{Keeps}
+use Rattle.grin_meaning.specs.Slim.{Slim}
+use Rattle.flow_system.specs.Solution.{Solution}
+use Rattle.apply_inline.specs.Inlining.{inlined, inlined_size}
+use Rattle.apply_inline.specs.Size.{largest_procedure}
+use Rattle.vectorise.specs.Widened.{Widened}
+use Rattle.grin_translate.specs.Translation.{tr}
+use Rattle.grin_opt.specs.declared.pass.PassName.{PassName}
+use Rattle.grin_opt.specs.declared.pass.PassName.TheVariants.{Vectorise}
+
+-- the passes behind the inlining, in their order
+abbrev pub passes : List PassName
+passes = Vectorise ∷ []
+
+-- what a pass says of its input and its answer
+abbrev pub shape_of : PassName → Program → Program → Type 0
+shape_of Vectorise g h = Widened g h
+shape_of _ g h = ⊥
+
+-- stages behind g, one for each of these passes: each has the shape of its pass for the one before
+-- it, and does what the translation does
+abbrev pub AreStages : core.Program → List PassName → Program → List Program → Type 0
+AreStages p [] g [] = Unit {0}
+AreStages p (k ∷ ks) g (h ∷ hs) = Keeps (tr p) h × (shape_of k g h × AreStages p ks h hs)
+AreStages p _ g _ = ⊥
+
+-- slim beside the program that the inlining by A gives
+abbrev pub IsSlim : core.Program → Solution → Program → Type 0
+IsSlim p A g = Slim (inlined_size A (tr p)) (largest_procedure (inlined A (tr p))) g
+
+-- the last of these stages that is slim
+pub record IsLastSlim (p : core.Program) (A : Solution) (stages : List Program)
+    (g : Program) : Type 0 where
+  pub at : ℕ
+  pub there : slice_get stages at ≡ Some g
+  pub slim : IsSlim p A g
+  pub last : (k : ℕ) (h : Program) → at < k → slice_get stages k ≡ Some h → IsSlim p A h → ⊥

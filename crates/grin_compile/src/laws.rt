@@ -1,0 +1,29 @@
+// Laws on the layers, about definitions alone: functions without a body.
+
+ghost use Rattle.grin_compile.specs.Layers.{LayersCompose, LowCodeIsCarried, MadeFromLayers, SelectionCarries};
+ghost use Rattle.grin_translate.specs.Same.{ValidTranslationDoesAs};
+
+use grin_translate::valid_translation_does_as;
+
+/// What was selected carries low code that is never missing.
+pub fn selection_carries()
+    ensures { SelectionCarries }
+{}
+
+/// Words that are placed for items that are selected for low code are code for what the low code tells: they carry it, and enter
+/// its procedures in order, going forward.
+pub fn low_code_is_carried()
+    ensures { LowCodeIsCarried }
+{}
+
+/// They are code for each meaning that the low code tells, where its frames are within a bound.
+pub fn layers_compose()
+    ensures { LayersCompose }
+{}
+
+/// What the layers below GRIN make of the last slim stage of a program is an image of the program.
+pub fn made_from_layers()
+    ensures { MadeFromLayers }
+{
+    valid_translation_does_as();
+}

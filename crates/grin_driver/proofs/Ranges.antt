@@ -1,0 +1,87 @@
+-- What a command line asks for is within the limits.
+use Rattle.std.proofs.Common.{◌≡◌, ℕ, ◌≤◌, Bool, true, false, List, [], ◌∷◌, Option, Some, None, refl, subst, arith}
+use Rattle.std.specs.Prelude.{◌&&◌, if◌then◌else◌, nat_le, codes, IfSome, bytes_eq}
+use Rattle.std.specs.List.{list_any}
+use Rattle.std.specs.Option.{option_map, option_and_then}
+use Rattle.std.specs.Str.Parse.{digits_value}
+use Rattle.std.proofs.lemmas.Bool.Decides.{nat_tests}
+use Rattle.command_line.specs.Numbers.{is_number}
+use Rattle.command_line.specs.Parts.{Part, parts_of}
+use Rattle.command_line.specs.Commands.{CommandLine, RunFile, ListFile, ExecImage, Form, Given, number_of, cells_of, stack_of, steps_of, run_form, check_form, list_form, exec_form, asked, command_from, command_of, operands, values, takes_only, only, is_empty}
+use Rattle.grin_driver.specs.Answer.{IsWithin}
+
+-- ---- of what may be none
+
+module _ {A B : Type 0} where
+  some_and_then : (f : A → Option B) (P : A → Type 0) (Q : B → Type 0) (o : Option A) → IfSome o P → ((x : A) → P x → IfSome (f x) Q) → IfSome (option_and_then f o) Q
+  some_and_then f P Q None h k = tt
+  some_and_then f P Q (Some x) h k = k x h
+
+  some_map : (f : A → B) (P : A → Type 0) (Q : B → Type 0) (o : Option A) → IfSome o P → ((x : A) → P x → Q (f x)) → IfSome (option_map f o) Q
+  some_map f P Q None h k = tt
+  some_map f P Q (Some x) h k = k x h
+
+some_any : {A : Type 0} (o : Option A) → IfSome o (λ x. Unit {0})
+some_any None = tt
+some_any (Some x) = tt
+
+some_either : {A : Type 0} (P : A → Type 0) (b : Bool) (x y : Option A) → IfSome x P → IfSome y P → IfSome (if b then x else y) P
+some_either P true x y h k = h
+some_either P false x y h k = k
+
+-- ---- numbers of a range
+
+abbrev Within : (least most : ℕ) → ℕ → Type 0
+Within least most number = (least ≤ number) × (number ≤ most)
+
+within_test : (digits : Bool) (least most number : ℕ) → IfSome (if digits && (nat_le least number && nat_le number most) then Some number else None) (Within least most)
+within_test digits least most number = go (digits && (nat_le least number && nat_le number most)) refl
+  where
+    go : (b : Bool) → digits && (nat_le least number && nat_le number most) ≡ b → IfSome (if b then Some number else None) (Within least most)
+    go true e = (grind (arith, nat_tests), grind (arith, nat_tests))
+    go false e = tt
+
+number_in_range : (default least most : ℕ) → least ≤ default → default ≤ most → (values : List (List ℕ)) → IfSome (number_of default least most values) (Within least most)
+number_in_range default least most low high [] = (low, high)
+number_in_range default least most low high (value ∷ []) = within_test (is_number value) least most (digits_value 10 value)
+number_in_range default least most low high (value ∷ other ∷ rest) = tt
+
+-- ---- the forms
+
+runs_within : (given : Given) (file : List ℕ) → IfSome (run_form.asks given file) IsWithin
+runs_within given file =
+    some_and_then _ (Within 1 8000000) IsWithin (cells_of given) (number_in_range 1000000 1 8000000 (omega arith) (omega arith) (given (codes "heap"))) (λ cells c.
+    some_and_then _ (Within 1024 67108864) IsWithin (stack_of given) (number_in_range 1048576 1024 67108864 (omega arith) (omega arith) (given (codes "stack"))) (λ stack s.
+    some_map (RunFile file cells stack) (λ steps. Unit {0}) IsWithin (steps_of given) (some_any (steps_of given)) (λ steps n.
+    record { some_cells = c.0; few_cells = c.1; some_stack = s.0; small_stack = s.1 })))
+
+lists_within : (given : Given) (file : List ℕ) → IfSome (list_form.asks given file) IsWithin
+lists_within given file = some_map (ListFile file) (λ after. Unit {0}) IsWithin _ (some_any _) (λ after n. tt)
+
+execs_within : (given : Given) (image : List ℕ) → IfSome (exec_form.asks given image) IsWithin
+execs_within given image = some_map (ExecImage image) (λ steps. Unit {0}) IsWithin _ (some_any _) (λ steps n. tt)
+
+-- ---- the command line
+
+asked_within : (parts : List Part) (form : Form) → ((given : Given) (operand : List ℕ) → IfSome (form.asks given operand) IsWithin) → IfSome (asked parts form) IsWithin
+asked_within parts form h =
+    some_either IsWithin (takes_only form.options parts) _ None
+    (some_and_then _ (λ operand. Unit {0}) IsWithin (only (operands parts)) (some_any (only (operands parts))) (λ operand n. h (λ option. values option parts) operand)) tt
+
+from_within : (name : List ℕ) (parts : List Part) → IfSome (command_from name parts) IsWithin
+from_within name parts =
+    some_either IsWithin (bytes_eq name (codes "run")) _ _ (asked_within parts run_form runs_within)
+    (some_either IsWithin (bytes_eq name (codes "check")) _ _ (asked_within parts check_form (λ given file. tt))
+    (some_either IsWithin (bytes_eq name (codes "list")) _ _ (asked_within parts list_form lists_within)
+    (some_either IsWithin (bytes_eq name (codes "exec")) _ None (asked_within parts exec_form execs_within) tt)))
+
+commands_within : (words : List (List ℕ)) → IfSome (command_of words) IsWithin
+commands_within [] = tt
+commands_within (program ∷ []) = tt
+commands_within (program ∷ name ∷ words) =
+    some_either IsWithin (list_any is_empty (name ∷ words)) None _ tt
+    (some_and_then (command_from name) (λ parts. Unit {0}) IsWithin (parts_of words) (some_any (parts_of words)) (λ parts n. from_within name parts))
+
+-- what a line asks for is within the limits
+pub asked_is_within : (words : List (List ℕ)) (command : CommandLine) → command_of words ≡ Some command → IsWithin command
+asked_is_within words command is = subst (λ o. IfSome o IsWithin) is (commands_within words)

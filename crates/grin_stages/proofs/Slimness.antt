@@ -1,0 +1,40 @@
+-- What vectorising makes of a slim program is slim.
+use Rattle.std.proofs.Common.{◌≡◌, ℕ, ◌≤◌, ◌*◌, List, [], ◌∷◌, refl, subst, arith}
+use Rattle.arity_check.specs.Program as core
+use Rattle.grin_syntax.specs.Tree.{Procedure, Program}
+use Rattle.grin_syntax.specs.Formed.{AllOf}
+use Rattle.grin_meaning.specs.Slim.{Slim, procedure_words}
+use Rattle.flow_system.specs.Solution.{Solution}
+use Rattle.apply_inline.specs.Inlining.{inlined}
+use Rattle.apply_inline.specs.Size.{size, largest_procedure}
+use Rattle.apply_inline.specs.Small.{SlimBesideItsSize}
+use Rattle.vectorise.specs.Widened.{FewWords, Widened}
+use Rattle.grin_translate.specs.Translation.{tr}
+use Rattle.grin_opt.specs.declared.pass.PassName.{PassName}
+use Rattle.grin_opt.specs.declared.pass.PassName.TheVariants.{Vectorise}
+use Rattle.grin_stages.specs.Stage.{Analyses, IsStage, translated, evaluations_inlined, both_inlined, vectorised, VectorisedIsSlim}
+use Rattle.grin_stages.proofs.Alike.{inlined_stage}
+
+few_words : (most : ℕ) (qs rs : List Procedure) → FewWords qs rs → AllOf (λ q. procedure_words q ≤ most) qs → AllOf (λ q. procedure_words q ≤ most) rs
+few_words most [] [] f h = tt
+few_words most [] (r ∷ rs) f h = absurd f
+few_words most (q ∷ qs) [] f h = absurd f
+few_words most (q ∷ qs) (r ∷ rs) f h = (let a = f.0 in let b = h.0 in omega (arith, a, b), few_words most qs rs f.1 h.1)
+
+widened_is_slim : (s most : ℕ) (g h : Program) → Widened g h → Slim s most g → Slim s most h
+widened_is_slim s most g h w slim = record {
+  light = (let a = w.light in let b = slim.light in omega (arith, a, b));
+  few_calls = (let a = w.few_calls in let b = slim.few_calls in omega (arith, a, b));
+  few_words = few_words (20 * most) g.procs h.procs w.few_words slim.few_words;
+}
+
+stage_is_slim : SlimBesideItsSize → (p : core.Program) (upto : PassName) (h : Program) → upto ≡ Vectorise → IsStage p upto h
+    → (A : Solution) → Analyses p A → Slim (size (inlined A (tr p))) (largest_procedure (inlined A (tr p))) h
+stage_is_slim law p upto h e (vectorised {g = g} s w k) A least =
+    widened_is_slim _ _ g h w (subst (λ g'. Slim (size g') (largest_procedure g') g) (inlined_stage p g s A least) (law g))
+stage_is_slim law p upto h e translated A least = cc
+stage_is_slim law p upto h e (evaluations_inlined a) A least = cc
+stage_is_slim law p upto h e (both_inlined a) A least = cc
+
+pub vectorised_slim : SlimBesideItsSize → VectorisedIsSlim
+vectorised_slim law p h s A least = stage_is_slim law p Vectorise h refl s A least

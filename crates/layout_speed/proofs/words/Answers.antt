@@ -1,0 +1,16 @@
+use Rattle.std.proofs.Common.{◌≡◌, ◌≤◌, sym, subst, arith}
+use Rattle.rv32_items.specs.Placed.{size_of, AllPlain, LabelsStand}
+use Rattle.layout_speed.proofs.ManyBlocks.{labels_stand, all_plain, size_all}
+use Rattle.layout_speed.proofs.words.Goals as goal
+
+pub place-requires-clause-labels : goal.place-requires-clause-labels
+place-requires-clause-labels c = subst (λ is. LabelsStand is) (sym c.in_ok-asm.ensures) (labels_stand c.args.count)
+
+pub place-requires-clause-plain : goal.place-requires-clause-plain
+place-requires-clause-plain c = subst (λ is. AllPlain is) (sym c.in_ok-asm.ensures) (all_plain c.args.count)
+
+pub place-requires-clause-size : goal.place-requires-clause-size
+place-requires-clause-size c =
+    let all = size_all c.args.count in
+    let few = c.requires in
+    subst (λ is. size_of is ≤ 268435456) (sym c.in_ok-asm.ensures) (omega arith)

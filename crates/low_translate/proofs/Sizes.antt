@@ -1,0 +1,248 @@
+-- The translation is small beside the program.
+use Rattle.std.proofs.Common.{◌≡◌, ◌≤◌, ℕ, zero, suc, ◌+◌, ◌*◌, ◌-◌, min, Bool, true, false, List, [], ◌∷◌, ◌++◌, length, take, drop, refl, ap, arith, length-append}
+use Rattle.grin_syntax.specs.declared.program.Target.{Target}
+use Rattle.grin_syntax.specs.declared.program.Target.TheVariants as to
+use Rattle.grin_syntax.specs.declared.program.VarId.{VarId}
+use Rattle.grin_syntax.specs.declared.program.Cell as C
+use Rattle.grin_syntax.specs.Binders.{numbers_of, target_vars, cell_vars}
+use Rattle.grin_syntax.specs.Formed.{AllOf}
+use Rattle.grin_syntax.specs.Tree as grin
+use Rattle.grin_syntax.specs.Tree.{Act, unit, fetch, fetch_word, update, eval, apply, call, prim, read, write, case, nested, fail, end, store, bind, no_arm, arm}
+use Rattle.grin_meaning.specs.Ready.{Any, EachAct, EachCode, EachArms}
+use Rattle.grin_meaning.specs.Slim.{target_weight, act_weight, code_weight, arms_weight, procs_weight}
+use Rattle.low_code.specs.declared.program.Operand.{Operand}
+use Rattle.low_code.specs.Tree as low
+use Rattle.low_code.specs.Size.{code_size, arms_size, sizes}
+use Rattle.low_translate.specs.declared.blocks.Goal.{Goal}
+use Rattle.low_translate.specs.Translation.{operand_of, operands_of, operands_of_words, operation_of, fitted, variables_of, numbers_from, sets, load_word, stores, results_of, to_join, end_words, act_numbers, code_numbers, plain_code, through, plain_end, act_code, end_code, code_code, arms_code, procedures_code, procedure_numbers}
+use Rattle.low_translate.proofs.Numbered.{length_parts, length_past}
+use Rattle.low_translate.proofs.Operations.{length_numbers, IsPlain}
+use Rattle.low_translate.proofs.Parts.{words_many, sets_size, word_size, loads_size, first_size, saves_size, taken_size, stores_size}
+
+fitted_many : (k : ℕ) (as' : List Operand) → length (fitted k as') ≡ k
+fitted_many zero as' = refl
+fitted_many (suc k) [] = ap suc (fitted_many k [])
+fitted_many (suc k) (a ∷ as') = ap suc (fitted_many k as')
+
+numbers_many : (ys : List VarId) → length (numbers_of ys) ≡ length ys
+numbers_many [] = refl
+numbers_many (y ∷ ys) = ap suc (numbers_many ys)
+
+cells_many : (cs : List C.Cell) → length (cell_vars cs) ≡ length cs
+cells_many [] = refl
+cells_many (c ∷ cs) = ap suc (cells_many cs)
+
+target_light : (t : Target) → length (target_vars t) ≤ target_weight t
+target_light to.Nothing = omega arith
+target_light (to.Node y) = omega arith
+target_light (to.One y) = omega arith
+target_light (to.Vector ys) = let h = numbers_many ys in omega (arith, h)
+
+-- a piece whose operations go to few variables
+abbrev pub IsFew : Target → Type 0
+IsFew t = length (target_vars t) ≤ 14
+
+abbrev pub ActNarrow : Act → Type 0
+ActNarrow = EachAct Any IsFew Any Any
+
+abbrev pub CodeNarrow : grin.Code → Type 0
+CodeNarrow = EachCode Any IsFew Any Any
+
+abbrev pub ArmsNarrow : grin.Arms → Type 0
+ArmsNarrow = EachArms Any IsFew Any Any
+
+module _ (width : ℕ) (rs : List ℕ) (few_results : (f : ℕ) → results_of rs f ≤ 13) (few_fields : width ≤ 14) where
+  call_size : (f n r : ℕ) (as' : List Operand) (xs : List ℕ) (c : low.Code) → code_size (low.call f n as' (take r xs ++ numbers_from (suc n) (r - length xs)) (sets (drop r xs) [] c)) ≡ 1 + length as' + r + 3 * (length xs - r) + code_size c
+  call_size f n r as' xs c =
+      let a = length-append (take r xs) (numbers_from (suc n) (r - length xs)) in
+      let b = length_numbers (suc n) (r - length xs) in
+      let p = length_parts r xs in
+      let q = length_past r xs in
+      let s = sets_size (drop r xs) [] c in
+      omega (arith, a, b, p, q, s)
+
+  -- what an operation without blocks weighs beside its variables
+  abbrev own : Act → ℕ
+  own (unit v) = 0
+  own (fetch a) = 0
+  own (fetch_word a i) = 3
+  own (update a v) = 42
+  own (call f ws) = 14 + length ws
+  own (prim f a b) = 4
+  own read = 10
+  own (write a) = 10
+  own _ = 2
+
+  plain_size : (xs : List ℕ) (n : ℕ) (o : Act) (c : low.Code) → code_size (plain_code width rs xs n o c) ≤ own o + 3 * length xs + code_size c
+  plain_size xs n (unit v) c = let h = sets_size xs (operands_of v) c in omega (arith, h)
+  plain_size xs n (fetch a) c = let h = loads_size width xs (operand_of a) 0 c in omega (arith, h)
+  plain_size xs n (fetch_word a i) c = first_size 3 xs (λ x. load_word width x (operand_of a) i) c (λ x b. word_size width x (operand_of a) i b)
+  plain_size xs n (update a v) c =
+      let h = saves_size (operand_of a) 0 (fitted width (operands_of v)) (sets xs [] c) in
+      let k = sets_size xs [] c in
+      let m = fitted_many width (operands_of v) in
+      omega (arith, h, k, m, few_fields)
+  plain_size xs n (call f ws) c =
+      let h = call_size f.0 n (results_of rs f.0) (operands_of_words ws) xs c in
+      let k = few_results f.0 in
+      let m = words_many ws in
+      omega (arith, h, k, m)
+  plain_size xs n (prim f a b) c = first_size 4 xs (λ x. low.prim (operation_of f) x (operand_of a) (operand_of b)) c (λ x e. refl)
+  plain_size xs n read c = first_size 10 xs (λ x. low.get x) c (λ x e. refl)
+  plain_size xs n (write a) c = let h = sets_size xs [] c in omega (arith, h)
+  plain_size xs n (eval a) c = omega arith
+  plain_size xs n (apply v a) c = omega arith
+  plain_size xs n (case v as') c = omega arith
+  plain_size xs n (nested b) c = omega arith
+  plain_size xs n fail c = omega arith
+
+  -- one without blocks and no call
+  abbrev IsSingle : Act → Type 0
+  IsSingle (call f ws) = ⊥
+  IsSingle (case v as') = ⊥
+  IsSingle (nested b) = ⊥
+  IsSingle _ = Unit {0}
+
+  single_light : (k : ℕ) (o : Act) → IsSingle o → own o + 3 * end_words width rs k o + 15 ≤ 4 * act_weight o
+  unfolding act_weight
+  single_light k (unit v) s = omega arith
+  single_light k (fetch a) s = let h : min k width ≤ 14 = omega (arith, few_fields) in omega (arith, h)
+  single_light k (fetch_word a i) s = omega arith
+  single_light k (update a v) s = omega arith
+  single_light k (eval a) s = omega arith
+  single_light k (apply v a) s = omega arith
+  single_light k (call f ws) s = absurd s
+  single_light k (prim f a b) s = omega arith
+  single_light k read s = omega arith
+  single_light k (write a) s = omega arith
+  single_light k (case v as') s = absurd s
+  single_light k (nested b) s = absurd s
+  single_light k fail s = omega arith
+
+  module _ (goal : Goal) (few_words : goal.words ≤ 14) where
+    single_size : (n : ℕ) (o : Act) → IsSingle o → code_size (through width rs goal n o) ≤ 4 * act_weight o
+    single_size n o s =
+        let e : ℕ = end_words width rs goal.words o in
+        let xs : List ℕ = numbers_from n e in
+        let h = plain_size xs (n + e) o (low.give (fitted goal.words (variables_of xs))) in
+        let m = length_numbers n e in
+        let k = fitted_many goal.words (variables_of xs) in
+        let l = single_light goal.words o s in
+        omega (arith, h, m, k, l, few_words)
+
+    through_call_size : (n f : ℕ) (as' : List Operand) (r : ℕ) → r ≤ 13 →
+        code_size (low.call f (n + r) as' (take r (numbers_from n r) ++ numbers_from (suc (n + r)) (r - length (numbers_from n r))) (sets (drop r (numbers_from n r)) [] (low.give (fitted goal.words (variables_of (numbers_from n r))))))
+        ≤ 64 + 4 * length as'
+    through_call_size n f as' r le =
+        let h = call_size f (n + r) r as' (numbers_from n r) (low.give (fitted goal.words (variables_of (numbers_from n r)))) in
+        let m = length_numbers n r in
+        let k = fitted_many goal.words (variables_of (numbers_from n r)) in
+        omega (arith, h, m, k, le, few_words)
+
+    end_size : (n : ℕ) (o : Act) → IsPlain o → code_size (plain_end width rs goal n o) ≤ 4 * act_weight o
+    unfolding act_weight
+    end_size n (unit v) s = let k = fitted_many goal.words (operands_of v) in omega (arith, k, few_words)
+    end_size n fail s = omega arith
+    end_size n (eval w) s = omega arith
+    end_size n (apply v w) s = omega arith
+    end_size n (call f ws) s = by goal.leaves
+      where
+        by : (b : Bool) → code_size (elim b [ true ↦ low.tail f.0 n (operands_of_words ws) | false ↦ through width rs goal n (call f ws) ]) ≤ 4 * (16 + length ws)
+        by true = let m = words_many ws in omega (arith, m)
+        by false = let m = words_many ws in let h = through_call_size n f.0 (operands_of_words ws) (results_of rs f.0) (few_results f.0) in omega (arith, m, h)
+    end_size n (fetch a) s = single_size n (fetch a) tt
+    end_size n (fetch_word a i) s = single_size n (fetch_word a i) tt
+    end_size n (update a v) s = single_size n (update a v) tt
+    end_size n (prim f a b) s = single_size n (prim f a b) tt
+    end_size n read s = single_size n read tt
+    end_size n (write a) s = single_size n (write a) tt
+    end_size n (case v as') s = absurd s
+    end_size n (nested b) s = absurd s
+
+  own_light : (o : Act) → IsPlain o → own o ≤ 4 * act_weight o
+  unfolding act_weight
+  own_light (unit v) s = omega arith
+  own_light (fetch a) s = omega arith
+  own_light (fetch_word a i) s = omega arith
+  own_light (update a v) s = omega arith
+  own_light (eval a) s = omega arith
+  own_light (apply v a) s = omega arith
+  own_light (call f ws) s = omega arith
+  own_light (prim f a b) s = omega arith
+  own_light read s = omega arith
+  own_light (write a) s = omega arith
+  own_light (case v as') s = absurd s
+  own_light (nested b) s = absurd s
+  own_light fail s = omega arith
+
+  plain_act_size : (xs : List ℕ) (n : ℕ) (o : Act) (c : low.Code) → IsPlain o → code_size (plain_code width rs xs n o c) ≤ 4 * act_weight o + 3 * length xs + code_size c
+  plain_act_size xs n o c s = let h = plain_size xs n o c in let k = own_light o s in omega (arith, h, k)
+
+  -- ---- all pieces
+
+  mutual
+    unfolding EachAct act_code act_weight
+
+    act_light : (xs : List ℕ) (n : ℕ) (o : Act) (c : low.Code) → length xs ≤ 14 → ActNarrow o → code_size (act_code width rs xs n o c) ≤ 4 * act_weight o + 3 * length xs + code_size c
+    act_light xs n (case v as') c le h = let k = arms_light (to_join xs) n (operands_of v) as' le h.2 in omega (arith, k)
+    act_light xs n (nested b) c le h = let k = code_light (to_join xs) n b le h.1 in omega (arith, k)
+    act_light xs n (unit v) c le h = plain_act_size xs n (unit v) c tt
+    act_light xs n (fetch a) c le h = plain_act_size xs n (fetch a) c tt
+    act_light xs n (fetch_word a i) c le h = plain_act_size xs n (fetch_word a i) c tt
+    act_light xs n (update a v) c le h = plain_act_size xs n (update a v) c tt
+    act_light xs n (eval a) c le h = plain_act_size xs n (eval a) c tt
+    act_light xs n (apply v a) c le h = plain_act_size xs n (apply v a) c tt
+    act_light xs n (call f ws) c le h = plain_act_size xs n (call f ws) c tt
+    act_light xs n (prim f a b) c le h = plain_act_size xs n (prim f a b) c tt
+    act_light xs n read c le h = plain_act_size xs n read c tt
+    act_light xs n (write a) c le h = plain_act_size xs n (write a) c tt
+    act_light xs n fail c le h = plain_act_size xs n fail c tt
+
+    end_light : (goal : Goal) (n : ℕ) (o : Act) → goal.words ≤ 14 → ActNarrow o → code_size (end_code width rs goal n o) ≤ 4 * act_weight o
+    end_light goal n (case v as') le h = let k = arms_light goal n (operands_of v) as' le h.2 in omega (arith, k)
+    end_light goal n (nested b) le h = let k = code_light goal n b le h.1 in omega (arith, k)
+    end_light goal n (unit v) le h = end_size goal le n (unit v) tt
+    end_light goal n (fetch a) le h = end_size goal le n (fetch a) tt
+    end_light goal n (fetch_word a i) le h = end_size goal le n (fetch_word a i) tt
+    end_light goal n (update a v) le h = end_size goal le n (update a v) tt
+    end_light goal n (eval a) le h = end_size goal le n (eval a) tt
+    end_light goal n (apply v a) le h = end_size goal le n (apply v a) tt
+    end_light goal n (call f ws) le h = end_size goal le n (call f ws) tt
+    end_light goal n (prim f a b) le h = end_size goal le n (prim f a b) tt
+    end_light goal n read le h = end_size goal le n read tt
+    end_light goal n (write a) le h = end_size goal le n (write a) tt
+    end_light goal n fail le h = end_size goal le n fail tt
+
+    pub code_light : (goal : Goal) (n : ℕ) (b : grin.Code) → goal.words ≤ 14 → CodeNarrow b → code_size (code_code width rs goal n b) ≤ 4 * code_weight b
+    code_light goal n (end o) le h = end_light goal n o le h
+    code_light goal n (store cs b) le h =
+        let c : low.Code = code_code width rs goal n b in
+        let k = code_light goal n b le h.1 in
+        let s = stores_size width cs c few_fields in
+        let t = taken_size (cell_vars cs) (stores width cs c) in
+        let m = cells_many cs in
+        omega (arith, k, s, t, m)
+    code_light goal n (bind t o b) le h =
+        let next : ℕ = n + act_numbers width rs (length (target_vars t)) o in
+        let k = code_light goal next b le h.2 in
+        let a = act_light (target_vars t) n o (code_code width rs goal next b) h.0 h.1 in
+        let l = target_light t in
+        omega (arith, k, a, l)
+
+    arms_light : (goal : Goal) (n : ℕ) (as' : List Operand) (l : grin.Arms) → goal.words ≤ 14 → ArmsNarrow l → arms_size (arms_code width rs goal n as' l) ≤ 4 * arms_weight l + 1
+    arms_light goal n as' no_arm le h = omega arith
+    arms_light goal n as' (arm s b no_arm) le h = let k = code_light goal n b le h.1 in omega (arith, k)
+    arms_light goal n as' (arm s b (arm s' b' more)) le h =
+        let k = code_light goal n b le h.1 in
+        let m = arms_light goal (n + code_numbers width rs goal b) as' (arm s' b' more) le h.2 in
+        omega (arith, k, m)
+
+  pub procedures_light : (n : ℕ) (ks : List ℕ) (qs : List grin.Procedure) → AllOf (λ r. r ≤ 13) ks → AllOf (λ q. CodeNarrow q.body) qs → sizes (procedures_code width rs n ks qs) ≤ 4 * procs_weight qs
+  procedures_light n [] qs f h = omega arith
+  procedures_light n (k ∷ ks) [] f h = omega arith
+  procedures_light n (k ∷ ks) (q ∷ qs) f h =
+      let few = f.0 in
+      let a = code_light (record { words = k; leaves = true }) n q.body (omega (arith, few)) h.0 in
+      let m = procedures_light (n + procedure_numbers width rs k q) ks qs f.1 h.1 in
+      let p = numbers_many q.params in
+      omega (arith, a, m, p)

@@ -1,0 +1,152 @@
+-- New cells, and cells that are written over.
+use Rattle.std.proofs.Common.{◌≡◌, ◌≤◌, ℕ, zero, suc, ◌+◌, Bool, true, cond, List, [], ◌∷◌, ◌++◌, map, length, take, replicate, Option, Some, None, slice_get, refl, sym, ap, ◌∙◌, subst, arith, append-nil, append_assoc, length-append}
+use Rattle.std.specs.Prelude.{nat_eq, slice_set}
+use Rattle.std.proofs.lemmas.Bool.{eq-eqb}
+use Rattle.std.proofs.lemmas.List.{length-take, length-replicate}
+use Rattle.grin_syntax.specs.declared.program.Cell as C
+use Rattle.grin_syntax.specs.declared.program.Val as V
+use Rattle.grin_syntax.specs.Binders.{times, cell_vars}
+use Rattle.grin_syntax.specs.Formed.{AllOf}
+use Rattle.grin_syntax.specs.Tree as grin_tree
+use Rattle.grin_meaning.specs.Values as grin
+use Rattle.grin_meaning.specs.Values.{Datum, number, tag, cell, Node, Value, node, words, as_node, node_of, value_of, HeapCell}
+use Rattle.grin_meaning.specs.Run.{cells_of}
+use Rattle.grin_meaning.specs.Checks.{fills, all_fill}
+use Rattle.grin_meaning.specs.Ready.{NoNodeVar, most_fields}
+use Rattle.low_code.specs.declared.program.Operand.{Operand}
+use Rattle.low_code.specs.declared.program.Operand.TheVariants.{Var}
+use Rattle.low_code.specs.Tree as low_tree
+use Rattle.low_code.specs.Tree.{Code, take as take_cells}
+use Rattle.low_code.specs.Values as low
+use Rattle.low_code.specs.Values.{Word, Env, World, Room, need, and_then, with_vars, with_var}
+use Rattle.low_code.specs.Run.{Calls, operand, operands, code, places, with_cells, empty_cell, within_limit}
+use Rattle.low_translate.specs.Translation.{operands_of, fitted, taken, stores, saves}
+use Rattle.low_translate.specs.Lowered.{ValRanged}
+use Rattle.low_translate.proofs.Images.{images, words_of_value, fit, length_fit, zeros, cell_image, SoundNode, none_some, some_same}
+use Rattle.low_translate.proofs.Operands.{bound, with_vars_bound, Agrees, value_is, fitted_are}
+use Rattle.low_translate.proofs.Pieces.{over_zeros, over_all, saves_run, bound_other}
+use Rattle.low_translate.proofs.Deciding.{stands, stands_sound, same_cell, filled_value, left_true, right_true}
+
+-- the first operands
+operands_front : (p : low_tree.Program) (fw : ℕ → ℕ) (env : Env) (k : ℕ) (as' : List Operand) (ws : List Word) → operands p fw env as' ≡ Some ws → operands p fw env (take k as') ≡ Some (take k ws)
+operands_front p fw env zero [] ws h = ap (λ l. Some (take 0 l)) (some_same h)
+operands_front p fw env zero (a ∷ as') ws h = ap Some (sym (none ws))
+  where
+    none : (ws : List Word) → take 0 ws ≡ []
+    none [] = refl
+    none (w ∷ ws) = refl
+operands_front p fw env (suc k) [] ws h = ap (λ l. Some (take (suc k) l)) (some_same h)
+operands_front p fw env (suc k) (a ∷ as') ws h = go (operand p fw env a) refl (operands p fw env as') refl h (λ bs qs. operands_front p fw env k as' bs qs)
+  where
+    go : (o : Option Word) → operand p fw env a ≡ o → (os : Option (List Word)) → operands p fw env as' ≡ os → and_then o (λ b. and_then os (λ bs. Some (b ∷ bs))) ≡ Some ws → ((bs : List Word) → operands p fw env as' ≡ Some bs → operands p fw env (take k as') ≡ Some (take k bs)) → operands p fw env (a ∷ take k as') ≡ Some (take (suc k) ws)
+    go None q os qs m rec = absurd (none_some m)
+    go (Some b) q None qs m rec = absurd (none_some m)
+    go (Some b) q (Some bs) qs m rec = (λ i. and_then (q i) (λ b. and_then (rec bs qs i) (λ bs. Some (b ∷ bs)))) ∙ ap (λ l. Some (take (suc k) l)) (some_same m)
+
+-- cells from a on, one for each variable
+abbrev pub Placed : Env → ℕ → List C.Cell → Type 0
+Placed env a [] = Unit {0}
+Placed env a (c ∷ cs) = (env c.var.0 ≡ Some (low.cell a)) × Placed env (suc a) cs
+
+pub placed : (cs : List C.Cell) (a : ℕ) (env : Env) → ((x : ℕ) → times x (cell_vars cs) ≤ 1) → Placed (bound (cell_vars cs) (places a (cell_vars cs)) env) a cs
+placed [] a env once = tt
+placed (c ∷ cs) a env once = (
+  bound_other (cell_vars cs) (places (suc a) (cell_vars cs)) (with_var c.var.0 (low.cell a) env) c.var.0 (apart (nat_eq c.var.0 c.var.0) refl) ∙ ap (λ b. cond b (Some (low.cell a)) (env c.var.0)) (eq_here c.var.0),
+  placed cs (suc a) (with_var c.var.0 (low.cell a) env) (λ x. let h = once x in omega (arith, h)),
+)
+  where
+    eq_here : (x : ℕ) → nat_eq x x ≡ true
+    eq_here x = eq-eqb x x refl
+
+    apart : (b : Bool) → nat_eq c.var.0 c.var.0 ≡ b → times c.var.0 (cell_vars cs) ≡ 0
+    apart b e = let h : cond true 1 0 + times c.var.0 (cell_vars cs) ≤ 1 = subst (λ b. cond b 1 0 + times c.var.0 (cell_vars cs) ≤ 1) (eq_here c.var.0) (once c.var.0) in omega (arith, h)
+
+pub places_many : (a : ℕ) (xs : List ℕ) → length (places a xs) ≡ length xs
+places_many a [] = refl
+places_many a (x ∷ xs) = ap suc (places_many (suc a) xs)
+
+at_end : {A : Type 0} (pre : List A) (x : A) (rest : List A) → slice_get (pre ++ (x ∷ rest)) (length pre) ≡ Some x
+at_end [] x rest = refl
+at_end (y ∷ pre) x rest = at_end pre x rest
+
+set_end : {A : Type 0} (pre : List A) (x y : A) (rest : List A) → slice_set (pre ++ (x ∷ rest)) (length pre) y ≡ pre ++ (y ∷ rest)
+set_end [] x y rest = refl
+set_end (z ∷ pre) x y rest = ap (λ l. z ∷ l) (set_end pre x y rest)
+
+module _ (g : grin_tree.Program) (p : low_tree.Program) (fw : ℕ → ℕ) (same_globals : length p.globals ≡ length g.globals) (width : ℕ) (wide : width ≡ 1 + most_fields g.tags) (room : Room) (calls : Calls) (top : ℕ) (under : Option ℕ) where
+  abbrev runs : Env → Code → World → low.Answer
+  runs env c w = code p fw room calls env top under c w
+
+  -- the words of a value that stands for a node are those of its cell
+  pub record Noded (first : ℕ) (scope : List ℕ) (env : grin.Env) (e : Env) (v : V.Val) (n : Node) : Type 0 where
+    pub value : Value
+    pub words : operands p fw e (operands_of v) ≡ Some (images (words_of_value value))
+    pub same : fit width (images (words_of_value value)) ≡ cell_image width n
+    pub sound : SoundNode g n
+
+  pub node_is : (first : ℕ) (scope : List ℕ) (env : grin.Env) (e : Env) → Agrees first scope env e → (v : V.Val) (n : Node) → node_of g env v ≡ Some n → fills g env v ≡ true → NoNodeVar v → ValRanged v → Noded first scope env e v n
+  node_is first scope env e a v n h f nn r = go (value_of g env v) refl h
+    where
+      go : (o : Option Value) → value_of g env v ≡ o → grin.and_then o (as_node g) ≡ Some n → Noded first scope env e v n
+      go None q m = absurd (none_some m)
+      go (Some x) q m =
+          let u = value_is g p fw same_globals first scope env e a v x q nn r in
+          let s = stands g x n m in
+          record {
+            value = x;
+            words = u.words.are;
+            same = same_cell g width x n s (λ ds k. filled_value g env v x nn q f ds k n m);
+            sound = stands_sound g x n s u.sound;
+          }
+
+  -- the nodes of new cells
+  pub stores_run : (first : ℕ) (scope : List ℕ) (env : grin.Env) (e : Env) → Agrees first scope env e → (cs : List C.Cell) (hs : List HeapCell) (pre : List (List Word)) (c : Code) (w : World)
+      → cells_of g env cs ≡ Some hs → all_fill g env cs ≡ true → AllOf (λ c. NoNodeVar c.val) cs → AllOf (λ c. ValRanged c.val) cs → Placed e (length pre) cs
+      → (runs e (stores width cs c) (record w { cells = pre ++ replicate (length cs) (zeros width) }) ≡ runs e c (record w { cells = pre ++ map (λ h. cell_image width h.node) hs })) × AllOf (λ h. SoundNode g h.node) hs
+  stores_run first scope env e a [] hs pre c w h f nn r pl = subst (λ l. (runs e c (record w { cells = pre ++ [] }) ≡ runs e c (record w { cells = pre ++ map (λ h. cell_image width h.node) l })) × AllOf (λ h. SoundNode g h.node) l) (some_same h) (refl, tt)
+  stores_run first scope env e a (k ∷ cs) hs pre c w h f nn r pl = go (node_of g env k.val) refl (cells_of g env cs) refl h
+      (λ l next qs t pl'. stores_run first scope env e a cs l next c w qs t nn.1 r.1 pl')
+    where
+      go : (o : Option Node) → node_of g env k.val ≡ o → (os : Option (List HeapCell)) → cells_of g env cs ≡ os → grin.and_then (grin.and_then o (λ n. Some (record { site = k.site.0; node = n }))) (λ b. grin.and_then os (λ bs. Some (b ∷ bs))) ≡ Some hs
+          → ((l : List HeapCell) (next : List (List Word)) → cells_of g env cs ≡ Some l → all_fill g env cs ≡ true → Placed e (length next) cs
+          → (runs e (stores width cs c) (record w { cells = next ++ replicate (length cs) (zeros width) }) ≡ runs e c (record w { cells = next ++ map (λ h. cell_image width h.node) l })) × AllOf (λ h. SoundNode g h.node) l)
+          → (runs e (stores width (k ∷ cs) c) (record w { cells = pre ++ replicate (suc (length cs)) (zeros width) }) ≡ runs e c (record w { cells = pre ++ map (λ h. cell_image width h.node) hs })) × AllOf (λ h. SoundNode g h.node) hs
+      go None q os qs m rec = absurd (none_some m)
+      go (Some n) q None qs m rec = absurd (none_some m)
+      go (Some n) q (Some l) qs m rec =
+          let d = node_is first scope env e a k.val n q (left_true (fills g env k.val) (all_fill g env cs) f) nn.0 r.0 in
+          let ws : List Word = images (words_of_value d.value) in
+          let img : List Word = cell_image width n in
+          let next : List (List Word) = pre ++ img ∷ [] in
+          let one : length next ≡ suc (length pre) = length-append pre (img ∷ []) ∙ omega arith in
+          let rest = rec l next qs (right_true (fills g env k.val) (all_fill g env cs) f) (subst (λ j. Placed e j cs) (sym one) pl.1) in
+          let is : hs ≡ record { site = k.site.0; node = n } ∷ l = sym (some_same m) in
+          let step : runs e (stores width (k ∷ cs) c) (record w { cells = pre ++ (zeros width ∷ replicate (length cs) (zeros width)) }) ≡ runs e (stores width cs c) (record w { cells = next ++ replicate (length cs) (zeros width) }) =
+          saves_run p fw room calls top under (Var k.var.0) 0 (take width (operands_of k.val)) (take width ws) (length pre) (zeros width) e (stores width cs c) (record w { cells = pre ++ (zeros width ∷ replicate (length cs) (zeros width)) })
+          pl.0 (operands_front p fw e width (operands_of k.val) ws d.words) (at_end pre (zeros width) _) (omega (arith, length-take width ws, length-replicate width (low.number 0)))
+          ∙ (λ i. runs e (stores width cs c) (record w { cells = slice_set (pre ++ (zeros width ∷ replicate (length cs) (zeros width))) (length pre) ((over_zeros width ws ∙ d.same) i) }))
+          ∙ (λ i. runs e (stores width cs c) (record w { cells = (set_end pre (zeros width) img (replicate (length cs) (zeros width)) ∙ sym (append_assoc pre (img ∷ []) (replicate (length cs) (zeros width)))) i })) in (
+            step ∙ rest.0 ∙ (λ i. runs e c (record w { cells = (append_assoc pre (img ∷ []) (map (λ h. cell_image width h.node) l) ∙ ap (λ z. pre ++ map (λ h. cell_image width h.node) z) (sym is)) i })),
+            subst (AllOf (λ h. SoundNode g h.node)) (sym is) (d.sound, rest.1),
+          )
+
+  -- a cell that is written over
+  pub update_run : (first : ℕ) (scope : List ℕ) (env : grin.Env) (e : Env) → Agrees first scope env e → (b : Operand) (v : V.Val) (i : ℕ) (n : Node) (cell' : List Word) (c : Code) (w : World)
+      → operand p fw e b ≡ Some (low.cell i) → slice_get w.cells i ≡ Some cell' → length cell' ≡ width → node_of g env v ≡ Some n → fills g env v ≡ true → NoNodeVar v → ValRanged v
+      → (runs e (saves b 0 (fitted width (operands_of v)) c) w ≡ runs e c (record w { cells = slice_set w.cells i (cell_image width n) })) × SoundNode g n
+  update_run first scope env e a b v i n cell' c w hb hc hl hn f nn r =
+      let d = node_is first scope env e a v n hn f nn r in
+      let ws : List Word = images (words_of_value d.value) in
+      let many : length (fit width ws) ≡ length cell' = length_fit width ws ∙ sym hl in (
+        saves_run p fw room calls top under b 0 (fitted width (operands_of v)) (fit width ws) i cell' e c w hb (fitted_are g p fw same_globals width e (operands_of v) ws d.words) hc (omega (arith, many))
+            ∙ (λ t. runs e c (record w { cells = slice_set w.cells i ((over_all (fit width ws) cell' many ∙ d.same) t) })),
+        d.sound,
+      )
+
+  -- new cells, if any, where no limit is said
+  pub taken_run : (xs : List ℕ) (env : Env) (c : Code) (w : World) → room.cells ≡ None → runs env (taken xs c) w ≡ runs (bound xs (places (length w.cells) xs) env) c (with_cells (replicate (length xs) (empty_cell p fw)) w)
+  unfolding code
+  taken_run [] env c w nn = λ i. runs env c (record w { cells = sym (append-nil w.cells) i })
+  taken_run (x ∷ xs) env c w nn =
+      (λ i. within_limit (nn i) (length w.cells + length (x ∷ xs)) (low.stops low.heap_full w) (need (with_vars (x ∷ xs) (places (length w.cells) (x ∷ xs)) env) w (λ env'. runs env' c (with_cells (replicate (length (x ∷ xs)) (empty_cell p fw)) w))))
+      ∙ (λ i. need (with_vars_bound (x ∷ xs) (places (length w.cells) (x ∷ xs)) env (places_many (length w.cells) (x ∷ xs)) i) w (λ env'. runs env' c (with_cells (replicate (length (x ∷ xs)) (empty_cell p fw)) w)))

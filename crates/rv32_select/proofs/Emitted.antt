@@ -1,0 +1,390 @@
+-- Items of statements, ends and arms that were put behind others.
+use Rattle.std.proofs.Common.{◌≡◌, ℕ, suc, ◌+◌, ◌*◌, ◌<◌, ◌≤◌, List, [], ◌∷◌, ◌++◌, map, length, refl, sym, ap, ◌∙◌, append_assoc, append-nil, arith, zero, drop, drop-cons, get_or, subst, Some}
+use Rattle.std.specs.Prelude.{slice_get, nat_eq, ◌||◌, false}
+use Rattle.std.proofs.lemmas.List.{length-map}
+use Rattle.std.proofs.lemmas.Bool.Decides.{nat_tests}
+use Rattle.std.proofs.lemmas.Grind.{common_steps}
+use Rattle.std.specs.declared.boxed.Box.{Box}
+use Rattle.std.specs.declared.alloc.AllocError.{AllocError}
+use Rattle.std.proofs.Common.{Result, Ok, Err, OnOk}
+use Rattle.std.specs.declared.alloc.Global.{Global}
+use Rattle.parallel_move.specs.declared.Spot.{Spot}
+use Rattle.parallel_move.specs.declared.Spot.TheVariants.{Reg}
+use Rattle.low_code.specs.declared.program.PrimOp.{PrimOp}
+use Rattle.low_code.specs.declared.program.Operand.{Operand}
+use Rattle.low_code.specs.declared.program.LowStmt.{LowStmt}
+use Rattle.low_code.specs.declared.program.LowStmt.TheVariants.{Set, Prim, Load, Save, Take, Put, Get, Call, Join}
+use Rattle.low_code.specs.declared.program.LowEnd.{LowEnd}
+use Rattle.low_code.specs.declared.program.LowEnd.TheVariants.{Give, Tail, Choose, Fail}
+use Rattle.low_code.specs.declared.program.LowArm.{LowArm}
+use Rattle.low_code.specs.declared.program.LowBlock.{LowBlock}
+use Rattle.low_code.specs.declared.program.LowProc.{LowProc}
+use Rattle.low_code.specs.declared.program.Low.{Low}
+use Rattle.low_code.specs.Tree.{Code, set, prim, load, save, take, put, get, call, join, Arms, Program, procedure_of, program_of, before_of, end_of, code_of, arm_of, all_before, arms_before}
+use Rattle.low_code.proofs.TreeOf.{before_of-Set, before_of-Prim, before_of-Load, before_of-Save, before_of-Take, before_of-Put, before_of-Get, before_of-Call, before_of-Join, end_of-Give, end_of-Tail, end_of-Choose, end_of-Fail, arm_of-parts, code_of-parts}
+use Rattle.register_alloc.specs.Assignment.{Assignment, place_of, saves_at}
+use Rattle.rv32_items.specs.declared.Item.{Item}
+use Rattle.rv32_items.specs.declared.Item.TheVariants.{Label, Jump}
+use Rattle.rv32_select.specs.declared.source.Source.{Source}
+use Rattle.rv32_select.specs.declared.source.Way.{Way}
+use Rattle.rv32_select.specs.declared.source.Way.TheVariants.{Follows}
+use Rattle.rv32_select.specs.Emit.{plain, moves_code, number_moves, save_moves, restore_moves, result_spots, set_code, prim_code, load_code, save_code, take_items, put_code, get_code}
+use Rattle.rv32_select.specs.IsSelected.{source, sources, heap_end, heap_full, places, further, way_out, tests_items, no_alternative, argument_spots_of, result_spots_of, results_of, moves_between, Emits, EmitsArms}
+use Rattle.rv32_select.specs.Ranges.{IsSource, AreSpots, AllInRange, is_spot_in, Different, AreTargets}
+use Rattle.rv32_select.specs.Writable.{Writable, HasPlace, HavePlaces, OperandPlaced, OperandsPlaced, TargetsPlaced, TestsPlaced, CallPlaced, Placed, ArmsPlaced, ArmPlaced, ProcedurePlaced}
+use Rattle.rv32_select.specs.Emitting.{Moved, Sent, Called, TailCalled, Emitted, EmittedArms, Before, ArmsBefore, one_arm}
+use Rattle.rv32_select.proofs.Plain.{plain_append}
+use Rattle.rv32_select.proofs.Sending.{spots_in_range, procedure_at, drop_all}
+
+-- what is placed in a statement
+module _ (l : Program) (a : Assignment) (stmt : LowStmt) where
+  abbrev Somewhere : Type 0
+  Somewhere = (c : Code) × Placed l a (before_of stmt c)
+
+  here : (f : Code → Code) → before_of stmt ≡ f → Somewhere → (c : Code) × Placed l a (f c)
+  here f e h = (h.0, rw (sym e) h.1)
+
+  pub set_placed : (x : ℕ) (b : Operand) → stmt ≡ Set x b → Somewhere → HasPlace l a x × OperandPlaced l a b
+  set_placed x b e h = let p = here (set x b) (ap before_of e ∙ before_of-Set x b) h in (p.1.0, p.1.1)
+
+  pub prim_placed : (f : PrimOp) (x : ℕ) (b d : Operand) → stmt ≡ Prim f x b d → Somewhere → HasPlace l a x × (OperandPlaced l a b × OperandPlaced l a d)
+  prim_placed f x b d e h = let p = here (prim f x b d) (ap before_of e ∙ before_of-Prim f x b d) h in (p.1.0, (p.1.1, p.1.2))
+
+  pub load_placed : (x : ℕ) (b : Operand) (k : ℕ) → stmt ≡ Load x b k → Somewhere → HasPlace l a x × OperandPlaced l a b
+  load_placed x b k e h = let p = here (load x b k) (ap before_of e ∙ before_of-Load x b k) h in (p.1.0, p.1.1)
+
+  pub save_placed : (b : Operand) (k : ℕ) (d : Operand) → stmt ≡ Save b k d → Somewhere → OperandPlaced l a b × OperandPlaced l a d
+  save_placed b k d e h = let p = here (save b k d) (ap before_of e ∙ before_of-Save b k d) h in (p.1.0, p.1.1)
+
+  pub take_placed : (xs : List ℕ) → stmt ≡ Take xs → Somewhere → HavePlaces l a xs × (4 * l.width * length xs < 4294967296)
+  take_placed xs e h = let p = here (take xs) (ap before_of e ∙ before_of-Take xs) h in (p.1.0, p.1.1)
+
+  pub put_placed : (b : Operand) → stmt ≡ Put b → Somewhere → OperandPlaced l a b
+  put_placed b e h = let p = here (put b) (ap before_of e ∙ before_of-Put b) h in p.1.0
+
+  pub get_placed : (x : ℕ) → stmt ≡ Get x → Somewhere → HasPlace l a x
+  get_placed x e h = let p = here (get x) (ap before_of e ∙ before_of-Get x) h in p.1.0
+
+  pub call_placed : (f site : ℕ) (as' : List Operand) (xs : List ℕ) → stmt ≡ Call f site as' xs → Somewhere → CallPlaced l a f site as' xs
+  call_placed f site as' xs e h = let p = here (call f site as' xs) (ap before_of e ∙ before_of-Call f site as' xs) h in p.1.0
+
+  pub join_placed : (xs : List ℕ) (b : Box LowBlock Global) → stmt ≡ Join xs b → Somewhere → TargetsPlaced l a xs × Placed l a (code_of b.value)
+  join_placed xs b e h = let p = here (join xs (code_of b.value)) (ap before_of e ∙ before_of-Join xs b) h in (p.1.0, p.1.1)
+
+-- what is placed in a block that was taken out of a statement or an end
+pub joined_placed : (l : Program) (a : Assignment) (s : LowStmt) (xs items : List ℕ) (b : Box LowBlock Global) (block : LowBlock) → s ≡ Join xs b → items ≡ xs → block ≡ b.value → ((c : Code) × Placed l a (before_of s c)) → TargetsPlaced l a items × Placed l a (code_of block)
+joined_placed l a s xs items b block is same e h =
+    let p = join_placed l a s xs b is h in
+    (subst (TargetsPlaced l a) (sym same) p.0, subst (λ c. Placed l a (code_of c)) (sym e) p.1)
+
+-- a statement's items
+module _ (l : Program) (a : Assignment) (cells stack words saved : ℕ) (stmt : LowStmt) (old new : List Item) (n : ℕ) where
+  abbrev Done : Type 0
+  Done = Before l a cells stack words saved (before_of stmt) old n new n
+
+  done : (f : Code → Code) → before_of stmt ≡ f → Before l a cells stack words saved f old n new n → Done
+  done f e h = rw e h
+
+  pub set_done : (x : ℕ) (b : Operand) (p : Spot) (s : Source) → stmt ≡ Set x b → p ≡ place_of a x → (s ≡ source l a cells stack b) × IsSource s → new ≡ old ++ plain (set_code p s) → Done
+  set_done x b p s e at from is = done (set x b) (ap before_of e ∙ before_of-Set x b) (record {
+    items = plain (set_code (place_of a x) (source l a cells stack b));
+    is = is ∙ (λ i. old ++ plain (set_code (at i) (from.0 i)));
+    placed = λ c h. h.2;
+    emits = λ to way c k rest h. (rest, refl, h);
+  })
+
+  pub prim_done : (f : PrimOp) (x : ℕ) (b d : Operand) (p : Spot) (s t : Source) → stmt ≡ Prim f x b d → p ≡ place_of a x → (s ≡ source l a cells stack b) × IsSource s → (t ≡ source l a cells stack d) × IsSource t → new ≡ old ++ plain (prim_code f p s t) → Done
+  prim_done f x b d p s t e at from and is = done (prim f x b d) (ap before_of e ∙ before_of-Prim f x b d) (record {
+    items = plain (prim_code f (place_of a x) (source l a cells stack b) (source l a cells stack d));
+    is = is ∙ (λ i. old ++ plain (prim_code f (at i) (from.0 i) (and.0 i)));
+    placed = λ c h. h.3;
+    emits = λ to way c k rest h. (rest, refl, h);
+  })
+
+  pub load_done : (x : ℕ) (b : Operand) (k : ℕ) (p : Spot) (s : Source) → stmt ≡ Load x b k → p ≡ place_of a x → (s ≡ source l a cells stack b) × IsSource s → new ≡ old ++ plain (load_code p s k) → Done
+  load_done x b k p s e at from is = done (load x b k) (ap before_of e ∙ before_of-Load x b k) (record {
+    items = plain (load_code (place_of a x) (source l a cells stack b) k);
+    is = is ∙ (λ i. old ++ plain (load_code (at i) (from.0 i) k));
+    placed = λ c h. h.2;
+    emits = λ to way c k rest h. (rest, refl, h);
+  })
+
+  pub save_done : (b : Operand) (k : ℕ) (d : Operand) (s t : Source) → stmt ≡ Save b k d → (s ≡ source l a cells stack b) × IsSource s → (t ≡ source l a cells stack d) × IsSource t → new ≡ old ++ plain (save_code s k t) → Done
+  save_done b k d s t e from and is = done (save b k d) (ap before_of e ∙ before_of-Save b k d) (record {
+    items = plain (save_code (source l a cells stack b) k (source l a cells stack d));
+    is = is ∙ (λ i. old ++ plain (save_code (from.0 i) k (and.0 i)));
+    placed = λ c h. h.2;
+    emits = λ to way c k rest h. (rest, refl, h);
+  })
+
+  pub take_done : (xs : List ℕ) → stmt ≡ Take xs → new ≡ old ++ take_items (4 * l.width) (heap_full l a cells stack) (map (place_of a) xs) → Done
+  take_done xs e is = done (take xs) (ap before_of e ∙ before_of-Take xs) (record {
+    items = take_items (4 * l.width) (heap_full l a cells stack) (places l a cells stack xs);
+    is = is;
+    placed = λ c h. h.2;
+    emits = λ to way c k rest h. (rest, refl, h);
+  })
+
+  pub put_done : (b : Operand) (s : Source) (end : ℕ) → stmt ≡ Put b → (s ≡ source l a cells stack b) × IsSource s → end ≡ heap_end l a cells stack → new ≡ old ++ plain (put_code end s) → Done
+  put_done b s end e from at is = done (put b) (ap before_of e ∙ before_of-Put b) (record {
+    items = plain (put_code (heap_end l a cells stack) (source l a cells stack b));
+    is = is ∙ (λ i. old ++ plain (put_code (at i) (from.0 i)));
+    placed = λ c h. h.1;
+    emits = λ to way c k rest h. (rest, refl, h);
+  })
+
+  pub get_done : (x : ℕ) (p : Spot) (end : ℕ) → stmt ≡ Get x → p ≡ place_of a x → end ≡ heap_end l a cells stack → new ≡ old ++ plain (get_code end p) → Done
+  get_done x p end e at ends is = done (get x) (ap before_of e ∙ before_of-Get x) (record {
+    items = plain (get_code (heap_end l a cells stack) (place_of a x));
+    is = is ∙ (λ i. old ++ plain (get_code (ends i) (at i)));
+    placed = λ c h. h.1;
+    emits = λ to way c k rest h. (rest, refl, h);
+  })
+
+  pub call_done : (f site : ℕ) (as' : List Operand) (xs : List ℕ) → stmt ≡ Call f site as' xs → Called l a cells stack words saved f site as' xs old new → Done
+  call_done f site as' xs e c = done (call f site as' xs) (ap before_of e ∙ before_of-Call f site as' xs) (record {
+    items = _;
+    is = c.is;
+    placed = λ c h. h.1;
+    emits = λ to way b k rest h. (c.arguments, c.results, c.order, c.results_order, (rest, refl, h));
+  })
+
+pub join_done : (l : Program) (a : Assignment) (cells stack words saved : ℕ) (stmt : LowStmt) (old new : List Item) (n m : ℕ) (xs items : List ℕ) (b : Box LowBlock Global) (block : LowBlock) (r : Result (Unit {0}) AllocError) → stmt ≡ Join xs b → items ≡ xs → block ≡ b.value
+    → OnOk r (Before l a cells stack words saved (join items (code_of block)) old n new m) → OnOk r (Before l a cells stack words saved (before_of stmt) old n new m)
+join_done l a cells stack words saved stmt old new n m xs items b block (Ok t) e is same h =
+    let there : before_of stmt ≡ join items (code_of block) = ap before_of e ∙ before_of-Join xs b ∙ (λ i. join (sym is i) (code_of (sym same i))) in
+    rw there h
+join_done l a cells stack words saved stmt old new n m xs items b block (Err t) e is same h = tt
+
+pub join_made : (l : Program) (a : Assignment) (cells stack words saved : ℕ) (c : Code) (xs : List ℕ) (old mid new : List Item) (n label k m : ℕ) (to : List Spot) → to ≡ map (place_of a) xs → label ≡ n → k ≡ suc n
+    → Emitted l a cells stack words saved to (Follows label) c old k mid m → new ≡ mid ++ Label label ∷ [] → Before l a cells stack words saved (join xs c) old n new m
+join_made l a cells stack words saved c xs old mid new n label k m to at is next e then' =
+    let block : Emits l a cells stack words saved (places l a cells stack xs) (Follows n) c (suc n) m e.items = rw (sym next, sym is, sym at) e.emits in
+    record {
+      items = e.items ++ Label n ∷ [];
+      is = then' ∙ ap (λ x. mid ++ Label x ∷ []) is ∙ ap (λ x. x ++ Label n ∷ []) e.is ∙ append_assoc old e.items (Label n ∷ []);
+      placed = λ c h. h.2;
+      emits = λ to way b j rest h. (m, e.items, block, (rest, refl, h));
+    }
+
+-- what the pieces of a call ask, and what they are together
+pub take_asks : (l : Program) (a : Assignment) (xs : List ℕ) (made spots : List Spot) → Writable l a → spots ≡ made → (made ≡ map (place_of a) xs) × AreSpots made → 4 * l.width * length xs < 4294967296 → (4 * l.width < 2048) × (4 * l.width * length spots < 4294967296) × AllInRange spots
+take_asks l a xs made spots w e s lt =
+    let size : length spots ≡ length xs = ap length (e ∙ s.0) ∙ length-map xs (place_of a) in
+    (omega (arith, w.width.1), subst (λ n. 4 * l.width * n < 4294967296) (sym size) lt, subst AllInRange (sym e) (spots_in_range made s.1))
+
+pub result_at : (low : Low) (procs : List LowProc) (f : ℕ) (q : LowProc) → f < length low.procs → procs ≡ low.procs → q ≡ get_or procs f q → slice_get (program_of low).procs f ≡ Some (procedure_of q)
+result_at low procs f q lt e is = procedure_at low.procs f q lt ∙ ap (λ ps. Some (procedure_of (get_or ps f q))) (sym e) ∙ ap (λ p. Some (procedure_of p)) (sym is)
+
+-- a procedure whose items can be written, by its number
+pub placed_at : (low : Low) (a : Assignment) (procs : List LowProc) (f : ℕ) (q : LowProc) → Writable (program_of low) a → f < length low.procs → procs ≡ low.procs → q ≡ get_or procs f q → ProcedurePlaced (program_of low) a (procedure_of q)
+placed_at low a procs f q w lt e is = w.procedures f (procedure_of q) (result_at low procs f q lt e is)
+
+pub few_results : (low : Low) (a : Assignment) (procs : List LowProc) (f : ℕ) (q : LowProc) → Writable (program_of low) a → f < length low.procs → procs ≡ low.procs → q ≡ get_or procs f q → q.results ≤ 13
+few_results low a procs f q w lt e is = (placed_at low a procs f q w lt e is).few_results
+
+results_are : (r n : ℕ) → r + n ≤ 32 → AreSpots (result_spots r n)
+results_are r zero h = tt
+results_are r (suc n) h = ((let lt : r < 32 = omega arith in grind (arith, nat_tests), λ e. cc), results_are (suc r) n (omega arith))
+
+before_results : (k r n : ℕ) → k < r → is_spot_in (Reg k) (result_spots r n) ≡ false
+before_results k r zero lt = refl
+before_results k r (suc n) lt =
+    let no : nat_eq k r ≡ false = grind (arith, nat_tests) in
+    ap (λ b. b || is_spot_in (Reg k) (result_spots (suc r) n)) no ∙ before_results k (suc r) n (omega arith)
+
+results_differ : (r n : ℕ) → Different (result_spots r n)
+results_differ r zero = tt
+results_differ r (suc n) = (before_results r (suc r) n (omega arith), results_differ (suc r) n)
+
+pub result_targets : (n : ℕ) (made spots : List Spot) → n ≤ 13 → spots ≡ made → made ≡ result_spots 10 n → AreTargets spots
+result_targets n made spots few e is = subst AreTargets (sym (e ∙ is)) (record { spots = results_are 10 n (omega (arith, few)); different = results_differ 10 n })
+
+pub result_spots_are : (low : Low) (a : Assignment) (procs : List LowProc) (f : ℕ) (q : LowProc) (spots : List Spot) → Writable (program_of low) a → f < length low.procs → procs ≡ low.procs → q ≡ get_or procs f q → spots ≡ result_spots 10 q.results → AreSpots spots
+result_spots_are low a procs f q spots w lt e is s = rw s (results_are 10 q.results (let few = few_results low a procs f q w lt e is in omega (arith, few)))
+
+pub results_taken : (low : Low) (a : Assignment) (cells stack : ℕ) (procs : List LowProc) (f : ℕ) (q : LowProc) (xs : List ℕ) (to from : List Spot) (old new : List Item) → f < length low.procs → procs ≡ low.procs → q ≡ get_or procs f q
+    → (to ≡ map (place_of a) xs) × AreSpots to → from ≡ result_spots 10 q.results → Moved (moves_between to from) old new
+    → Moved (moves_between (map (place_of a) xs) (result_spots_of (program_of low) a cells stack f)) old new
+results_taken low a cells stack procs f q xs to from old new lt e is t r m =
+    let all : from ≡ result_spots_of (program_of low) a cells stack f = r ∙ ap (λ p. result_spots 10 (results_of (program_of low) a cells stack p)) (sym (result_at low procs f q lt e is)) in
+    rw (sym t.0, sym all) m
+
+pub called_by : (l : Program) (a : Assignment) (cells stack words saved f site : ℕ) (as' : List Operand) (xs : List ℕ) (registers : List ℕ) (old c1 c2 c3 c4 new : List Item) → registers ≡ saves_at a site → c1 ≡ old ++ plain (moves_code (save_moves saved registers))
+    → Sent (argument_spots_of l a cells stack f) (sources l a cells stack as') c1 c2 → c3 ≡ c2 ++ Jump 1 f ∷ [] → Moved (moves_between (map (place_of a) xs) (result_spots_of l a cells stack f)) c3 c4 → new ≡ c4 ++ plain (moves_code (restore_moves saved registers))
+    → Called l a cells stack words saved f site as' xs old new
+called_by l a cells stack words saved f site as' xs registers old c1 c2 c3 c4 new e one sent jump moved two =
+    let saves = plain (moves_code (save_moves saved (saves_at a site))) in
+    let words = plain (moves_code sent.steps ++ number_moves (argument_spots_of l a cells stack f) (sources l a cells stack as')) in
+    let results = plain (moves_code moved.steps) in
+    let restores = plain (moves_code (restore_moves saved (saves_at a site))) in
+    let first : c3 ≡ ((old ++ saves) ++ words) ++ Jump 1 f ∷ [] = jump ∙ ap (λ x. x ++ Jump 1 f ∷ []) (sent.is ∙ ap (λ x. x ++ words) (one ∙ ap (λ rs. old ++ plain (moves_code (save_moves saved rs))) e)) in
+    let whole : new ≡ ((((old ++ saves) ++ words) ++ Jump 1 f ∷ []) ++ results) ++ restores = two ∙ ap (λ rs. c4 ++ plain (moves_code (restore_moves saved rs))) e ∙ ap (λ x. x ++ restores) (moved.is ∙ ap (λ x. x ++ results) first) in
+    let left : plain (moves_code (save_moves saved (saves_at a site)) ++ (moves_code sent.steps ++ number_moves (argument_spots_of l a cells stack f) (sources l a cells stack as'))) ≡ saves ++ words = plain_append _ _ in
+    let right : plain (moves_code moved.steps ++ moves_code (restore_moves saved (saves_at a site))) ≡ results ++ restores = plain_append _ _ in
+    let shape : ((((old ++ saves) ++ words) ++ Jump 1 f ∷ []) ++ results) ++ restores ≡ old ++ ((saves ++ words) ++ Jump 1 f ∷ (results ++ restores)) = grind (arith, common_steps) in
+    record {
+      arguments = sent.steps;
+      results = moved.steps;
+      order = sent.order;
+      results_order = moved.order;
+      is = whole ∙ shape ∙ (λ i. old ++ (sym left i ++ Jump 1 f ∷ sym right i));
+    }
+
+-- ---- arms
+
+pub arm_placed : (l : Program) (a : Assignment) (t : LowArm) → ArmPlaced l a (arm_of t) → TestsPlaced l a t.tests × Placed l a (code_of t.block)
+arm_placed l a t h = subst (ArmPlaced l a) (arm_of-parts t) h
+
+pub arm_made : (l : Program) (a : Assignment) (cells stack words saved : ℕ) (to : List Spot) (way way' : Way) (t : LowArm) (old c1 mid new : List Item) (n label k m : ℕ) → label ≡ n → k ≡ suc n → way' ≡ further way → c1 ≡ old ++ tests_items l a cells stack label t.tests
+    → Emitted l a cells stack words saved to way' (code_of t.block) c1 k mid m → new ≡ mid ++ Label label ∷ []
+    → ArmsBefore l a cells stack words saved to way (one_arm (arm_of t)) old n new m
+arm_made l a cells stack words saved to way way' t old c1 mid new n label k m is next w tested e then' =
+    let block : Emits l a cells stack words saved to (further way) (code_of t.block) (suc n) m e.items = rw (sym w, sym next) e.emits in
+    let tests = tests_items l a cells stack n t.tests in
+    let all : new ≡ ((old ++ tests) ++ e.items) ++ Label n ∷ [] = then' ∙ (λ i. mid ++ Label (is i) ∷ []) ∙ ap (λ x. x ++ Label n ∷ []) (e.is ∙ ap (λ x. x ++ e.items) (tested ∙ ap (λ x. old ++ tests_items l a cells stack x t.tests) is)) in
+    let shape : ((old ++ tests) ++ e.items) ++ Label n ∷ [] ≡ old ++ (tests ++ (e.items ++ Label n ∷ [])) = grind (arith, common_steps) in
+    subst (λ p. ArmsBefore l a cells stack words saved to way (one_arm p) old n new m) (sym (arm_of-parts t)) (record {
+      items = tests ++ (e.items ++ Label n ∷ []);
+      is = all ∙ shape;
+      placed = λ as' h. h.2;
+      emits = λ as' j rest h. (m, e.items, block, (rest, refl, h));
+    })
+
+-- ---- lists of statements and of arms
+
+module _ (l : Program) (a : Assignment) (cells stack words saved : ℕ) where
+  -- items that, before those of the rest, are those of the whole
+  pub record Towards (whole rest : Code → Code) (old : List Item) (n : ℕ) (new : List Item) (m : ℕ) : Type 0 where
+    pub items : List Item
+    pub is : new ≡ old ++ items
+    pub placed : (c : Code) → Placed l a (whole c) → Placed l a (rest c)
+    pub emits : (to : List Spot) (way : Way) (c : Code) (k : ℕ) (more : List Item)
+        → Emits l a cells stack words saved to way (rest c) m k more → Emits l a cells stack words saved to way (whole c) n k (items ++ more)
+
+  pub none_yet : (whole : Code → Code) (old : List Item) (n : ℕ) → Towards whole whole old n old n
+  none_yet whole old n = record { items = []; is = sym (append-nil old); placed = λ c h. h; emits = λ to way c k more h. h }
+
+  pub one_more : (whole : Code → Code) (s : LowStmt) (rest : List LowStmt) (old mid new : List Item) (n k m : ℕ) → Towards whole (all_before (map before_of (s ∷ rest))) old n mid k → Before l a cells stack words saved (before_of s) mid k new m
+      → Towards whole (all_before (map before_of rest)) old n new m
+  one_more whole s rest old mid new n k m t b = record {
+    items = t.items ++ b.items;
+    is = b.is ∙ ap (λ x. x ++ b.items) t.is ∙ append_assoc old t.items b.items;
+    placed = λ c h. b.placed (all_before (map before_of rest) c) (t.placed c h);
+    emits = λ to way c j more h.
+        let first = t.emits to way c j (b.items ++ more) (b.emits to way (all_before (map before_of rest) c) j more h) in
+        rw (append_assoc t.items b.items more) first;
+  }
+
+  pub block_made : (b : LowBlock) (items : List LowStmt) (i : ℕ) (to : List Spot) (way : Way) (old mid new : List Item) (n k m : ℕ) → items ≡ b.stmts → length items ≤ i → Towards (all_before (map before_of items)) (all_before (map before_of (drop i items))) old n mid k
+      → Emitted l a cells stack words saved to way (end_of b.last) mid k new m → Emitted l a cells stack words saved to way (code_of b) old n new m
+  block_made b items i to way old mid new n k m is over t e =
+      let none = drop_all items i over in
+      let last : Emits l a cells stack words saved to way (all_before (map before_of (drop i items)) (end_of b.last)) k m e.items = rw none e.emits in
+      let whole = t.emits to way (end_of b.last) m e.items last in
+      rw (code_of-parts b) (record {
+        items = t.items ++ e.items;
+        is = e.is ∙ ap (λ x. x ++ e.items) t.is ∙ append_assoc old t.items e.items;
+        emits = subst (λ ss. Emits l a cells stack words saved to way (all_before (map before_of ss) (end_of b.last)) n m (t.items ++ e.items)) is whole;
+      })
+
+  -- the statement at hand is placed, and so is the end
+  pub stmt_placed : (b : LowBlock) (items : List LowStmt) (i : ℕ) (old new : List Item) (n m : ℕ) (s : LowStmt) → items ≡ b.stmts → i < length items → s ≡ get_or items i s → Towards (all_before (map before_of items)) (all_before (map before_of (drop i items))) old n new m
+      → Placed l a (code_of b) → (c : Code) × Placed l a (before_of s c)
+  stmt_placed b items i old new n m s e lt is t h =
+      let parts : Placed l a (all_before (map before_of items) (end_of b.last)) = subst (λ ss. Placed l a (all_before (map before_of ss) (end_of b.last))) (sym e) (subst (Placed l a) (code_of-parts b) h) in
+      let front : drop i items ≡ s ∷ drop (suc i) items = drop-cons items i s lt ∙ ap (λ x. x ∷ drop (suc i) items) (sym is) in
+      let here : Placed l a (before_of s (all_before (map before_of (drop (suc i) items)) (end_of b.last))) = subst (λ ss. Placed l a (all_before (map before_of ss) (end_of b.last))) front (t.placed (end_of b.last) parts) in
+      (all_before (map before_of (drop (suc i) items)) (end_of b.last), here)
+
+  pub last_placed : (b : LowBlock) (items : List LowStmt) (i : ℕ) (old new : List Item) (n m : ℕ) → items ≡ b.stmts → length items ≤ i → Towards (all_before (map before_of items)) (all_before (map before_of (drop i items))) old n new m
+      → Placed l a (code_of b) → Placed l a (end_of b.last)
+  last_placed b items i old new n m e over t h =
+      let parts : Placed l a (all_before (map before_of items) (end_of b.last)) = subst (λ ss. Placed l a (all_before (map before_of ss) (end_of b.last))) (sym e) (subst (Placed l a) (code_of-parts b) h) in
+      subst (λ ss. Placed l a (all_before (map before_of ss) (end_of b.last))) (drop_all items i over) (t.placed (end_of b.last) parts)
+
+  pub record TowardsArms (to : List Spot) (way : Way) (whole rest : Code → Arms) (old : List Item) (n : ℕ) (new : List Item) (m : ℕ) : Type 0 where
+    pub items : List Item
+    pub is : new ≡ old ++ items
+    pub placed : (c : Code) → ArmsPlaced l a (whole c) → ArmsPlaced l a (rest c)
+    pub emits : (c : Code) (k : ℕ) (more : List Item)
+        → EmitsArms l a cells stack words saved to way (rest c) m k more → EmitsArms l a cells stack words saved to way (whole c) n k (items ++ more)
+
+  pub no_arm_yet : (to : List Spot) (way : Way) (whole : Code → Arms) (old : List Item) (n : ℕ) → TowardsArms to way whole whole old n old n
+  no_arm_yet to way whole old n = record { items = []; is = sym (append-nil old); placed = λ c h. h; emits = λ c k more h. h }
+
+  pub one_more_arm : (to : List Spot) (way : Way) (whole : Code → Arms) (s : LowArm) (rest : List LowArm) (old mid new : List Item) (n k m : ℕ) → TowardsArms to way whole (arms_before (map arm_of (s ∷ rest))) old n mid k
+      → ArmsBefore l a cells stack words saved to way (one_arm (arm_of s)) mid k new m → TowardsArms to way whole (arms_before (map arm_of rest)) old n new m
+  one_more_arm to way whole s rest old mid new n k m t b = record {
+    items = t.items ++ b.items;
+    is = b.is ∙ ap (λ x. x ++ b.items) t.is ∙ append_assoc old t.items b.items;
+    placed = λ c h. b.placed (arms_before (map arm_of rest) c) (t.placed c h);
+    emits = λ c j more h.
+        let first = t.emits c j (b.items ++ more) (b.emits (arms_before (map arm_of rest) c) j more h) in
+        rw (append_assoc t.items b.items more) first;
+  }
+
+  pub arms_made : (to : List Spot) (way : Way) (whole : Code → Arms) (c : Code) (items : List LowArm) (i : ℕ) (old mid new : List Item) (n k m : ℕ) → length items ≤ i → TowardsArms to way whole (arms_before (map arm_of (drop i items))) old n mid k
+      → Emitted l a cells stack words saved to way c mid k new m → EmittedArms l a cells stack words saved to way (whole c) old n new m
+  arms_made to way whole c items i old mid new n k m over t e =
+      let last : EmitsArms l a cells stack words saved to way (arms_before (map arm_of (drop i items)) c) k m e.items = rw (drop_all items i over) e.emits in
+      record {
+        items = t.items ++ e.items;
+        is = e.is ∙ ap (λ x. x ++ e.items) t.is ∙ append_assoc old t.items e.items;
+        emits = t.emits c m e.items last;
+      }
+
+  pub arm_at_placed : (to : List Spot) (way : Way) (items : List LowArm) (i : ℕ) (c : Code) (old new : List Item) (n m : ℕ) (s : LowArm) → i < length items → s ≡ get_or items i s → TowardsArms to way (arms_before (map arm_of items)) (arms_before (map arm_of (drop i items))) old n new m
+      → ArmsPlaced l a (arms_before (map arm_of items) c) → ArmPlaced l a (arm_of s)
+  arm_at_placed to way items i c old new n m s lt is t h =
+      let front : drop i items ≡ s ∷ drop (suc i) items = drop-cons items i s lt ∙ ap (λ x. x ∷ drop (suc i) items) (sym is) in
+      let here : ArmsPlaced l a (arms_before (map arm_of (s ∷ drop (suc i) items)) c) = subst (λ ss. ArmsPlaced l a (arms_before (map arm_of ss) c)) front (t.placed c h) in
+      (here.0, here.1)
+
+  pub otherwise_placed : (to : List Spot) (way : Way) (items : List LowArm) (i : ℕ) (c : Code) (old new : List Item) (n m : ℕ) → length items ≤ i → TowardsArms to way (arms_before (map arm_of items)) (arms_before (map arm_of (drop i items))) old n new m
+      → ArmsPlaced l a (arms_before (map arm_of items) c) → Placed l a c
+  otherwise_placed to way items i c old new n m over t h =
+      subst (λ ss. ArmsPlaced l a (arms_before (map arm_of ss) c)) (drop_all items i over) (t.placed c h)
+
+  -- ---- ends
+
+  pub give_made : (e : LowEnd) (as' : List Operand) (to : List Spot) (way : Way) (old mid new : List Item) (n : ℕ) → e ≡ Give as' → Sent to (sources l a cells stack as') old mid → new ≡ mid ++ way_out words way → Emitted l a cells stack words saved to way (end_of e) old n new n
+  give_made e as' to way old mid new n is s out =
+      let piece = plain (moves_code s.steps ++ number_moves to (sources l a cells stack as')) in
+      rw (ap end_of is ∙ end_of-Give as') (record {
+        items = piece ++ way_out words way;
+        is = out ∙ ap (λ x. x ++ way_out words way) s.is ∙ append_assoc old piece (way_out words way);
+        emits = (refl, s.steps, s.order, refl);
+      })
+
+  pub tail_placed : (e : LowEnd) (f site : ℕ) (as' : List Operand) → e ≡ Tail f site as' → Placed l a (end_of e) → (f < length l.procs) × (site < length a.saves) × OperandsPlaced l a as'
+  tail_placed e f site as' is h = subst (Placed l a) (ap end_of is ∙ end_of-Tail f site as') h
+
+  pub give_placed : (e : LowEnd) (as' : List Operand) → e ≡ Give as' → Placed l a (end_of e) → OperandsPlaced l a as'
+  give_placed e as' is h = subst (Placed l a) (ap end_of is ∙ end_of-Give as') h
+
+  pub tail_made : (e : LowEnd) (f site : ℕ) (as' : List Operand) (to : List Spot) (way : Way) (old new : List Item) (n : ℕ) → e ≡ Tail f site as' → TailCalled l a cells stack words f as' old new → Emitted l a cells stack words saved to way (end_of e) old n new n
+  tail_made e f site as' to way old new n is t = rw (ap end_of is ∙ end_of-Tail f site as') (record { items = _; is = t.is; emits = (refl, t.steps, t.order, refl) })
+
+  pub choose_placed : (e : LowEnd) (arms : List LowArm) (b : Box LowBlock Global) → e ≡ Choose arms b → Placed l a (end_of e) → ArmsPlaced l a (arms_before (map arm_of arms) (code_of b.value))
+  choose_placed e arms b is h = subst (Placed l a) (ap end_of is ∙ end_of-Choose arms b) h
+
+  pub choose_made : (e : LowEnd) (arms : List LowArm) (b : Box LowBlock Global) (to : List Spot) (way : Way) (old new : List Item) (n m : ℕ) → e ≡ Choose arms b → EmittedArms l a cells stack words saved to way (arms_before (map arm_of arms) (code_of b.value)) old n new m
+      → Emitted l a cells stack words saved to way (end_of e) old n new m
+  choose_made e arms b to way old new n m is t = rw (ap end_of is ∙ end_of-Choose arms b) (record { items = t.items; is = t.is; emits = t.emits })
+
+  pub fail_made : (e : LowEnd) (to : List Spot) (way : Way) (old new : List Item) (n : ℕ) → e ≡ Fail → new ≡ old ++ Jump 0 (no_alternative l a cells stack) ∷ [] → Emitted l a cells stack words saved to way (end_of e) old n new n
+  fail_made e to way old new n is put' = rw (ap end_of is ∙ end_of-Fail) (record { items = Jump 0 (no_alternative l a cells stack) ∷ []; is = put'; emits = (refl, refl) })
+
+pub chosen_placed : (l : Program) (a : Assignment) (e : LowEnd) (arms items : List LowArm) (b : Box LowBlock Global) (block : LowBlock) → e ≡ Choose arms b → items ≡ arms → block ≡ b.value → Placed l a (end_of e) → ArmsPlaced l a (arms_before (map arm_of items) (code_of block))
+chosen_placed l a e arms items b block is are same h =
+    let p : ArmsPlaced l a (arms_before (map arm_of arms) (code_of b.value)) = subst (Placed l a) (ap end_of is ∙ end_of-Choose arms b) h in
+    subst (λ c. ArmsPlaced l a (arms_before (map arm_of items) (code_of c))) (sym same) (subst (λ ts. ArmsPlaced l a (arms_before (map arm_of ts) (code_of b.value))) (sym are) p)
+
+pub called_there : (low : Low) (a : Assignment) (e : LowEnd) (f site : ℕ) (as' : List Operand) → e ≡ Tail f site as' → Placed (program_of low) a (end_of e) → f < length low.procs
+called_there low a e f site as' is h =
+    let p : (f < length (program_of low).procs) × (site < length a.saves) × OperandsPlaced (program_of low) a as' = subst (Placed (program_of low) a) (ap end_of is ∙ end_of-Tail f site as') h in
+    let same : length (program_of low).procs ≡ length low.procs = length-map low.procs procedure_of in
+    omega (arith, p.0, same)
+
+pub ruleset emitted = (set_placed, prim_placed, load_placed, save_placed, take_placed, put_placed, get_placed, call_placed, join_placed, set_done, prim_done, load_done, save_done, take_done, put_done, get_done, call_done, join_made, take_asks, few_results, result_spots_are, results_taken, called_by, arm_placed, arm_made, give_placed, give_made, tail_placed, tail_made, choose_placed, choose_made, fail_made, none_yet, no_arm_yet)

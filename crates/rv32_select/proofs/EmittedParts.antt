@@ -1,0 +1,217 @@
+-- The items of a block: its labels, where they go, and how many words they take.
+use Rattle.std.proofs.Common.{◌≡◌, ℕ, suc, ◌+◌, ◌*◌, ◌<◌, ◌≤◌, List, [], ◌∷◌, ◌++◌, length, ◌⊎◌, inl, inr, refl, sym, subst, arith, length-append, append_assoc}
+use Rattle.std.specs.Prelude.{pos}
+use Rattle.std.proofs.lemmas.List.{length-map}
+use Rattle.rv32_isa.specs.declared.instr.Instr.{Instr}
+use Rattle.rv32_isa.specs.declared.instr.Instr.TheVariants.{Jalr}
+use Rattle.parallel_move.specs.declared.Spot.{Spot}
+use Rattle.parallel_move.specs.declared.Move.{Move}
+use Rattle.low_code.specs.declared.program.Operand.{Operand}
+use Rattle.low_code.specs.declared.program.LowTest.{LowTest}
+use Rattle.low_code.specs.Tree.{Code, set, prim, load, save, take, put, get, call, join, give, tail, choose, fail, Arms, otherwise, arm, Program}
+use Rattle.low_code.specs.Formed.{calls_in, arms_calls}
+use Rattle.low_code.specs.Size.{code_size, arms_size, FewTests, ArmsFewTests}
+use Rattle.register_alloc.specs.Assignment.{Assignment, place_of, saves_at}
+use Rattle.rv32_items.specs.declared.Item.{Item}
+use Rattle.rv32_items.specs.declared.Item.TheVariants.{Label, Plain, Jump}
+use Rattle.rv32_select.specs.declared.source.Way.{Way}
+use Rattle.rv32_select.specs.declared.source.Way.TheVariants.{Returns, Follows, Jumps}
+use Rattle.rv32_select.specs.Emit.{plain, moves_code, spot_moves, number_moves, take_items, leave_code, save_moves, restore_moves, test_items}
+use Rattle.rv32_select.specs.IsSelected.{IsOrder, moves_between, heap_end, heap_full, step, no_alternative, source, sources, places, argument_spots_of, result_spots_of, further, way_out, tests_items, call_items, Emits, EmitsArms}
+use Rattle.rv32_select.specs.Writable.{Placed, ArmsPlaced}
+use Rattle.rv32_select.proofs.StaticPieces.{Piece, piece_append, piece_more, set_piece, prim_piece, load_word_piece, save_word_piece, put_piece, get_piece, leave_piece, save_piece, restore_piece}
+use Rattle.rv32_select.proofs.EmittedLabels.{emits_up}
+use Rattle.rv32_select.proofs.Parts.{sent_code, between_code, Part, inside_part, code_part, part_append, part_more, part_then, part_under, jump_part, take_part, test_part, closed_part, tested_part}
+
+-- the label behind a block
+abbrev pub IsWay : Way → ℕ → Type 0
+IsWay Returns l = ⊥
+IsWay (Follows n) l = n ≡ l
+IsWay (Jumps n) l = n ≡ l
+
+module _ (l : Program) (a : Assignment) (cells stack : ℕ) where
+  abbrev procs : ℕ
+  procs = length l.procs
+
+  -- the labels to which a block goes that stand elsewhere: those of procedures and stops, and the one behind it
+  abbrev pub Outer : Way → ℕ → Type 0
+  Outer way k = (k < 3 + procs) ⊎ IsWay way k
+
+  same_way : (way : Way) (k : ℕ) → Outer (further way) k → Outer way k
+  same_way Returns k h = h
+  same_way (Follows n) k h = h
+  same_way (Jumps n) k h = h
+
+  module _ (words saved : ℕ) where
+    -- the most words that a block's items take
+    abbrev most : Code → ℕ
+    most c = 8 * code_size c + 256 * length (calls_in c)
+
+    abbrev arms_most : Arms → ℕ
+    arms_most as' = 8 * arms_size as' + 256 * length (arms_calls as')
+
+    abbrev Block : (way : Way) → Code → (n m : ℕ) → List Item → Type 0
+    Block way c n m items = Part procs (Outer way) n m (most c) (FewTests c) items
+
+    abbrev ArmsBlock : (way : Way) → Arms → (n m : ℕ) → List Item → Type 0
+    ArmsBlock way as' n m items = Part procs (Outer way) n m (arms_most as') (ArmsFewTests as') items
+
+    sources_length : (os : List Operand) → length (sources l a cells stack os) ≡ length os
+    sources_length os = length-map os (source l a cells stack)
+
+    places_length : (xs : List ℕ) → length (places l a cells stack xs) ≡ length xs
+    places_length xs = length-map xs (place_of a)
+
+    call_part : (way : Way) (Few : Type 0) (f site : ℕ) (os : List Operand) (xs : List ℕ) (arguments results : List Move) (n : ℕ) → f < procs → length (saves_at a site) ≤ 24
+        → IsOrder arguments (spot_moves (argument_spots_of l a cells stack f) (sources l a cells stack os))
+        → IsOrder results (moves_between (places l a cells stack xs) (result_spots_of l a cells stack f))
+        → Part procs (Outer way) n n (147 + 6 * length os + 6 * length xs) Few (call_items l a cells stack words saved f os (saves_at a site) arguments results)
+    call_part way Few f site os xs arguments results n lt few order results_order =
+        let rs = saves_at a site in
+        let to = argument_spots_of l a cells stack f in
+        let from = sources l a cells stack os in
+        let e1 = sources_length os in
+        let e2 = places_length xs in
+        let before = moves_code (save_moves saved rs) ++ (moves_code arguments ++ number_moves to from) in
+        let behind = moves_code results ++ moves_code (restore_moves saved rs) in
+        let p = piece_append (3 * length rs) (6 * length from) (moves_code (save_moves saved rs)) (moves_code arguments ++ number_moves to from) (save_piece saved rs) (sent_code arguments to from order) in
+        let q = piece_append (6 * length (places l a cells stack xs)) (3 * length rs) (moves_code results) (moves_code (restore_moves saved rs)) (between_code results (places l a cells stack xs) (result_spots_of l a cells stack f) results_order) (restore_piece saved rs) in
+        part_more procs (Outer way) Few n n (3 * length rs + 6 * length from + (3 + (6 * length (places l a cells stack xs) + 3 * length rs))) (147 + 6 * length os + 6 * length xs) _ (omega (arith, few, e1, e2))
+        (part_append procs (Outer way) Few n n n (3 * length rs + 6 * length from) (3 + (6 * length (places l a cells stack xs) + 3 * length rs)) (plain before) (Jump 1 f ∷ plain behind)
+        (code_part procs (Outer way) Few n _ before p)
+        (part_append procs (Outer way) Few n n n 3 (6 * length (places l a cells stack xs) + 3 * length rs) (Jump 1 f ∷ []) (plain behind)
+        (jump_part procs (Outer way) Few n 1 f (inl (omega (arith, lt))) (λ e. lt))
+        (code_part procs (Outer way) Few n _ behind q)))
+
+    -- a return, or the way to the label behind
+    out_part : (way : Way) (Few : Type 0) (n : ℕ) → Part procs (Outer way) n n 5 Few (way_out words way)
+    out_part Returns Few n =
+        let p = leave_piece words in
+        let q = code_part procs (Outer Returns) Few n 4 (leave_code words) p in
+        part_append procs (Outer Returns) Few n n n 4 1 (plain (leave_code words)) (Plain (Jalr 0 1 (pos 0)) ∷ []) q
+        (record { counts = λ k. omega arith; goes = (refl, tt); size = λ f. omega arith })
+    out_part (Follows k) Few n = record { counts = λ j. omega arith; goes = tt; size = λ f. omega arith }
+    out_part (Jumps k) Few n =
+        part_more procs (Outer (Jumps k)) Few n n 3 5 _ (omega arith) (jump_part procs (Outer (Jumps k)) Few n 0 k (inr refl) (λ e. absurd (cc)))
+
+    give_part : (to : List Spot) (way : Way) (Few : Type 0) (os : List Operand) (steps : List Move) (n : ℕ) → IsOrder steps (spot_moves to (sources l a cells stack os))
+        → Part procs (Outer way) n n (6 * length os + 5) Few (plain (moves_code steps ++ number_moves to (sources l a cells stack os)) ++ way_out words way)
+    give_part to way Few os steps n order =
+        let from = sources l a cells stack os in
+        let e = sources_length os in
+        let p = piece_more (6 * length from) (6 * length os) _ (omega (arith, e)) (sent_code steps to from order) in
+        part_append procs (Outer way) Few n n n (6 * length os) 5 (plain (moves_code steps ++ number_moves to from)) (way_out words way) (code_part procs (Outer way) Few n _ _ p) (out_part way Few n)
+
+    tail_part : (way : Way) (Few : Type 0) (f : ℕ) (os : List Operand) (steps : List Move) (n : ℕ) → f < procs → IsOrder steps (spot_moves (argument_spots_of l a cells stack f) (sources l a cells stack os))
+        → Part procs (Outer way) n n (6 * length os + 7) Few (plain (moves_code steps ++ (number_moves (argument_spots_of l a cells stack f) (sources l a cells stack os) ++ leave_code words)) ++ Jump 0 f ∷ [])
+    tail_part way Few f os steps n lt order =
+        let to = argument_spots_of l a cells stack f in
+        let from = sources l a cells stack os in
+        let e = sources_length os in
+        let sent = sent_code steps to from order in
+        let p = piece_append (6 * length from) 4 (moves_code steps ++ number_moves to from) (leave_code words) sent (leave_piece words) in
+        let same : (moves_code steps ++ number_moves to from) ++ leave_code words ≡ moves_code steps ++ (number_moves to from ++ leave_code words) = append_assoc (moves_code steps) (number_moves to from) (leave_code words) in
+        let q = piece_more (6 * length from + 4) (6 * length os + 4) _ (omega (arith, e)) (subst (Piece (6 * length from + 4)) same p) in
+        part_more procs (Outer way) Few n n (6 * length os + 4 + 3) (6 * length os + 7) _ (omega arith)
+        (part_append procs (Outer way) Few n n n (6 * length os + 4) 3 (plain (moves_code steps ++ (number_moves to from ++ leave_code words))) (Jump 0 f ∷ [])
+        (code_part procs (Outer way) Few n _ _ q)
+        (jump_part procs (Outer way) Few n 0 f (inl (omega (arith, lt))) (λ e. absurd (cc))))
+
+    tests_part : (Few : Type 0) (n next : ℕ) (ts : List LowTest) → Part procs (λ k. next ≡ k) n n (8 * length ts) Few (tests_items l a cells stack next ts)
+    tests_part Few n next [] = record { counts = λ k. omega arith; goes = tt; size = λ f. omega arith }
+    tests_part Few n next (t ∷ ts) =
+        part_more procs (λ k. next ≡ k) Few n n (8 + 8 * length ts) (8 * length (t ∷ ts)) _ (omega arith)
+        (part_append procs (λ k. next ≡ k) Few n n n 8 (8 * length ts) (test_items next (source l a cells stack t.left) t.right) (tests_items l a cells stack next ts)
+        (test_part procs (λ k. next ≡ k) Few n next (source l a cells stack t.left) t.right refl)
+        (tests_part Few n next ts))
+
+    -- a statement's code, and the block behind it
+    coded : (way : Way) (n m j more bound : ℕ) (Few : Type 0) (code : List Instr) (rest items : List Item) → j + more ≤ bound → Piece j code → items ≡ plain code ++ rest → Part procs (Outer way) n m more Few rest
+        → Part procs (Outer way) n m bound Few items
+    coded way n m j more bound Few code rest items le p e q =
+        part_then procs (Outer way) Few n n m j more bound (plain code) rest items e le (code_part procs (Outer way) Few n j code p) q
+
+    -- the end of a block
+    ended : (way : Way) (n m k bound : ℕ) (Few : Type 0) (piece items : List Item) → m ≡ n → items ≡ piece → k ≤ bound → Part procs (Outer way) n n k Few piece → Part procs (Outer way) n m bound Few items
+    ended way n m k bound Few piece items e is le p =
+        subst (λ j. Part procs (Outer way) n j bound Few items) (sym e)
+        (subst (Part procs (Outer way) n n bound Few) (sym is) (part_more procs (Outer way) Few n n k bound piece le p))
+
+    -- a joined block with its label, and the block behind it
+    joined : (way : Way) (xs : List ℕ) (b c : Code) (n k m : ℕ) (block rest items : List Item) → 3 + procs ≤ n → Block (Follows n) b (suc n) k block → Block way c k m rest
+        → items ≡ (block ++ Label n ∷ []) ++ rest → Block way (join xs b c) n m items
+    joined way xs b c n k m block rest items le p q e =
+        let Few = FewTests (join xs b c) in
+        let both = length-append (calls_in b) (calls_in c) in
+        let first = closed_part procs (Outer way) (FewTests b) (Outer (Follows n)) n k (most b) block (omega (arith, le)) near p in
+        part_then procs (Outer way) Few n k m (most b) (most c) (most (join xs b c)) (block ++ Label n ∷ []) rest items e (omega (arith, both))
+        (part_under procs (Outer way) (FewTests b) Few n k (most b) (block ++ Label n ∷ []) (λ f. f.0) first)
+        (part_under procs (Outer way) (FewTests c) Few k m (most c) rest (λ f. f.1) q)
+      where
+        near : (j : ℕ) → Outer (Follows n) j → (n ≡ j) ⊎ Outer way j
+        near j (inl lt) = inr (inl lt)
+        near j (inr h) = inl h
+
+    -- an arm, and the arms behind it
+    chosen : (way : Way) (ts : List LowTest) (c : Code) (as' : Arms) (n k m : ℕ) (block rest items : List Item) → 3 + procs ≤ n → Block (further way) c (suc n) k block → ArmsBlock way as' k m rest
+        → items ≡ (tests_items l a cells stack n ts ++ (block ++ Label n ∷ [])) ++ rest → ArmsBlock way (arm ts c as') n m items
+    chosen way ts c as' n k m block rest items le p q e =
+        let Few = ArmsFewTests (arm ts c as') in
+        let le' : procs ≤ n = omega (arith, le) in
+        let tests = tests_items l a cells stack n ts in
+        let both = length-append (calls_in c) (arms_calls as') in
+        let closed = closed_part procs (Outer way) (FewTests c) (Outer (further way)) n k (most c) block le' (λ j h. inr (same_way way j h)) p in
+        let t = tests_part Few n n ts in
+        let two : Part procs (λ j. n ≡ j) n n 16 Few tests = record { counts = t.counts; goes = t.goes; size = λ f. let few : length ts ≤ 2 = f.0 in let s = t.size f in omega (arith, few, s) } in
+        part_then procs (Outer way) Few n k m (16 + most c) (arms_most as') (arms_most (arm ts c as')) (tests ++ (block ++ Label n ∷ [])) rest items e (omega (arith, both))
+        (tested_part procs (Outer way) Few n k 16 (most c) tests block le' two (inside_part procs (suc n) k block (omega (arith, le)) p.counts)
+        (part_under procs (Outer way) (FewTests c) Few n k (most c) (block ++ Label n ∷ []) (λ f. f.1) closed))
+        (part_under procs (Outer way) (ArmsFewTests as') Few k m (arms_most as') rest (λ f. f.2) q)
+
+    mutual
+      pub block_part : (c : Code) (to : List Spot) (way : Way) (n m : ℕ) (items : List Item) → 3 + procs ≤ n → Placed l a c → Emits l a cells stack words saved to way c n m items → Block way c n m items
+      block_part (set x b c) to way n m items le p h =
+          coded way n m 6 (most c) (most (set x b c)) (FewTests c) _ h.0 items (omega arith) (set_piece (place_of a x) (source l a cells stack b)) h.1 (block_part c to way n m h.0 le p.2 h.2)
+      block_part (prim f x b d c) to way n m items le p h =
+          coded way n m 11 (most c) (most (prim f x b d c)) (FewTests c) _ h.0 items (omega arith) (prim_piece f (place_of a x) (source l a cells stack b) (source l a cells stack d)) h.1 (block_part c to way n m h.0 le p.3 h.2)
+      block_part (load x b k c) to way n m items le p h =
+          coded way n m 7 (most c) (most (load x b k c)) (FewTests c) _ h.0 items (omega arith) (load_word_piece (place_of a x) (source l a cells stack b) k) h.1 (block_part c to way n m h.0 le p.2 h.2)
+      block_part (save b k d c) to way n m items le p h =
+          coded way n m 7 (most c) (most (save b k d c)) (FewTests c) _ h.0 items (omega arith) (save_word_piece (source l a cells stack b) k (source l a cells stack d)) h.1 (block_part c to way n m h.0 le p.2 h.2)
+      block_part (take xs c) to way n m items le p h =
+          let e = places_length xs in
+          part_then procs (Outer way) (FewTests c) n n m (7 + 6 * length (places l a cells stack xs)) (most c) (most (take xs c)) (take_items (step l a cells stack) (heap_full l a cells stack) (places l a cells stack xs)) h.0 items h.1 (omega (arith, e))
+          (take_part procs (Outer way) (FewTests c) n (step l a cells stack) (heap_full l a cells stack) (places l a cells stack xs) (inl (omega arith)))
+          (block_part c to way n m h.0 le p.2 h.2)
+      block_part (put b c) to way n m items le p h =
+          coded way n m 21 (most c) (most (put b c)) (FewTests c) _ h.0 items (omega arith) (put_piece (heap_end l a cells stack) (source l a cells stack b)) h.1 (block_part c to way n m h.0 le p.1 h.2)
+      block_part (get x c) to way n m items le p h =
+          coded way n m 27 (most c) (most (get x c)) (FewTests c) _ h.0 items (omega arith) (get_piece (heap_end l a cells stack) (place_of a x)) h.1 (block_part c to way n m h.0 le p.1 h.2)
+      block_part (call f site os xs c) to way n m items le p h =
+          let called = p.0 in
+          part_then procs (Outer way) (FewTests c) n n m (147 + 6 * length os + 6 * length xs) (most c) (most (call f site os xs c)) (call_items l a cells stack words saved f os (saves_at a site) h.0 h.1) h.4.0 items h.4.1 (omega arith)
+          (call_part way (FewTests c) f site os xs h.0 h.1 n called.0 called.3 h.2 h.3)
+          (block_part c to way n m h.4.0 le p.1 h.4.2)
+      block_part (join xs b c) to way n m items le p h =
+          let up = emits_up l a cells stack words saved b (places l a cells stack xs) (Follows n) (suc n) h.0 h.1 h.2 in
+          let first = block_part b (places l a cells stack xs) (Follows n) (suc n) h.0 h.1 (omega (arith, le)) p.1 h.2 in
+          let rest = block_part c to way h.0 m h.3.0 (omega (arith, le, up)) p.2 h.3.2 in
+          joined way xs b c n h.0 m h.1 h.3.0 items le first rest h.3.1
+      block_part (give os) to way n m items le p h =
+          let e = h.0 in
+          ended way n m (6 * length os + 5) (most (give os)) (FewTests (give os)) _ items e h.3 (omega arith) (give_part to way (FewTests (give os)) os h.1 n h.2)
+      block_part (tail f site os) to way n m items le p h =
+          let e = h.0 in
+          ended way n m (6 * length os + 7) (most (tail f site os)) (FewTests (tail f site os)) _ items e h.3 (omega arith) (tail_part way (FewTests (tail f site os)) f os h.1 n p.0 h.2)
+      block_part (choose as') to way n m items le p h =
+          part_more procs (Outer way) (ArmsFewTests as') n m (arms_most as') (most (choose as')) items (omega arith) (arms_part as' to way n m items le p h)
+      block_part fail to way n m items le p h =
+          ended way n m 3 (most fail) (FewTests fail) _ items h.0 h.1 (omega arith) (jump_part procs (Outer way) (FewTests fail) n 0 (no_alternative l a cells stack) (inl (omega arith)) (λ e. absurd (cc)))
+
+      pub arms_part : (as' : Arms) (to : List Spot) (way : Way) (n m : ℕ) (items : List Item) → 3 + procs ≤ n → ArmsPlaced l a as' → EmitsArms l a cells stack words saved to way as' n m items → ArmsBlock way as' n m items
+      arms_part (otherwise c) to way n m items le p h = block_part c to way n m items le p h
+      arms_part (arm ts c as') to way n m items le p h =
+          let up = emits_up l a cells stack words saved c to (further way) (suc n) h.0 h.1 h.2 in
+          let first = block_part c to (further way) (suc n) h.0 h.1 (omega (arith, le)) p.1 h.2 in
+          let rest = arms_part as' to way h.0 m h.3.0 (omega (arith, le, up)) p.2 h.3.2 in
+          chosen way ts c as' n h.0 m h.1 h.3.0 items le first rest h.3.1

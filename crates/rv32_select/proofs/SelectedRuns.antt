@@ -1,0 +1,64 @@
+-- Selected items do what low code does, whatever their layout: their courses follow its runs and arrive where those do, and each
+-- return goes home.
+use Rattle.std.proofs.Common.{ℕ, List, [], length}
+use Rattle.headline.specs.Carries.{IsBytes}
+use Rattle.rv32_steps.specs.Trace.{procedures_at}
+use Rattle.low_code.specs.Tree.{Program}
+use Rattle.low_code.specs.Run.{limited, NeverMissing}
+use Rattle.register_alloc.specs.Assignment.{Assignment, words_at}
+use Rattle.rv32_items.specs.declared.Item.{Item}
+use Rattle.rv32_items.specs.Course.{Layout, course}
+use Rattle.rv32_items.specs.Placed.{Rises}
+use Rattle.rv32_items.specs.Told.{ReturnsHome}
+use Rattle.rv32_select.specs.IsSelected.{IsSelected}
+use Rattle.rv32_select.specs.Laws.{SelectedItemsDo}
+use Rattle.rv32_select.specs.Selectable.{Selectable}
+use Rattle.rv32_select.specs.Selects.{BelowHeap, start_at, Follows, Arrives}
+use Rattle.rv32_select.proofs.PlaceFacts.{Setting}
+use Rattle.rv32_select.proofs.WholeRun.{Started}
+use Rattle.rv32_select.proofs.Dynamics.{selected_follows, selected_arrives, selected_home}
+use Rattle.rv32_select.proofs.SelectedSetting.{selected_setting, selected_start}
+use Rattle.rv32_select.proofs.Statics.{begins, selected_statics}
+
+-- what is known of the courses of selected items, whatever their layout, where these are the labels of procedures
+pub record SelectedRuns (l : Program) (a : Assignment) (cells stack : ℕ) (items : List Item) (begins : List ℕ) : Type 0 where
+  pub follows : (lay : Layout) → Rises items lay → BelowHeap lay → (i : List ℕ) → IsBytes i → (k : ℕ) →
+      let c = course lay items k i (start_at l.width cells stack lay) in
+      Follows begins i (limited l (words_at a) cells stack i (length (procedures_at begins c.passed))) c
+  pub arrives : (lay : Layout) → Rises items lay → BelowHeap lay → (i : List ℕ) → IsBytes i → (n : ℕ) →
+      (k : ℕ) × Arrives i (limited l (words_at a) cells stack i n) (course lay items k i (start_at l.width cells stack lay))
+  pub home : (lay : Layout) → Rises items lay → BelowHeap lay → (i : List ℕ) → IsBytes i → (k : ℕ) →
+      ReturnsHome lay items k i (start_at l.width cells stack lay) []
+
+module _ (l : Program) (a : Assignment) (cells stack : ℕ) (items : List Item) (fine : Selectable l a cells stack) (s : IsSelected l a cells stack items) where
+  setting : (lay : Layout) → Rises items lay → BelowHeap lay → Setting l a cells stack lay items (begins (length l.procs))
+  setting lay rises below = selected_setting l a cells stack items fine s lay rises below
+
+  started : Started l a cells stack items
+  started = selected_start l a cells stack items fine s
+
+  pub selected_runs : NeverMissing l → SelectedRuns l a cells stack items (begins (length l.procs))
+  selected_runs there = record {
+    follows = λ lay rises below i bytes k. selected_follows l a cells stack lay items (begins (length l.procs)) (setting lay rises below) started there i bytes k;
+    arrives = λ lay rises below i bytes n. selected_arrives l a cells stack lay items (begins (length l.procs)) (setting lay rises below) started there i bytes n;
+    home = λ lay rises below i bytes k. selected_home l a cells stack lay items (begins (length l.procs)) (setting lay rises below) started there i bytes k;
+  }
+
+pub selected_items_do : SelectedItemsDo
+selected_items_do l a cells stack items fine there s =
+    let still = selected_statics l a cells stack items fine s in
+    let runs = selected_runs l a cells stack items fine s there in
+    record {
+      begins = begins (length l.procs);
+      one_each = still.one_each;
+      different = still.different;
+      stand = still.stand;
+      plain = still.plain;
+      labels = still.labels;
+      some_item = still.some_item;
+      flows = still.flows;
+      few = still.few;
+      follows = runs.follows;
+      arrives = runs.arrives;
+      home = runs.home;
+    }

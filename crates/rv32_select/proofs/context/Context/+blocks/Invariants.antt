@@ -1,0 +1,29 @@
+use Rattle.std.proofs.Common.{◌+◌, drop, map}
+use Rattle.low_code.specs.Tree.{program_of, before_of, arm_of, all_before, arms_before}
+use Rattle.rv32_select.proofs.Emitted.{Towards, TowardsArms}
+use Rattle.rv32_select.proofs.Weight.{all_of, stmt_weight, end_weight, arm_weight, block_weight}
+use Rattle.rv32_select.proofs.context.Context.+blocks.Given as goal
+
+abbrev pub invariant-block-loop-stmt : goal.invariant-block-loop-stmt
+invariant-block-loop-stmt l = Towards (program_of l.self.low.now) l.self.places.now l.self.cells l.self.stack l.frame.words l.frame.saved (all_before (map before_of l.stmt-items)) (all_before (map before_of (drop l.stmt-index l.stmt-items))) l.initial.out.code l.initial.out.next l.out.code l.out.next
+
+abbrev pub invariant-choose-loop-arm : goal.invariant-choose-loop-arm
+invariant-choose-loop-arm l = TowardsArms (program_of l.self.low.now) l.self.places.now l.self.cells l.self.stack l.frame.words l.frame.saved l.to l.way (arms_before (map arm_of l.arms)) (arms_before (map arm_of (drop l.arm-index l.arms))) l.initial.out.code l.initial.out.next l.out.code l.out.next
+
+abbrev pub decreases-block : goal.decreases-block
+decreases-block l = block_weight l.block.now
+
+abbrev pub decreases-stmt : goal.decreases-stmt
+decreases-stmt l = stmt_weight l.stmt.now
+
+abbrev pub decreases-join : goal.decreases-join
+decreases-join l = block_weight l.block.now + 1
+
+abbrev pub decreases-end : goal.decreases-end
+decreases-end l = end_weight l.end.now
+
+abbrev pub decreases-choose : goal.decreases-choose
+decreases-choose l = 1 + (all_of (map arm_weight l.arms.now) + block_weight l.otherwise.now)
+
+abbrev pub decreases-arm : goal.decreases-arm
+decreases-arm l = arm_weight l.arm.now

@@ -1,0 +1,158 @@
+// Procedures, the start-up and the stops.
+#![tactic(auto, using(crate::proofs::Plain::plain_append, crate::proofs::Entered::entered), unfolding(crate::specs::Emit::plain))]
+
+ghost use Rattle.std.specs.Prelude.{◌≡◌, ◌++◌, [], ◌∷◌, ◌<◌, ◌*◌, ◌+◌, ◌-◌, ◌≤◌, length, map, OnOk, IfOk};
+ghost use Rattle.low_code.specs.Tree.{program_of, procedure_of};
+ghost use Rattle.rv32_select.specs.Emit.{plain, entry_items, globals_code, start_items, stop_items};
+ghost use Rattle.rv32_select.specs.IsSelected.{sources as sources_of, start_argument as argument_of_start, first_call as first_call_items, heap_end as end_of_heap, heap_full as heap_full_label, no_alternative as no_alternative_label, step as bytes_of_cell};
+ghost use Rattle.rv32_select.specs.Ranges.{AreSources};
+ghost use Rattle.rv32_select.specs.Writable.{Writable, CanWrite};
+ghost use Rattle.rv32_select.specs.Emitting.{EmittedProcedure};
+
+use crate::blocks::Selection;
+use crate::code::{Code, add_immediate, held, negated};
+use crate::context::{Context, Frame, HEAP_BASE, result_spots};
+use crate::source::{Source, Way};
+use low_code::Operand;
+use parallel_move::Spot;
+use rv32_isa::{Imm12, Instr, Reg, StoreKind};
+use rv32_items::{Cond, Item};
+use std::alloc::AllocError;
+
+/// The end of the frames.
+const STACK_END: u32 = 0x78000000;
+
+impl Code {
+    /// A procedure's label, the test of the stack, and its parameters.
+    fn enter(
+        &mut self,
+        label: u32,
+        words: u32,
+        stack_base: u32,
+        stack_full: u32,
+        params: &[Spot],
+    ) -> Result<(), AllocError>
+        requires { (words < 67108864) × (length params.now ≤ 16) }
+        ensures { OnOk result (self.new ≡ self.old ++ entry_items label words stack_base stack_full params.now) }
+    {
+        self.put(Item::Label(label))?;
+        self.add_to(Reg(2), Reg(2), negated(4 * words))?;
+        self.number_to(Reg(5), stack_base)?;
+        self.put(Item::Branch {
+            cond: Cond::Ltu,
+            left: Reg(2),
+            right: Reg(5),
+            label: stack_full,
+        })?;
+        self.instr(Instr::Store(StoreKind::Sw, Reg(1), Reg(2), Imm12(0)))?;
+        self.parameters(params)
+    }
+
+    /// The tags of the globals, each in a cell of so many bytes.
+    fn globals(&mut self, step: u32, globals: &[u32]) -> Result<(), AllocError>
+        requires { step < 2048 }
+        ensures { OnOk result (self.new ≡ self.old ++ plain (globals_code step globals.now)) }
+    {
+        for tag in globals {
+            self.hold(Reg(6), Source::Number(*tag))?;
+            let r = held(Reg(6), Source::Number(*tag));
+            self.instr(Instr::Store(StoreKind::Sw, r, Reg(3), Imm12(0)))?;
+            self.instr(add_immediate(Reg(3), Reg(3), Imm12(step as i32)))?;
+        }
+        Ok(())
+    }
+
+    /// The exits without an alternative and with a full heap or stack.
+    fn stops(&mut self, first: u32) -> Result<(), AllocError>
+        requires { first ≤ 131072 }
+        ensures { OnOk result (self.new ≡ self.old ++ stop_items first) }
+    {
+        self.put(Item::Label(first))?;
+        self.exit_with(3)?;
+        self.put(Item::Label(1 + first))?;
+        self.exit_with(4)?;
+        self.put(Item::Label(2 + first))?;
+        self.exit_with(5)
+    }
+}
+
+impl<'a> Context<'a> {
+    /// What the start is called with.
+    fn start_sources(&self) -> Result<Vec<Source>, AllocError>
+        requires { Writable (program_of self.now.low.now) self.now.places.now }
+        ensures { IfOk result (λ sources. (sources.items ≡ sources_of (program_of self.now.low.now) self.now.places.now self.now.cells self.now.stack (argument_of_start (program_of self.now.low.now) self.now.places.now self.now.cells self.now.stack self.now.low.now.argument)) × AreSources sources.items) }
+    {
+        match self.low.argument {
+            None => self.sources(&[]),
+            Some(global) => self.sources(&[Operand::Cell(global)]),
+        }
+    }
+
+    /// The frames' end, the next cell, the heap's end and the globals.
+    pub(crate) fn start_up(&self, code: &mut Code) -> Result<(), AllocError>
+        requires writable { CanWrite (program_of self.now.low.now) self.now.places.now self.now.cells }
+        requires globals { length self.now.low.now.globals ≤ 131072 }
+        ensures { OnOk result (code.new ≡ code.old ++ start_items 2013265920 1342177280 (end_of_heap (program_of self.now.low.now) self.now.places.now self.now.cells self.now.stack) (bytes_of_cell (program_of self.now.low.now) self.now.places.now self.now.cells self.now.stack) (heap_full_label (program_of self.now.low.now) self.now.places.now self.now.cells self.now.stack) self.now.low.now.globals) }
+    {
+        let globals = self.low.globals.as_slice();
+        let step = 4 * self.low.width;
+        code.number_to(Reg(2), STACK_END)?;
+        code.number_to(Reg(3), HEAP_BASE)?;
+        code.number_to(Reg(4), self.heap_end())?;
+        code.room(step * globals.len() as u32, self.heap_full())?;
+        code.globals(step, globals)
+    }
+
+    /// The call of the start, and the exit behind it.
+    pub(crate) fn first_call(&self, code: &mut Code) -> Result<(), AllocError>
+        requires { Writable (program_of self.now.low.now) self.now.places.now }
+        ensures { OnOk result (code.new ≡ code.old ++ first_call_items (program_of self.now.low.now) self.now.places.now self.now.cells self.now.stack) }
+    {
+        let to = self.argument_spots(self.low.start)?;
+        let from = self.start_sources()?;
+        code.numbers(to.as_slice(), from.as_slice())?;
+        code.put(Item::Jump {
+            link: Reg(1),
+            label: self.low.start,
+        })?;
+        code.exit_with(0)
+    }
+
+    /// A procedure: its entry and its block.
+    pub(crate) fn procedure(&self, out: &mut Selection, proc: u32) -> Result<(), AllocError>
+        requires writable { CanWrite (program_of self.now.low.now) self.now.places.now self.now.cells }
+        requires stack { self.now.stack ≤ 67108864 }
+        requires proc { proc < length self.now.low.now.procs }
+        ensures { OnOk result (EmittedProcedure (program_of self.now.low.now) self.now.places.now self.now.cells self.now.stack proc out.old.code out.old.next out.new.code out.new.next) }
+    {
+        let procedure = &self.low.procs.as_slice()[proc as usize];
+        let words = self.places.frame_words(proc);
+        let saved = self.slots(procedure)?;
+        let params = self.spots(procedure.params.as_slice())?;
+        let stack_full = 2 + self.low.procs.len() as u32;
+        out.code.enter(
+            proc,
+            words,
+            STACK_END - self.stack,
+            stack_full,
+            params.as_slice(),
+        )?;
+        let results = result_spots(self.alloc, procedure.results)?;
+        self.block(
+            Frame { words, saved },
+            out,
+            results.as_slice(),
+            Way::Returns,
+            &procedure.body,
+        )?;
+        Ok(())
+    }
+
+    /// The stops, behind all procedures.
+    pub(crate) fn stops(&self, code: &mut Code) -> Result<(), AllocError>
+        requires { Writable (program_of self.now.low.now) self.now.places.now }
+        ensures { OnOk result (code.new ≡ code.old ++ stop_items (no_alternative_label (program_of self.now.low.now) self.now.places.now self.now.cells self.now.stack)) }
+    {
+        code.stops(self.no_alternative())
+    }
+}

@@ -1,0 +1,56 @@
+// Programs of low code.
+#![tactic(auto, using(low_code::proofs::TreeOf::tree_of))]
+
+ghost use Rattle.std.specs.Prelude.{◌≡◌, ◌∷◌, [], IfOk};
+ghost use Rattle.low_code.specs.Tree.{procedure_of, program_of};
+ghost use Rattle.select_rows.specs.Rows.{echo as echo_tree, stuck as stuck_tree, takes as takes_tree, nests as nests_tree, program as program_tree};
+
+use crate::build::{block, call, give, procedure, program, tail, take, where_is};
+use low_code::{Low, LowEnd, LowStmt, Operand};
+use std::alloc::{AllocError, Global};
+
+/// Writes its input.
+pub fn echo(alloc: Global) -> Result<Low, AllocError>
+    ensures { IfOk result (λ low. program_of low ≡ program_tree (echo_tree ∷ [])) }
+{
+    let again = block(
+        vec![in alloc; LowStmt::Put(Operand::Var(0))]?,
+        tail(alloc, 0, 0, &[])?,
+    );
+    let ends = block(Vec::new(alloc), give(alloc, &[])?);
+    let last = where_is(alloc, 0, 4294967295, ends, again)?;
+    let body = block(vec![in alloc; LowStmt::Get(0)]?, last);
+    program(alloc, procedure(alloc, &[], 0, body)?)
+}
+
+/// Writes x, and has no alternative.
+pub fn stuck(alloc: Global) -> Result<Low, AllocError>
+    ensures { IfOk result (λ low. program_of low ≡ program_tree (stuck_tree ∷ [])) }
+{
+    let body = block(
+        vec![in alloc; LowStmt::Put(Operand::Num(120))]?,
+        LowEnd::Fail,
+    );
+    program(alloc, procedure(alloc, &[], 0, body)?)
+}
+
+/// Writes a before each cell that it takes.
+pub fn takes(alloc: Global) -> Result<Low, AllocError>
+    ensures { IfOk result (λ low. program_of low ≡ program_tree (takes_tree ∷ [])) }
+{
+    let stmts = vec![in alloc; LowStmt::Put(Operand::Num(97)), take(alloc, &[0])?]?;
+    let body = block(stmts, tail(alloc, 0, 0, &[])?);
+    program(alloc, procedure(alloc, &[], 0, body)?)
+}
+
+/// Writes b before each call of itself.
+pub fn nests(alloc: Global) -> Result<Low, AllocError>
+    ensures { IfOk result (λ low. program_of low ≡ program_tree (nests_tree ∷ [])) }
+{
+    let stmts = vec![in alloc;
+        LowStmt::Put(Operand::Num(98)),
+        call(alloc, 0, 0, &[], &[])?,
+    ]?;
+    let body = block(stmts, give(alloc, &[])?);
+    program(alloc, procedure(alloc, &[], 0, body)?)
+}

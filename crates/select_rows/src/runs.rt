@@ -1,0 +1,98 @@
+// What the programs write, and how they end.
+
+ghost use Rattle.std.specs.Prelude.{◌≤◌, ◌%◌, ◌≡◌};
+ghost use Rattle.low_code.specs.Tree.{program_of};
+ghost use Rattle.select_rows.specs.Rows.{IsRow};
+
+use crate::image::start;
+use crate::programs::{echo, nests, stuck, takes};
+use crate::sums::sums;
+use grin_io::{MemSink, MemSource};
+use low_code::Low;
+use rv32_machine::Stop;
+use std::alloc::Global;
+use std::process::Abort;
+use std::test::Fail;
+
+/// The room for a program: so many cells, and so many bytes of frames.
+#[derive(Clone, Copy)]
+struct Room {
+    cells: u32,
+    stack: u32,
+}
+
+const SMALL: Room = Room {
+    cells: 1,
+    stack: 1024,
+};
+
+/// On this input the program exits with this code, and has written these bytes.
+fn exits(
+    rt: &impl Abort,
+    alloc: Global,
+    low: &Low,
+    room: Room,
+    input: &[u8],
+    code: u32,
+    written: &[u8],
+) -> Result<(), Fail>
+    requires row { IsRow (program_of low.now) }
+    requires cells { (1 ≤ room.cells) × (room.cells ≤ 1000) }
+    requires stack { (1024 ≤ room.stack) × (room.stack ≤ 65536) × (room.stack % 4 ≡ 0) }
+{
+    let mut machine = start(alloc, low, room.cells, room.stack)?;
+    let mut input = MemSource::new(Vec::from_slice(alloc, input)?, Vec::new(alloc));
+    let mut out = MemSink::new(alloc, 1000, Vec::new(alloc))?;
+    let answer = machine.run(1000000, &mut input, &mut out);
+    assert_eq!(rt; answer, Ok(Stop::Exit(code)));
+    assert_eq!(rt; out.taken(), written);
+    Ok(())
+}
+
+#[test]
+fn input_is_written(rt: HostRuntime) -> Result<(), Fail> {
+    let low = echo(rt.alloc())?;
+    exits(&rt, rt.alloc(), &low, SMALL, b"a\0\xffz", 0, b"a\0\xffz")
+}
+
+#[test]
+fn a_program_without_an_alternative(rt: HostRuntime) -> Result<(), Fail> {
+    let low = stuck(rt.alloc())?;
+    exits(&rt, rt.alloc(), &low, SMALL, b"", 3, b"x")
+}
+
+#[test]
+fn five_cells_are_taken(rt: HostRuntime) -> Result<(), Fail> {
+    let low = takes(rt.alloc())?;
+    let room = Room {
+        cells: 5,
+        stack: 1024,
+    };
+    exits(&rt, rt.alloc(), &low, room, b"", 4, b"aaaaaa")
+}
+
+#[test]
+fn frames_of_1024_bytes(rt: HostRuntime) -> Result<(), Fail> {
+    let low = nests(rt.alloc())?;
+    exits(&rt, rt.alloc(), &low, SMALL, b"", 5, &[b'b'; 256])
+}
+
+#[test]
+fn a_list_is_added_up(rt: HostRuntime) -> Result<(), Fail> {
+    let low = sums(rt.alloc())?;
+    let room = Room {
+        cells: 11,
+        stack: 1024,
+    };
+    exits(&rt, rt.alloc(), &low, room, b"", 0, b"55!")
+}
+
+#[test]
+fn a_list_needs_11_cells(rt: HostRuntime) -> Result<(), Fail> {
+    let low = sums(rt.alloc())?;
+    let room = Room {
+        cells: 10,
+        stack: 1024,
+    };
+    exits(&rt, rt.alloc(), &low, room, b"", 4, b"")
+}

@@ -1,0 +1,9 @@
+pub mod Loops
+pub mod Noted
+pub mod Scoped
+pub mod Vals
+pub mod Standing
+pub mod Steps
+pub mod Simulated
+pub mod Shape
+pub mod Whole

@@ -1,0 +1,4 @@
+pub mod Whole
+pub mod Known
+pub mod Vectors
+pub mod Widened
