@@ -4,13 +4,15 @@ use Rattle.std.specs.List.{list_any}
 use Rattle.std.specs.Option.{option_map, option_and_then}
 use Rattle.std.specs.Str.{bytes_eq}
 use Rattle.std.proofs.lemmas.Slice.Eq.{bytes_eq-Decides}
-use Rattle.command_line.specs.Commands.{CommandLine, RunFile, Given, Form, only, number_of, cells_of, stack_of, steps_of, run_form, check_form, list_form, exec_form}
+use Rattle.command_line.specs.Commands.{CommandLine, RunFile, BuildFile, GenRun, Given, Form, only, number_of, cells_of, stack_of, steps_of, run_form, check_form, list_form, build_form, exec_form, gen_form, of_operand, without_operand, seed_of, size_of}
 use Rattle.command_line.specs.Walk.{option_names}
 
--- A form has no option but those that there are, and asks for nothing where one of its options has two values.
+-- A form has no option but those that there are, and asks for nothing where there are two operands or one of its options has
+-- two values.
 pub record Strict (form : Form) : Type 0 where
   pub known : (name : List ℕ) → list_any (bytes_eq name) option_names ≡ false → list_any (bytes_eq name) form.options ≡ false
-  pub once : (given : Given) (name operand : List ℕ) → list_any (bytes_eq name) form.options ≡ true → 2 ≤ length (given name) → form.asks given operand ≡ None
+  pub once : (given : Given) (name : List ℕ) (operands : List (List ℕ)) → list_any (bytes_eq name) form.options ≡ true → 2 ≤ length (given name) → form.asks given operands ≡ None
+  pub alone : (given : Given) (operands : List (List ℕ)) → 2 ≤ length operands → form.asks given operands ≡ None
 
 -- lists of two or more
 pub only_two : {T : Type 0} (xs : List T) → 2 ≤ length xs → only xs ≡ None
@@ -36,6 +38,14 @@ then_none : {S T : Type 0} (o : Option S) (f : S → Option T) → ((x : S) → 
 then_none None f none = refl
 then_none (Some x) f none = none x
 
+-- two operands are not one
+of_two : (asks : List ℕ → Option CommandLine) (operands : List (List ℕ)) → 2 ≤ length operands → of_operand asks operands ≡ None
+of_two asks operands two = rw (only_two operands two) refl
+
+-- what asks for nothing, whichever its operand is
+of_none : (asks : List ℕ → Option CommandLine) (operands : List (List ℕ)) → ((operand : List ℕ) → asks operand ≡ None) → of_operand asks operands ≡ None
+of_none asks operands none = then_none (only operands) asks none
+
 -- the numbers of `run` where one is none
 module _ (file : List ℕ) (cells stack steps : Option ℕ) where
   abbrev run_asks : Option CommandLine
@@ -49,8 +59,8 @@ module _ (file : List ℕ) (cells stack steps : Option ℕ) where
       then_none cells (λ c. option_and_then (λ s. option_map (RunFile file c s) steps) stack)
       (λ c. then_none stack (λ s. option_map (RunFile file c s) steps) (λ s. rw none refl))
 
-run_once : (given : Given) (name file : List ℕ) → list_any (bytes_eq name) run_form.options ≡ true → 2 ≤ length (given name) → run_form.asks given file ≡ None
-run_once given name file is two = elim (first_or_other name (codes "heap") (codes "stack" ∷ codes "steps" ∷ []) is) [
+run_once : (given : Given) (name : List ℕ) (operands : List (List ℕ)) → list_any (bytes_eq name) run_form.options ≡ true → 2 ≤ length (given name) → run_form.asks given operands ≡ None
+run_once given name operands is two = of_none _ operands (λ file. elim (first_or_other name (codes "heap") (codes "stack" ∷ codes "steps" ∷ []) is) [
   | inl heap ↦ rw (number_two 1000000 1 8000000 (given (codes "heap")) (rw heap at two)) refl
   | inr other ↦ elim (first_or_other name (codes "stack") (codes "steps" ∷ []) other) [
     | inl stack ↦ no_stack file (cells_of given) (stack_of given) (steps_of given) (number_two 1048576 1024 67108864 (given (codes "stack")) (rw stack at two))
@@ -59,19 +69,55 @@ run_once given name file is two = elim (first_or_other name (codes "heap") (code
       | inr none ↦ absurd (cc none)
     ]
   ]
-]
+])
 
-list_once : (given : Given) (name file : List ℕ) → list_any (bytes_eq name) list_form.options ≡ true → 2 ≤ length (given name) → list_form.asks given file ≡ None
-list_once given name file is two = elim (first_or_other name (codes "after") [] is) [
+list_once : (given : Given) (name : List ℕ) (operands : List (List ℕ)) → list_any (bytes_eq name) list_form.options ≡ true → 2 ≤ length (given name) → list_form.asks given operands ≡ None
+list_once given name operands is two = of_none _ operands (λ file. elim (first_or_other name (codes "after") [] is) [
   | inl after ↦ rw (only_two (given (codes "after")) (rw after at two)) refl
   | inr none ↦ absurd (cc none)
-]
+])
 
-exec_once : (given : Given) (name image : List ℕ) → list_any (bytes_eq name) exec_form.options ≡ true → 2 ≤ length (given name) → exec_form.asks given image ≡ None
-exec_once given name image is two = elim (first_or_other name (codes "steps") [] is) [
+-- the numbers of `build` where the second is none
+built_none : (file : List ℕ) (cells stack : Option ℕ) → stack ≡ None → option_and_then (λ c. option_map (BuildFile file c) stack) cells ≡ None
+built_none file cells stack none = then_none cells (λ c. option_map (BuildFile file c) stack) (λ c. rw none refl)
+
+build_once : (given : Given) (name : List ℕ) (operands : List (List ℕ)) → list_any (bytes_eq name) build_form.options ≡ true → 2 ≤ length (given name) → build_form.asks given operands ≡ None
+build_once given name operands is two = of_none _ operands (λ file. elim (first_or_other name (codes "heap") (codes "stack" ∷ []) is) [
+  | inl heap ↦ rw (number_two 1000000 1 8000000 (given (codes "heap")) (rw heap at two)) refl
+  | inr other ↦ elim (first_or_other name (codes "stack") [] other) [
+    | inl stack ↦ built_none file (cells_of given) (stack_of given) (number_two 1048576 1024 67108864 (given (codes "stack")) (rw stack at two))
+    | inr none ↦ absurd (cc none)
+  ]
+])
+
+exec_once : (given : Given) (name : List ℕ) (operands : List (List ℕ)) → list_any (bytes_eq name) exec_form.options ≡ true → 2 ≤ length (given name) → exec_form.asks given operands ≡ None
+exec_once given name operands is two = of_none _ operands (λ image. elim (first_or_other name (codes "steps") [] is) [
   | inl steps ↦ rw (number_two 1000000000 1 1000000000000 (given (codes "steps")) (rw steps at two)) refl
   | inr none ↦ absurd (cc none)
-]
+])
+
+-- nothing is asked for of no operand
+without_none : (asked : Option CommandLine) (operands : List (List ℕ)) → asked ≡ None → without_operand asked operands ≡ None
+without_none asked [] none = none
+without_none asked (operand ∷ operands) none = refl
+
+-- two operands are not none
+without_two : (asked : Option CommandLine) (operands : List (List ℕ)) → 2 ≤ length operands → without_operand asked operands ≡ None
+without_two asked [] two = absurd (omega arith)
+without_two asked (operand ∷ operands) two = refl
+
+-- the numbers of `gen` where one is none
+generated_none : (seed size : Option ℕ) → size ≡ None → option_and_then (λ s. option_map (GenRun s) size) seed ≡ None
+generated_none seed size none = then_none seed (λ s. option_map (GenRun s) size) (λ s. rw none refl)
+
+gen_once : (given : Given) (name : List ℕ) (operands : List (List ℕ)) → list_any (bytes_eq name) gen_form.options ≡ true → 2 ≤ length (given name) → gen_form.asks given operands ≡ None
+gen_once given name operands is two = without_none _ operands (elim (first_or_other name (codes "seed") (codes "size" ∷ []) is) [
+  | inl seed ↦ rw (only_two (given (codes "seed")) (rw seed at two)) refl
+  | inr other ↦ elim (first_or_other name (codes "size") [] other) [
+    | inl size ↦ generated_none (seed_of given) (size_of given) (rw (only_two (given (codes "size")) (rw size at two)) refl)
+    | inr none ↦ absurd (cc none)
+  ]
+])
 
 -- each option of a list is one of these names
 abbrev among : (options names : List (List ℕ)) → Bool
@@ -92,13 +138,19 @@ known_among (option ∷ options) names all name none = by_test (bytes_eq name op
   by_test false is true known rest = rw is (rest (rw known at all) name none)
 
 pub run_strict : Strict run_form
-run_strict = record { known = known_among run_form.options option_names refl; once = run_once }
+run_strict = record { known = known_among run_form.options option_names refl; once = run_once; alone = λ given operands two. of_two _ operands two }
 
 pub check_strict : Strict check_form
-check_strict = record { known = known_among check_form.options option_names refl; once = λ given name file is two. absurd (cc is) }
+check_strict = record { known = known_among check_form.options option_names refl; once = λ given name operands is two. absurd (cc is); alone = λ given operands two. of_two _ operands two }
 
 pub list_strict : Strict list_form
-list_strict = record { known = known_among list_form.options option_names refl; once = list_once }
+list_strict = record { known = known_among list_form.options option_names refl; once = list_once; alone = λ given operands two. of_two _ operands two }
+
+pub build_strict : Strict build_form
+build_strict = record { known = known_among build_form.options option_names refl; once = build_once; alone = λ given operands two. of_two _ operands two }
 
 pub exec_strict : Strict exec_form
-exec_strict = record { known = known_among exec_form.options option_names refl; once = exec_once }
+exec_strict = record { known = known_among exec_form.options option_names refl; once = exec_once; alone = λ given operands two. of_two _ operands two }
+
+pub gen_strict : Strict gen_form
+gen_strict = record { known = known_among gen_form.options option_names refl; once = gen_once; alone = λ given operands two. without_two _ operands two }

@@ -1,3 +1,4 @@
+pub mod Names
 mod Words
 mod Lists
 mod Digits

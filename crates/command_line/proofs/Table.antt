@@ -7,15 +7,11 @@ use Rattle.std.specs.Str.{bytes_eq}
 use Rattle.std.proofs.lemmas.Slice.Eq.{bytes_eq-Decides}
 use Rattle.std.proofs.lemmas.Bool.Decides.{nat_tests}
 use Rattle.command_line.specs.Parts.{Part, Setting, Operand}
-use Rattle.command_line.specs.Commands.{CommandLine, Form, operands, values, takes_only, only, run_form, check_form, list_form, exec_form, asked, command_from}
+use Rattle.command_line.specs.Commands.{CommandLine, Form, operands, values, takes_only, run_form, check_form, list_form, build_form, exec_form, gen_form, asked, command_from}
 use Rattle.command_line.specs.Walk.{Said, nothing_said, option_names, value_of, sets_only, gathered, asked_said, chosen}
 use Rattle.command_line.proofs.Entries.{unset_value, unset_sets}
 use Rattle.command_line.proofs.Gathering.{Grown, Refused, TwoOperands, TwoValues, OneUnknown, gathers}
-use Rattle.command_line.proofs.Forms.{Strict, only_two, run_strict, check_strict, list_strict, exec_strict}
-
-only_some : {T : Type 0} (o : Option T) → only (option_to_list o) ≡ o
-only_some None = refl
-only_some (Some x) = refl
+use Rattle.command_line.proofs.Forms.{Strict, run_strict, check_strict, list_strict, build_strict, exec_strict, gen_strict}
 
 and_true : (a : Bool) → a && true ≡ a
 and_true a = grind (arith, nat_tests)
@@ -27,18 +23,15 @@ grown_asks form parts s has =
     fun_ext (λ option. has.given option ∙ ap (λ (o : Option (List ℕ)). option_to_list o ++ values option parts) (unset_value option_names option)) in
     let sets : sets_only form.options s.entries ≡ takes_only form.options parts =
     has.sets form.options ∙ (ap (λ (b : Bool). takes_only form.options parts && b) (unset_sets form.options option_names) ∙ and_true (takes_only form.options parts)) in
-    rw (given, sets, ← has.operand, only_some s.operand) refl
+    rw (given, sets, has.operand) refl
 
 if_same : {T : Type 0} (x : T) (test : Bool) → (if test then x else x) ≡ x
 if_same x true = refl
 if_same x false = refl
 
--- what no operand makes
-makes_none : (test : Bool) (asks : List ℕ → Option CommandLine) (operand : Option (List ℕ)) → ((file : List ℕ) → asks file ≡ None)
-    → None ≡ (if test then option_and_then asks operand else None)
-makes_none false asks operand none = refl
-makes_none true asks None none = refl
-makes_none true asks (Some file) none = sym (none file)
+-- what asks for nothing, whatever a test says
+makes_none : (test : Bool) (asks : Option CommandLine) → asks ≡ None → None ≡ (if test then asks else None)
+makes_none test asks none = rw none (sym (if_same None test))
 
 -- an option with a value that is none of these
 and_false : (a : Bool) → a && false ≡ false
@@ -68,7 +61,9 @@ no_form form strict (Setting name value ∷ parts) unknown = by_name (list_any (
 
 -- A form asks for nothing where its parts can't be gathered.
 refused_asks : (form : Form) → Strict form → (parts : List Part) → Refused nothing_said parts → None ≡ asked parts form
-refused_asks form strict parts (TwoOperands two) = rw (only_two (operands parts) two) (sym (if_same None (takes_only form.options parts)))
+refused_asks form strict parts (TwoOperands two) =
+    makes_none (takes_only form.options parts) (form.asks (λ (name : List ℕ). values name parts) (operands parts))
+    (strict.alone (λ (name : List ℕ). values name parts) (operands parts) two)
 refused_asks form strict parts (OneUnknown unknown) = rw (no_form form strict parts unknown) refl
 refused_asks form strict parts (TwoValues option two) = by_option (list_any (bytes_eq option) form.options) refl where
   twice : 2 ≤ length (values option parts)
@@ -76,8 +71,8 @@ refused_asks form strict parts (TwoValues option two) = by_option (list_any (byt
 
   by_option : (own : Bool) → list_any (bytes_eq option) form.options ≡ own → None ≡ asked parts form
   by_option true own =
-      makes_none (takes_only form.options parts) (form.asks (λ (name : List ℕ). values name parts)) (only (operands parts))
-      (λ file. strict.once (λ (name : List ℕ). values name parts) option file own twice)
+      makes_none (takes_only form.options parts) (form.asks (λ (name : List ℕ). values name parts) (operands parts))
+      (strict.once (λ (name : List ℕ). values name parts) option (operands parts) own twice)
   by_option false other = rw (stranger form.options option other parts (omega (arith, twice))) refl
 
 pub chosen_from : (name : List ℕ) (parts : List Part) → option_and_then (chosen name) (gathered nothing_said parts) ≡ command_from name parts
@@ -88,10 +83,12 @@ chosen_from name parts = by_result (gathered nothing_said parts) (gathers parts 
         ← refused_asks run_form run_strict parts refused,
         ← refused_asks check_form check_strict parts refused,
         ← refused_asks list_form list_strict parts refused,
+        ← refused_asks build_form build_strict parts refused,
         ← refused_asks exec_form exec_strict parts refused,
+        ← refused_asks gen_form gen_strict parts refused,
       ) (simp if_same)
   by_result (Some s) has =
-      rw (grown_asks run_form parts s has, grown_asks check_form parts s has, grown_asks list_form parts s has, grown_asks exec_form parts s has) refl
+      rw (grown_asks run_form parts s has, grown_asks check_form parts s has, grown_asks list_form parts s has, grown_asks build_form parts s has, grown_asks exec_form parts s has, grown_asks gen_form parts s has) refl
 
 -- The command of what is gathered is that of the parts.
 pub chosen_from_parts : (name : List ℕ) (parts : Option (List Part)) → option_and_then (chosen name) (option_and_then (gathered nothing_said) parts) ≡ option_and_then (command_from name) parts

@@ -6,23 +6,27 @@ use Rattle.std.specs.Str.{bytes_eq}
 use Rattle.command_line.specs.Numbers.{number_within}
 use Rattle.command_line.specs.Parts.{Part, Setting, Operand, parts_of}
 use Rattle.command_line.specs.declared.command.Listing.{Listing}
-use Rattle.command_line.specs.declared.command.Listing.TheVariants.{Read, Translate, Eval, Apply, Vectorise}
+use Rattle.command_line.specs.declared.command.Listing.TheVariants.{Read, Translate, Eval, Apply, Vectorise, Simplify, Fetch, Copy, Update, Code}
 use Rattle.command_line.specs.declared.command.Command.{Command}
-use Rattle.command_line.specs.declared.command.Command.TheVariants.{Run, Check, List as Listed, Exec}
+use Rattle.command_line.specs.declared.command.Command.TheVariants.{Run, Check, List as Listed, Build, Exec, Gen}
 
 -- what a command line asks for
 pub data CommandLine : Type 0 where
   RunFile : (file : List ℕ) → (cells stack steps : ℕ) → CommandLine
   CheckFile : (file : List ℕ) → CommandLine
   ListFile : (file : List ℕ) → (after : Listing) → CommandLine
+  BuildFile : (file : List ℕ) → (cells stack : ℕ) → CommandLine
   ExecImage : (image : List ℕ) → (steps : ℕ) → CommandLine
+  GenRun : (seed size : ℕ) → CommandLine
 
 -- what a command asks for
 abbrev pub asked_by : Command → CommandLine
 asked_by (Run file cells stack steps) = RunFile file.now cells stack steps
 asked_by (Check file) = CheckFile file.now
 asked_by (Listed file after) = ListFile file.now after
+asked_by (Build file cells stack) = BuildFile file.now cells stack
 asked_by (Exec image steps) = ExecImage image.now steps
+asked_by (Gen seed size) = GenRun seed size
 
 -- the passes that a listing can follow
 abbrev pub listing_of : List ℕ → Option Listing
@@ -32,7 +36,12 @@ listing_of word =
     else (if bytes_eq word (codes "eval") then Some Eval
     else (if bytes_eq word (codes "apply") then Some Apply
     else (if bytes_eq word (codes "vectorise") then Some Vectorise
-    else None))))
+    else (if bytes_eq word (codes "simplify") then Some Simplify
+    else (if bytes_eq word (codes "fetch") then Some Fetch
+    else (if bytes_eq word (codes "copy") then Some Copy
+    else (if bytes_eq word (codes "update") then Some Update
+    else (if bytes_eq word (codes "code") then Some Code
+    else None)))))))))
 
 -- the operands of the parts, in order
 abbrev pub operands : List Part → List (List ℕ)
@@ -80,35 +89,66 @@ stack_of given = number_of 1048576 1024 67108864 (given (codes "stack"))
 abbrev pub steps_of : Given → Option ℕ
 steps_of given = number_of 1000000000 1 1000000000000 (given (codes "steps"))
 
--- a form of command: its options, and what it asks for by their values and its one operand
+-- the seed of a generated text, by `--seed`, which has to stand
+abbrev pub seed_of : Given → Option ℕ
+seed_of given = option_and_then (number_within 0 2147483647) (only (given (codes "seed")))
+
+-- its size, by `--size`, which has to stand
+abbrev pub size_of : Given → Option ℕ
+size_of given = option_and_then (number_within 1 200) (only (given (codes "size")))
+
+-- a form of command: its options, and what it asks for by their values and the operands
 pub record Form : Type 0 where
   pub options : List (List ℕ)
-  pub asks : Given → (operand : List ℕ) → Option CommandLine
+  pub asks : Given → (operands : List (List ℕ)) → Option CommandLine
+
+-- what is asked for of exactly one operand
+abbrev pub of_operand : (List ℕ → Option CommandLine) → (operands : List (List ℕ)) → Option CommandLine
+of_operand asks operands = option_and_then asks (only operands)
+
+-- what is asked for of no operand
+abbrev pub without_operand : Option CommandLine → (operands : List (List ℕ)) → Option CommandLine
+without_operand asked [] = asked
+without_operand asked (operand ∷ operands) = None
 
 -- `run FILE`, with or without `--heap N`, `--stack N` and `--steps N`
 abbrev pub run_form : Form
 run_form = record {
   options = codes "heap" ∷ codes "stack" ∷ codes "steps" ∷ [];
-  asks = λ given file. option_and_then (λ cells. option_and_then (λ stack.
-      option_map (RunFile file cells stack) (steps_of given)) (stack_of given)) (cells_of given);
+  asks = λ given. of_operand (λ file. option_and_then (λ cells. option_and_then (λ stack.
+      option_map (RunFile file cells stack) (steps_of given)) (stack_of given)) (cells_of given));
 }
 
 -- `check FILE`
 abbrev pub check_form : Form
-check_form = record { options = []; asks = λ given file. Some (CheckFile file) }
+check_form = record { options = []; asks = λ given. of_operand (λ file. Some (CheckFile file)) }
 
 -- `list FILE --after PASS`
 abbrev pub list_form : Form
 list_form = record {
   options = codes "after" ∷ [];
-  asks = λ given file. option_map (ListFile file) (option_and_then listing_of (only (given (codes "after"))));
+  asks = λ given. of_operand (λ file. option_map (ListFile file) (option_and_then listing_of (only (given (codes "after")))));
+}
+
+-- `build FILE`, with or without `--heap N` and `--stack N`
+abbrev pub build_form : Form
+build_form = record {
+  options = codes "heap" ∷ codes "stack" ∷ [];
+  asks = λ given. of_operand (λ file. option_and_then (λ cells. option_map (BuildFile file cells) (stack_of given)) (cells_of given));
 }
 
 -- `exec IMAGE`, with or without `--steps N`
 abbrev pub exec_form : Form
 exec_form = record {
   options = codes "steps" ∷ [];
-  asks = λ given image. option_map (ExecImage image) (steps_of given);
+  asks = λ given. of_operand (λ image. option_map (ExecImage image) (steps_of given));
+}
+
+-- `gen --seed N --size N`
+abbrev pub gen_form : Form
+gen_form = record {
+  options = codes "seed" ∷ codes "size" ∷ [];
+  asks = λ given. without_operand (option_and_then (λ seed. option_map (GenRun seed) (size_of given)) (seed_of given));
 }
 
 -- what a function says of the form that has this name, if there is one
@@ -117,15 +157,15 @@ by_name ask name =
     if bytes_eq name (codes "run") then ask run_form
     else (if bytes_eq name (codes "check") then ask check_form
     else (if bytes_eq name (codes "list") then ask list_form
+    else (if bytes_eq name (codes "build") then ask build_form
     else (if bytes_eq name (codes "exec") then ask exec_form
-    else None)))
+    else (if bytes_eq name (codes "gen") then ask gen_form
+    else None)))))
 
--- what parts with one operand, and with options of the form alone, ask for
+-- what parts with options of the form alone ask for
 abbrev pub asked : List Part → Form → Option CommandLine
 asked parts form =
-    if takes_only form.options parts
-    then option_and_then (form.asks (λ option. values option parts)) (only (operands parts))
-    else None
+    if takes_only form.options parts then form.asks (λ option. values option parts) (operands parts) else None
 
 -- the command of this name with these parts
 abbrev pub command_from : (name : List ℕ) → List Part → Option CommandLine

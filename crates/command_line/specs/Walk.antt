@@ -36,7 +36,7 @@ unset name = record { name = name; value = None }
 
 -- the options of all commands
 abbrev pub option_names : List (List ℕ)
-option_names = codes "after" ∷ codes "heap" ∷ codes "stack" ∷ codes "steps" ∷ []
+option_names = codes "after" ∷ codes "heap" ∷ codes "stack" ∷ codes "steps" ∷ codes "seed" ∷ codes "size" ∷ []
 
 abbrev pub nothing_said : Said
 nothing_said = record { operand = None; entries = map unset option_names }
@@ -48,6 +48,8 @@ said a = record {
       ∷ record { name = codes "heap"; value = option_copied a.heap }
       ∷ record { name = codes "stack"; value = option_copied a.stack }
       ∷ record { name = codes "steps"; value = option_copied a.steps }
+      ∷ record { name = codes "seed"; value = option_copied a.seed }
+      ∷ record { name = codes "size"; value = option_copied a.size }
       ∷ [];
 }
 
@@ -131,7 +133,7 @@ sets_only options (entry ∷ entries) = (list_any (bytes_eq entry.name) options 
 abbrev pub asked_said : Said → Form → Option CommandLine
 asked_said s form =
     if sets_only form.options s.entries
-    then option_and_then (form.asks (λ option. option_to_list (value_of s.entries option))) s.operand
+    then form.asks (λ option. option_to_list (value_of s.entries option)) (option_to_list s.operand)
     else None
 
 -- the command of this name with what is said

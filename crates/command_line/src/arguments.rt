@@ -19,6 +19,10 @@ pub(crate) struct Arguments<'a> {
     pub(crate) stack: Option<&'a str>,
     /// The value of `--steps`.
     pub(crate) steps: Option<&'a str>,
+    /// The value of `--seed`.
+    pub(crate) seed: Option<&'a str>,
+    /// The value of `--size`.
+    pub(crate) size: Option<&'a str>,
 }
 
 impl<'a> Arguments<'a> {
@@ -34,6 +38,8 @@ impl<'a> Arguments<'a> {
                 heap: None,
                 stack: None,
                 steps: None,
+                seed: None,
+                size: None,
             },
             expected: Expected::Any,
         };
@@ -78,6 +84,14 @@ impl<'a> Arguments<'a> {
             }),
             "steps" if self.steps.is_none() => Some(Arguments {
                 steps: Some(value),
+                ..self
+            }),
+            "seed" if self.seed.is_none() => Some(Arguments {
+                seed: Some(value),
+                ..self
+            }),
+            "size" if self.size.is_none() => Some(Arguments {
+                size: Some(value),
                 ..self
             }),
             _ => None,

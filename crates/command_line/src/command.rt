@@ -2,12 +2,12 @@
 
 ghost use Rattle.std.specs.Prelude.{◌≡◌, map, string_bytes};
 ghost use Rattle.std.specs.Option.{option_map, option_and_then};
-ghost use Rattle.command_line.specs.Commands.{asked_by, command_from, listing_of, run_form, check_form, list_form, exec_form};
+ghost use Rattle.command_line.specs.Commands.{asked_by, command_from, listing_of, run_form, check_form, list_form, build_form, exec_form, gen_form};
 ghost use Rattle.command_line.specs.Parts.{parts_of};
 ghost use Rattle.command_line.specs.Walk.{said, asked_said, chosen};
 
 use crate::arguments::Arguments;
-use crate::number::{CELLS, STACK, STEPS};
+use crate::number::{CELLS, STACK, STEPS, seed_within, size_within};
 
 /// The pass after which a program is listed.
 #[derive(Clone, Copy, Debug, PartialEq, Eq)]
@@ -22,9 +22,19 @@ pub enum Listing {
     Apply,
     /// The program with vectors of words in place of its node variables.
     Vectorise,
+    /// The program without cases on known tags.
+    Simplify,
+    /// The program that fetches words in place of nodes.
+    Fetch,
+    /// The program without copies.
+    Copy,
+    /// The program whose updates have known tags.
+    Update,
+    /// The code of its image.
+    Code,
 }
 
-/// A command. Its file and its image are operands as they stand in the line.
+/// A command. Its file or its image is the operand as it stands in the line.
 #[derive(Clone, Copy, Debug, PartialEq, Eq)]
 pub enum Command<'a> {
     /// `run FILE --heap N --stack N --steps N`: compile the file and run it with a heap of so many cells and a stack of so many
@@ -39,15 +49,27 @@ pub enum Command<'a> {
     Check {
         file: &'a str,
     },
-    /// `list FILE --after PASS`: write the program as it is after a pass.
+    /// `list FILE --after PASS`: write the program as it is after a pass, or its code.
     List {
         file: &'a str,
         after: Listing,
+    },
+    /// `build FILE --heap N --stack N`: write the image of the file with a heap of so many cells and a stack of so many bytes, a
+    /// multiple of four or not.
+    Build {
+        file: &'a str,
+        cells: u32,
+        stack: u32,
     },
     /// `exec IMAGE --steps N`: run an executable for at most so many instructions.
     Exec {
         image: &'a str,
         steps: u64,
+    },
+    /// `gen --seed N --size N`: compile and run the text that is generated from the seed in so many rounds.
+    Gen {
+        seed: u32,
+        size: u32,
     },
 }
 
@@ -62,6 +84,11 @@ impl Listing {
             "eval" => Some(Listing::Eval),
             "apply" => Some(Listing::Apply),
             "vectorise" => Some(Listing::Vectorise),
+            "simplify" => Some(Listing::Simplify),
+            "fetch" => Some(Listing::Fetch),
+            "copy" => Some(Listing::Copy),
+            "update" => Some(Listing::Update),
+            "code" => Some(Listing::Code),
             _ => None,
         }
     }
@@ -84,7 +111,9 @@ impl<'a> Command<'a> {
             "run" => Command::run(arguments),
             "check" => Command::check(arguments),
             "list" => Command::list(arguments),
+            "build" => Command::build(arguments),
             "exec" => Command::exec(arguments),
+            "gen" => Command::generate(arguments),
             _ => None,
         }
     }
@@ -99,6 +128,8 @@ impl<'a> Command<'a> {
             heap,
             stack,
             steps,
+            seed: None,
+            size: None,
         } = arguments
         else {
             return None;
@@ -121,6 +152,8 @@ impl<'a> Command<'a> {
             heap: None,
             stack: None,
             steps: None,
+            seed: None,
+            size: None,
         } = arguments
         else {
             return None;
@@ -138,6 +171,8 @@ impl<'a> Command<'a> {
             heap: None,
             stack: None,
             steps: None,
+            seed: None,
+            size: None,
         } = arguments
         else {
             return None;
@@ -146,6 +181,27 @@ impl<'a> Command<'a> {
             file,
             after: Listing::named(pass)?,
         })
+    }
+
+    /// `build` with its arguments.
+    fn build(arguments: Arguments<'a>) -> Option<Command<'a>>
+        ensures { option_map asked_by result ≡ asked_said (said arguments.entry) build_form }
+    {
+        let Arguments {
+            operand: Some(file),
+            after: None,
+            heap,
+            stack,
+            steps: None,
+            seed: None,
+            size: None,
+        } = arguments
+        else {
+            return None;
+        };
+        let cells = CELLS.read_u32(heap)?;
+        let stack = STACK.read_u32(stack)?;
+        Some(Command::Build { file, cells, stack })
     }
 
     /// `exec` with its arguments.
@@ -158,6 +214,8 @@ impl<'a> Command<'a> {
             heap: None,
             stack: None,
             steps,
+            seed: None,
+            size: None,
         } = arguments
         else {
             return None;
@@ -165,6 +223,28 @@ impl<'a> Command<'a> {
         Some(Command::Exec {
             image,
             steps: STEPS.read(steps)?,
+        })
+    }
+
+    /// `gen` with its arguments.
+    fn generate(arguments: Arguments<'a>) -> Option<Command<'a>>
+        ensures { option_map asked_by result ≡ asked_said (said arguments.entry) gen_form }
+    {
+        let Arguments {
+            operand: None,
+            after: None,
+            heap: None,
+            stack: None,
+            steps: None,
+            seed: Some(seed),
+            size: Some(size),
+        } = arguments
+        else {
+            return None;
+        };
+        Some(Command::Gen {
+            seed: seed_within(seed)?,
+            size: size_within(size)?,
         })
     }
 }

@@ -58,6 +58,22 @@ impl Numbers {
     }
 }
 
+/// The seed that the value of `--seed` writes.
+pub(crate) fn seed_within(text: &str) -> Option<u32>
+    ensures { result ≡ number_within 0 2147483647 text.now }
+{
+    let number = number_within(text, 0, 2_147_483_647)?;
+    u32::try_from(number).ok()
+}
+
+/// The number of rounds that the value of `--size` writes.
+pub(crate) fn size_within(text: &str) -> Option<u32>
+    ensures { result ≡ number_within 1 200 text.now }
+{
+    let number = number_within(text, 1, 200)?;
+    u32::try_from(number).ok()
+}
+
 /// The most digits that a number has.
 const MOST_DIGITS: usize = 20;
 

@@ -127,6 +127,79 @@ fn lines_of_run(rt: HostRuntime) -> Result<(), Fail> {
     Ok(())
 }
 
+/// `build a` with a number of cells and of bytes of the stack.
+const fn build_a(cells: u32, stack: u32) -> Option<Command<'static>> {
+    Some(Command::Build {
+        file: "a",
+        cells,
+        stack,
+    })
+}
+
+#[test]
+fn lines_of_build(rt: HostRuntime) -> Result<(), Fail> {
+    let rows = [
+        ("grinc build a", build_a(1_000_000, 1_048_576)),
+        ("grinc build --heap=0007 -- a", build_a(7, 1_048_576)),
+        ("grinc build a --stack 1026", build_a(1_000_000, 1_026)),
+        ("grinc build --stack 1024 a --heap 1", build_a(1, 1_024)),
+        (
+            "grinc build --heap 8000000 --stack 67108864 a",
+            build_a(8_000_000, 67_108_864),
+        ),
+        ("grinc build --heap 0 a", None),
+        ("grinc build --heap 8000001 a", None),
+        ("grinc build --stack 1023 a", None),
+        ("grinc build --stack 67108865 a", None),
+        ("grinc build", None),
+        ("grinc build a b", None),
+        ("grinc build --heap 1", None),
+        ("grinc build a --steps 1", None),
+        ("grinc build a --after code", None),
+        ("grinc build --heap 1 --heap 1 a", None),
+        ("grinc build --stack 1024 a --stack=1024", None),
+    ];
+    for (words, want) in rows {
+        let line = line_of(rt.alloc(), words)?;
+        assert_eq!(rt; line.command(), want, "{words}");
+    }
+    Ok(())
+}
+
+/// `gen` with a seed and a size.
+const fn gen_of(seed: u32, size: u32) -> Option<Command<'static>> {
+    Some(Command::Gen { seed, size })
+}
+
+#[test]
+fn lines_of_gen(rt: HostRuntime) -> Result<(), Fail> {
+    let rows = [
+        ("grinc gen --seed 1 --size 2", gen_of(1, 2)),
+        (
+            "grinc gen --size=200 --seed=2147483647",
+            gen_of(2_147_483_647, 200),
+        ),
+        ("grinc gen --seed 0 --size 1 --", gen_of(0, 1)),
+        ("grinc gen --seed 1", None),
+        ("grinc gen --size 2", None),
+        ("grinc gen", None),
+        ("grinc gen a --seed 1 --size 2", None),
+        ("grinc gen --seed 1 --size 2 -- a", None),
+        ("grinc gen --seed 2147483648 --size 2", None),
+        ("grinc gen --seed 1 --size 0", None),
+        ("grinc gen --seed 1 --size 201", None),
+        ("grinc gen --seed 1 --seed 1 --size 2", None),
+        ("grinc gen --seed 1 --size 2 --steps 1", None),
+        ("grinc run a --seed 1", None),
+        ("grinc check a --size 1", None),
+    ];
+    for (words, want) in rows {
+        let line = line_of(rt.alloc(), words)?;
+        assert_eq!(rt; line.command(), want, "{words}");
+    }
+    Ok(())
+}
+
 /// `list a` with a pass.
 const fn list_a(after: Listing) -> Option<Command<'static>> {
     Some(Command::List { file: "a", after })
@@ -170,6 +243,11 @@ fn other_lines(rt: HostRuntime) -> Result<(), Fail> {
         ("grinc list --after=eval a", list_a(Listing::Eval)),
         ("grinc list --after=apply -- a", list_a(Listing::Apply)),
         ("grinc list a --after vectorise", list_a(Listing::Vectorise)),
+        ("grinc list a --after simplify", list_a(Listing::Simplify)),
+        ("grinc list a --after fetch", list_a(Listing::Fetch)),
+        ("grinc list a --after copy", list_a(Listing::Copy)),
+        ("grinc list a --after update", list_a(Listing::Update)),
+        ("grinc list --after code a", list_a(Listing::Code)),
         ("grinc list a", None),
         ("grinc list a --after", None),
         ("grinc list a --after=", None),
@@ -177,7 +255,8 @@ fn other_lines(rt: HostRuntime) -> Result<(), Fail> {
         ("grinc list a --after read --steps 1", None),
         ("grinc list a --after read --heap 1", None),
         ("grinc list a --after=read --after read", None),
-        ("grinc build a", None),
+        ("grinc list a --after code --stack 1024", None),
+        ("grinc gen a", None),
     ];
     for (words, want) in rows {
         let line = line_of(rt.alloc(), words)?;

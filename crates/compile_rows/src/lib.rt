@@ -1,4 +1,4 @@
-//! Rows for the compiler: low code that was worked by hand, the words of images, and a program about as large as any.
+//! Rows for the compiler: low code that was worked by hand.
 #![tactic(auto)]
 
 #[cfg(test)]

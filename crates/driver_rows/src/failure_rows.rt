@@ -91,7 +91,7 @@ fn failing_objects(rt: HostRuntime) -> Result<(), Fail> {
 
 #[test]
 fn files_that_are_not_there(rt: HostRuntime) -> Result<(), Fail> {
-    for command in ["run", "check", "exec"] {
+    for command in ["run", "check", "build", "exec"] {
         let shown = Outside::of(b"").run(rt.alloc(), &["grinc", command, "b"])?;
         assert!(rt; shown.is(9, "", "grinc: read fault\n"), "{command}");
     }
@@ -100,7 +100,7 @@ fn files_that_are_not_there(rt: HostRuntime) -> Result<(), Fail> {
 
 #[test]
 fn words_that_are_no_command(rt: HostRuntime) -> Result<(), Fail> {
-    let lines: [&[&str]; 13] = [
+    let lines: [&[&str]; 15] = [
         &["grinc"],
         &["grinc", "run"],
         &["grinc", "run", "a", "b"],
@@ -113,7 +113,9 @@ fn words_that_are_no_command(rt: HostRuntime) -> Result<(), Fail> {
         &["grinc", "check"],
         &["grinc", "check", "a", "--steps", "1"],
         &["grinc", "exec", "a", "--steps", "0"],
-        &["grinc", "list", "a", "--after", "code"],
+        &["grinc", "build", "a", "--stack", "67108865"],
+        &["grinc", "gen", "--seed", "1"],
+        &["grinc", "gen", "--seed", "1", "--size", "201"],
     ];
     for words in lines {
         // A call of the shelf would be a read fault.

@@ -2,6 +2,8 @@
 #![tactic(auto)]
 
 #[cfg(test)]
+mod build_rows;
+#[cfg(test)]
 mod check_rows;
 #[cfg(test)]
 mod example_rows;
@@ -9,6 +11,8 @@ mod example_rows;
 mod exec_rows;
 #[cfg(test)]
 mod failure_rows;
+#[cfg(test)]
+mod gen_rows;
 #[cfg(test)]
 mod images;
 #[cfg(test)]

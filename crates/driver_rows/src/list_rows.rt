@@ -180,6 +180,168 @@ main =
       fail
 ";
 
+// After fetches of words and copies: no line fetches a node.
+const TAKES_BY_WORDS: &str = "global main = (Fmain)
+
+take v0 =
+  v1 <- fetch v0 0
+  [v2 v3 v4] <- case [v1 0 0] of
+    (CNil) ->
+      v5 <- fetch v0 1
+      v6 <- fetch v0 2
+      unit [v1 v5 v6]
+    (CCons) ->
+      v7 <- fetch v0 1
+      v8 <- fetch v0 2
+      unit [v1 v7 v8]
+    (Ftake) ->
+      v9 <- fetch v0 1
+      [v10 v11 v12] <- call take v9
+      update v0 [v10 v11 v12]
+      unit [v10 v11 v12]
+  case [v2 v3 v4] of
+    (CNil) ->
+      unit (CNil)
+    (CCons) ->
+      store
+        v13 = (Ftake v4)
+      unit (CCons v3 v13)
+    else ->
+      fail
+
+main =
+  store
+    v0 = (CInt 65)
+    v1 = (CNil)
+    v2 = (CCons v0 v1)
+    v3 = (Ftake v2)
+  call take v3
+
+@print v0 =
+  v1 <- fetch v0 0
+  [v2 v3 v4] <- case [v1 0 0] of
+    (CNil) ->
+      v5 <- fetch v0 1
+      v6 <- fetch v0 2
+      unit [v1 v5 v6]
+    (CCons) ->
+      v7 <- fetch v0 1
+      v8 <- fetch v0 2
+      unit [v1 v7 v8]
+    (Ftake) ->
+      v9 <- fetch v0 1
+      [v10 v11 v12] <- call take v9
+      update v0 [v10 v11 v12]
+      unit [v10 v11 v12]
+    (Fmain) ->
+      [v13 v14 v15] <- call main
+      update v0 [v13 v14 v15]
+      unit [v13 v14 v15]
+  case [v2 v3 v4] of
+    (CNil) ->
+      unit (CNil)
+    (CCons) ->
+      v16 <- fetch v3 0
+      v17 <- fetch v3 1
+      v18 <- fetch v3 2
+      [v19 v20 v21] <- unit [v16 v17 v18]
+      case [v19 v20 v21] of
+        (CInt) ->
+          write v20
+          call @print v4
+        else ->
+          fail
+    else ->
+      fail
+";
+
+// The first word of each vector that an update takes is a tag.
+const TAKES_WITH_TAGS: &str = "global main = (Fmain)
+
+take v0 =
+  v1 <- fetch v0 0
+  [v2 v3 v4] <- case [v1 0 0] of
+    (CNil) ->
+      v5 <- fetch v0 1
+      v6 <- fetch v0 2
+      unit [v1 v5 v6]
+    (CCons) ->
+      v7 <- fetch v0 1
+      v8 <- fetch v0 2
+      unit [v1 v7 v8]
+    (Ftake) ->
+      v9 <- fetch v0 1
+      [v10 v11 v12] <- call take v9
+      case [v10 v11 v12] of
+        (CNil) ->
+          update v0 [#CNil v11 v12]
+        (CCons) ->
+          update v0 [#CCons v11 v12]
+      unit [v10 v11 v12]
+  case [v2 v3 v4] of
+    (CNil) ->
+      unit (CNil)
+    (CCons) ->
+      store
+        v13 = (Ftake v4)
+      unit (CCons v3 v13)
+    else ->
+      fail
+
+main =
+  store
+    v0 = (CInt 65)
+    v1 = (CNil)
+    v2 = (CCons v0 v1)
+    v3 = (Ftake v2)
+  call take v3
+
+@print v0 =
+  v1 <- fetch v0 0
+  [v2 v3 v4] <- case [v1 0 0] of
+    (CNil) ->
+      v5 <- fetch v0 1
+      v6 <- fetch v0 2
+      unit [v1 v5 v6]
+    (CCons) ->
+      v7 <- fetch v0 1
+      v8 <- fetch v0 2
+      unit [v1 v7 v8]
+    (Ftake) ->
+      v9 <- fetch v0 1
+      [v10 v11 v12] <- call take v9
+      case [v10 v11 v12] of
+        (CNil) ->
+          update v0 [#CNil v11 v12]
+        (CCons) ->
+          update v0 [#CCons v11 v12]
+      unit [v10 v11 v12]
+    (Fmain) ->
+      [v13 v14 v15] <- call main
+      case [v13 v14 v15] of
+        (CNil) ->
+          update v0 [#CNil v14 v15]
+        (CCons) ->
+          update v0 [#CCons v14 v15]
+      unit [v13 v14 v15]
+  case [v2 v3 v4] of
+    (CNil) ->
+      unit (CNil)
+    (CCons) ->
+      v16 <- fetch v3 0
+      v17 <- fetch v3 1
+      v18 <- fetch v3 2
+      [v19 v20 v21] <- unit [v16 v17 v18]
+      case [v19 v20 v21] of
+        (CInt) ->
+          write v20
+          call @print v4
+        else ->
+          fail
+    else ->
+      fail
+";
+
 /// A program that takes a list twice. It applies no unknown function.
 const TAKES_TEXT: &str =
     "take xs = case xs of { Nil -> Nil; Cons h t -> Cons h (take t) }; main = take (take (Cons 65 Nil));";
@@ -201,6 +363,9 @@ fn listings(rt: HostRuntime) -> Result<(), Fail> {
         (TAKES_TEXT, "eval", TAKES),
         (TAKES_TEXT, "apply", TAKES),
         (TAKES_TEXT, "vectorise", TAKES_IN_VECTORS),
+        (TAKES_TEXT, "fetch", TAKES_BY_WORDS),
+        (TAKES_TEXT, "copy", TAKES_BY_WORDS),
+        (TAKES_TEXT, "update", TAKES_WITH_TAGS),
     ];
     for (text, after, out) in rows {
         let text = format!(in rt.alloc(); "{LISTS}{text}")?;

@@ -7,6 +7,9 @@ use std::alloc::{AllocError, Global};
 /// `Nil` and `Cons`, 25 bytes.
 pub(crate) const LISTS: &str = "data Nil 0; data Cons 2; ";
 
+/// The bytes that an output takes.
+const CAPACITY: usize = 1_048_576;
+
 /// An object that a command line is given.
 #[derive(Clone, Copy, PartialEq, Eq)]
 pub(crate) enum Object {
@@ -41,6 +44,11 @@ impl Ended {
     /// Whether this is the status of the process, and whether the two outputs took these bytes.
     pub(crate) fn is_bytes(&self, code: u8, out: &[u8], err: &str) -> bool {
         self.status.code() == code && self.out.taken() == out && self.err.taken() == err.as_bytes()
+    }
+
+    /// The bytes that the output took.
+    pub(crate) fn bytes(&self) -> &[u8] {
+        self.out.taken()
     }
 
     /// Whether this is the status of the process, and whether the output took so many bytes.
@@ -101,7 +109,7 @@ impl<'a> Outside<'a> {
         let mut shelf = MemShelf::new(files, self.failing_calls(alloc, Object::Shelf)?);
         let bytes = Vec::from_slice(alloc, self.input)?;
         let mut input = MemSource::new(bytes, self.failing_calls(alloc, Object::Input)?);
-        let mut out = MemSink::new(alloc, 16384, self.failing_calls(alloc, Object::Out)?)?;
+        let mut out = MemSink::new(alloc, CAPACITY, self.failing_calls(alloc, Object::Out)?)?;
         let mut err = MemSink::new(alloc, 64, self.failing_calls(alloc, Object::Err)?)?;
         let status = status_of(alloc, &line, &mut shelf, &mut input, &mut out, &mut err);
         Ok(Ended { status, out, err })

@@ -29,6 +29,10 @@ fn programs_that_end(rt: HostRuntime) -> Result<(), Fail> {
             "k x y = x; main = case k 65 of { p -> Cons (p Nil) Nil };",
             "A",
         ),
+        (
+            "take xs = case xs of { Nil -> Nil; Cons h t -> Cons h (take t) }; main = take (take (Cons 65 Nil));",
+            "A",
+        ),
     ];
     for (text, out) in rows {
         let text = format!(in rt.alloc(); "{LISTS}{text}")?;
@@ -74,8 +78,10 @@ fn texts_that_are_refused(rt: HostRuntime) -> Result<(), Fail> {
     ];
     for (text, err) in rows {
         let text = format!(in rt.alloc(); "{LISTS}{text}")?;
-        let shown = Outside::of(text.as_bytes()).run(rt.alloc(), &["grinc", "run", "a"])?;
-        assert!(rt; shown.is(1, "", err), "{text}");
+        for command in ["run", "build"] {
+            let shown = Outside::of(text.as_bytes()).run(rt.alloc(), &["grinc", command, "a"])?;
+            assert!(rt; shown.is(1, "", err), "{command} {text}");
+        }
     }
     Ok(())
 }
@@ -133,7 +139,7 @@ fn what_is_given_suffices_or_not(rt: HostRuntime) -> Result<(), Fail> {
     let text = format!(in rt.alloc();
         "{LISTS}main = Cons 72 (Cons 101 (Cons 108 (Cons 108 (Cons 111 Nil))));"
     )?;
-    let rows: [(&[&str], u8, &str, &str); 5] = [
+    let rows: [(&[&str], u8, &str, &str); 6] = [
         (&["grinc", "run", "a", "--heap", "100"], 0, "Hello", ""),
         (
             &["grinc", "run", "a", "--heap", "1"],
@@ -149,6 +155,12 @@ fn what_is_given_suffices_or_not(rt: HostRuntime) -> Result<(), Fail> {
             "grinc: step limit\n",
         ),
         (&["grinc", "run", "--heap=00100", "--", "a"], 0, "Hello", ""),
+        (
+            &["grinc", "run", "--heap=0007", "--", "a"],
+            4,
+            "",
+            "grinc: heap full\n",
+        ),
     ];
     for (words, code, out, err) in rows {
         let shown = Outside::of(text.as_bytes()).run(rt.alloc(), words)?;

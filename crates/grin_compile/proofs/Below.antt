@@ -8,10 +8,11 @@ use Rattle.low_code.specs.Formed as low_formed
 use Rattle.low_code.specs.Size.{low_all, calls_of}
 use Rattle.low_translate.specs.Lowers.{Lowers, LowersSmall}
 use Rattle.register_alloc.specs.Assignment.{Assignment}
-use Rattle.register_alloc.specs.Fits.{Fits}
-use Rattle.register_alloc.specs.Gathered.{HaveFewResults}
+use Rattle.register_alloc.specs.Fits.{Fits, UsesRegisters}
+use Rattle.register_alloc.specs.Gathered.{HaveFewParameters, HaveFewResults}
 use Rattle.rv32_items.specs.declared.Item.{Item}
 use Rattle.rv32_items.specs.Placed.{size_of, Placed}
+use Rattle.rv32_layout.specs.Places.{AllDecode}
 use Rattle.rv32_select.specs.IsSelected.{IsSelected}
 use Rattle.rv32_select.specs.Laws.{SelectedItemsDo}
 use Rattle.rv32_select.specs.Selectable.{Selectable}
@@ -27,6 +28,9 @@ all_at : {A : Type 0} (P : A → Type 0) (xs : List A) → AllOf P xs → (k : �
 all_at P [] all k x e = cc
 all_at P (y ∷ xs) all zero x e = let same : y ≡ x = cc in subst P same all.0
 all_at P (y ∷ xs) all (suc k) x e = all_at P xs all.1 k x e
+
+pub few_parameters : (g : grin.Program) (l : low.Program) → Lowers g l → HaveFewParameters l.procs
+few_parameters g l lowers f q e = all_at (λ q. length q.params ≤ 16) l.procs lowers.few_params f q e
 
 pub few_results : (g : grin.Program) (l : low.Program) → Lowers g l → HaveFewResults l.procs
 few_results g l lowers f q e = all_at (λ q. q.results ≤ 13) l.procs lowers.few_results f q e
@@ -65,10 +69,12 @@ module _ (g : grin.Program) (l : low.Program) (a : Assignment) (cells stack : �
 
 pub has_layers : (g : grin.Program) (cells stack : ℕ) (m : Layers) (items : List Item) → Lowers g (low.program_of m.low) → LowersSmall g (low.program_of m.low)
     → Fits (low.program_of m.low) m.places → Selects (low.program_of m.low) m.places cells stack items → Placed items m.code.items
-    → size_of items ≤ 268435456 → HasLayers g cells stack m
-has_layers g cells stack m items lowers small fits selects placed few = record {
+    → AllDecode m.code.items → size_of items ≤ 268435456 → UsesRegisters (low.program_of m.low) m.places → HasLayers g cells stack m
+has_layers g cells stack m items lowers small fits selects placed decode few uses = record {
   items = items;
   made = record { lowers = lowers; small = small; fits = fits; selects = selects; placed = placed };
   some_words = placed.some selects.some_item.0 selects.some_item.1;
   few_words = omega (arith, placed.few, few);
+  decode = decode;
+  uses = uses;
 }

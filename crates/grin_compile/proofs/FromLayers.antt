@@ -1,6 +1,6 @@
 -- The layers below the stages make an image of the program.
 use Rattle.std.proofs.Common.{◌≡◌, ℕ, ◌+◌, ◌*◌, ◌≤◌, List, length, refl, ap, subst, arith}
-use Rattle.headline.specs.Carries.{IsBytes}
+use Rattle.headline.specs.Carries.{IsBytes, KeepsPace, Tells}
 use Rattle.arity_check.specs.Accepted.{IsValid}
 use Rattle.arity_check.specs.Program as core
 use Rattle.core_meaning.specs.Told.{of_core}
@@ -16,20 +16,24 @@ use Rattle.grin_translate.specs.Same.{ValidTranslationDoesAs}
 use Rattle.grin_translate.specs.Translation.{tr}
 use Rattle.low_code.specs.Tree.{Program}
 use Rattle.low_code.specs.Run.{NeverMissing}
+use Rattle.low_code.specs.Size.{low_all, calls_of}
 use Rattle.low_code.specs.Told.{of_low}
 use Rattle.register_alloc.specs.Assignment.{Assignment, words_at}
 use Rattle.rv32_items.specs.declared.Item.{Item}
+use Rattle.rv32_items.specs.Placed.{size_of}
 use Rattle.rv32_items.specs.Laws.{addresses_of}
-use Rattle.grin_compile.specs.Limits.{HeapOver, FramesOver, StackOver, frame_bound, heap_bytes}
+use Rattle.rv32_steps.specs.Seen.{of_machine}
+use Rattle.grin_compile.specs.Limits.{HeapOver, FramesOver, StackOver, frame_bound, heap_bytes, steps_each}
 use Rattle.grin_compile.specs.Code.{start_with, IsCodeFor}
 use Rattle.grin_compile.specs.Stages.{passes, AreStages, IsLastSlim}
 use Rattle.grin_compile.specs.Made.{IsImageOf}
 use Rattle.grin_compile.specs.Layers.{AreLayers, MadeFromLayers}
 use Rattle.grin_compile.proofs.Tells.{tells_both, stages_keep, stage_tells, stage_never_missing, stage_no_deeper, low_never_missing}
 use Rattle.grin_compile.proofs.Frames.{over, few_frame_words}
-use Rattle.grin_compile.proofs.Sizes.{stages_outside, few_parts, few_words}
+use Rattle.grin_compile.proofs.Sizes.{stages_outside, FewParts, few_parts, functions_inlined, few_words, few_steps}
 use Rattle.grin_compile.proofs.Functions.{few_functions}
 use Rattle.grin_compile.proofs.Layered.{code_for}
+use Rattle.grin_compile.proofs.Paced.{layers_keep_pace}
 
 module _ (does : ValidTranslationDoesAs) (p : core.Program) (A : Solution) (stages : List grin.Program) (g : grin.Program) (l : Program)
     (a : Assignment) (cells stack : ℕ) (items : List Item) (words file : List ℕ)
@@ -43,11 +47,20 @@ module _ (does : ValidTranslationDoesAs) (p : core.Program) (A : Solution) (stag
   pub never_missing : NeverMissing l
   never_missing = low_never_missing g l made.lowers (stage_never_missing does p valid g keeps)
 
+  parts : FewParts (inlined A (tr p)) (length p.funs) l
+  parts = few_parts p (inlined A (tr p)) g l _ refl (stages_outside p passes (inlined A (tr p)) stages are last.at g last.there) last.slim made.lowers made.small
+
   pub few : length words ≤ 268435456
   few =
-      let parts = few_parts p (inlined A (tr p)) g l _ refl (stages_outside p passes (inlined A (tr p)) stages are last.at g last.there) last.slim made.lowers made.small in
       let globals : length l.globals ≤ 4096 = omega (arith, parts.globals, few_functions p valid) in
       few_words _ _ _ _ _ _ _ fits parts.procs globals parts.light parts.calls (made.selects.few made.small.few_tests) made.placed.few
+
+  few_items : size_of items ≤ steps_each p A
+  few_items =
+      let functions = functions_inlined p A in
+      let most = few_steps (length l.procs) (length l.globals) (low_all l) (calls_of l) (inlined_size A (tr p)) (size_of items) parts.procs (omega (arith, parts.globals, functions)) parts.light parts.calls
+      (made.selects.few made.small.few_tests) in
+      omega (arith, most)
 
   abbrev frame : ℕ
   frame = 1 + 20 * largest_procedure (inlined A (tr p))
@@ -64,6 +77,9 @@ module _ (does : ValidTranslationDoesAs) (p : core.Program) (A : Solution) (stag
   heap_is : 4 * l.width * cells ≡ heap_bytes g cells
   heap_is = ap (λ w. 4 * w * cells) made.lowers.width
 
+  tells : (i : List ℕ) → IsBytes i → (n : ℕ) → Tells (of_core p i n) (of_low l (words_at a) i n)
+  tells i bytes n = tells_both (of_core p i n) (of_grin g i n) (of_low l (words_at a) i n) (stage_tells does p valid g keeps i n) (made.lowers.tells (words_at a) i bytes n)
+
   pub image : IsImageOf p A g cells stack words addresses file
   image = record {
     few_words = few;
@@ -72,9 +88,11 @@ module _ (does : ValidTranslationDoesAs) (p : core.Program) (A : Solution) (stag
     code_for = subst (λ m. IsCodeFor (HeapOver cells) (StackOver (frame_bound p A) stack) (of_core p) (entered_by_grin g) m words (start_with words (heap_bytes g cells) stack) addresses) made.lowers.procs
         (subst (λ h. IsCodeFor (HeapOver cells) (StackOver (frame_bound p A) stack) (of_core p) (entered_by_grin g) (length l.procs) words (start_with words h stack) addresses) heap_is
         (code_for (of_core p) (entered_by_grin g) (StackOver (frame_bound p A) stack) l a cells stack items words
-        (λ i bytes n. tells_both (of_core p i n) (of_grin g i n) (of_low l (words_at a) i n) (stage_tells does p valid g keeps i n) (made.lowers.tells (words_at a) i bytes n))
+        tells
         (λ i bytes n. made.lowers.enters (words_at a) i bytes n)
         full never_missing made.selects made.placed few));
+    paced = subst (λ h. KeepsPace (steps_each p A) (of_core p) (of_machine (start_with words h stack))) heap_is
+        (layers_keep_pace (of_core p) l a cells stack (steps_each p A) items words tells never_missing made.selects made.placed few few_items);
   }
 
 pub made_from_layers : ValidTranslationDoesAs → MadeFromLayers

@@ -107,7 +107,7 @@ module _ (told : Meaning) (entered : List ℕ → ℕ → List ℕ) (StackFull :
     reached : (n : ℕ) → (m : ℕ) × Reaches (told i n) (of_machine (state_at lay items start) i m)
     reached n =
         let r = s.arrives lay placed.rises below i bytes n in
-        let low = reaches l a cells stack never i bytes n (course lay items r.0 i start) r.1 in
+        let low = reaches l a cells stack never i bytes s.begins n (course lay items r.0 i start) r.1 in
         let m = items_are_reached items words placed start i (_, refl) never_traps r.0 in
         (m.0, subst (Reaches (told i n)) (sym m.1.1) (reaches_kept (told i n) (of_low l (words_at a) i n) (of_items lay items start i r.0) (tells i bytes n) low))
 

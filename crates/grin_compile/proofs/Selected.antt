@@ -114,15 +114,15 @@ module _ (l : Program) (a : Assignment) (cells stack : ℕ) (never : NeverMissin
   reached n c (ended stack_full) is out h =
       inr (inr (ap finish_of h.0), subst (λ o. Begins o (told n).out) (sym h.1.0) (between n).output)
 
-  pub reaches : (n : ℕ) (c : Course) → Arrives i (within_room n) c → Reaches (told n) (seen c)
-  reaches n c h = reached n c (end_of (within_room n)) refl h.output h.ended
+  pub reaches : (begins : List ℕ) (n : ℕ) (c : Course) → Arrives begins i (within_room n) c → Reaches (told n) (seen c)
+  reaches begins n c h = reached n c (end_of (within_room n)) refl h.output h.ended
 
 pub selection_carries : SelectionCarries
 selection_carries l a cells stack items never s lay rises below = (
   record {
     reaches = λ i bytes n.
         let r = s.arrives lay rises below i bytes n in
-        (r.0, reaches l a cells stack never i bytes n (course lay items r.0 i (start_at l.width cells stack lay)) r.1);
+        (r.0, reaches l a cells stack never i bytes s.begins n (course lay items r.0 i (start_at l.width cells stack lay)) r.1);
     comes = λ i bytes k. (length (procedures_at s.begins (course lay items k i (start_at l.width cells stack lay)).passed), shown i bytes k);
   },
   shown,

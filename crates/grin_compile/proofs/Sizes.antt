@@ -1,26 +1,32 @@
 -- Code that is made of a slim stage has few words.
-use Rattle.std.proofs.Common.{◌≡◌, ℕ, zero, suc, ◌+◌, ◌*◌, ◌≤◌, Bool, true, false, List, [], ◌∷◌, ◌++◌, length, Some, slice_get, refl, sym, ap, ◌∙◌, subst, arith}
+use Rattle.std.proofs.Common.{◌≡◌, ℕ, zero, suc, ◌+◌, ◌*◌, ◌≤◌, Bool, true, false, List, [], ◌∷◌, ◌++◌, map, length, Some, slice_get, refl, sym, ap, ◌∙◌, subst, arith}
 use Rattle.std.specs.Prelude.{◌==◌, if◌then◌else◌}
-use Rattle.std.proofs.lemmas.List.{length-map}
+use Rattle.std.proofs.lemmas.List.{length-map, length-append}
 use Rattle.arity_check.specs.Program as core
 use Rattle.grin_syntax.specs.Tree.{Code, end, store, bind, Act, unit, fetch, fetch_word, update, eval, apply, call, prim, read, write, case, nested, fail, Procedure, Program}
 use Rattle.grin_syntax.specs.SameOutside.{names_of, SameOutside}
 use Rattle.grin_meaning.specs.Slim.{Slim}
+use Rattle.grin_syntax.specs.Fresh.{past_procs}
+use Rattle.flow_system.specs.Solution.{Solution}
+use Rattle.eval_inline.specs.Inlining.{eval_procs, code_room, eval_inlined}
+use Rattle.apply_inline.specs.Inlining.{apply_procs, apply_code_room, inlined}
 use Rattle.apply_inline.specs.Size.{act_size, code_size, procedure_size, total, largest, size, largest_procedure}
 use Rattle.grin_opt.specs.declared.pass.PassName.{PassName}
-use Rattle.grin_opt.specs.declared.pass.PassName.TheVariants.{Translate, Eval, Apply, Vectorise}
+use Rattle.grin_opt.specs.declared.pass.PassName.TheVariants.{Translate, Eval, Apply, Vectorise, Simplify, Fetch, Copy, Update}
+use Rattle.grin_opt.specs.Schedule.{shape_of}
+use Rattle.grin_translate.specs.declared.tags.Delay.{Delay}
 use Rattle.grin_translate.specs.declared.tags.Delay.TheVariants.{Calls}
 use Rattle.grin_translate.specs.declared.tags.Kind.TheVariants.{Waits}
-use Rattle.grin_translate.specs.Tags.{tag}
-use Rattle.grin_translate.specs.Translation.{global_cells, tr}
+use Rattle.grin_translate.specs.Tags.{tag, numbers_from, delays}
+use Rattle.grin_translate.specs.Translation.{global_cells, delayed_procs, print_procs, span, tr}
 use Rattle.low_code.specs.Tree as low
 use Rattle.low_code.specs.Size.{low_all, calls_of}
 use Rattle.low_translate.specs.Lowers.{Lowers, LowersSmall}
-use Rattle.grin_compile.specs.Stages.{shape_of, AreStages}
+use Rattle.grin_compile.specs.Stages.{AreStages}
 
 -- ---- the procedures and global cells of a stage
 
-outside_both : (f g h : Program) → SameOutside f g → SameOutside g h → SameOutside f h
+pub outside_both : (f g h : Program) → SameOutside f g → SameOutside g h → SameOutside f h
 outside_both f g h a b = record {
   same_tags = b.same_tags ∙ a.same_tags;
   same_globals = b.same_globals ∙ a.same_globals;
@@ -37,6 +43,10 @@ shaped_outside Translate g h s = absurd s
 shaped_outside Eval g h s = absurd s
 shaped_outside Apply g h s = absurd s
 shaped_outside Vectorise g h s = s.outside
+shaped_outside Simplify g h s = s.stays.outside
+shaped_outside Fetch g h s = s.outside
+shaped_outside Copy g h s = s.stays.outside
+shaped_outside Update g h s = s.stays.outside
 
 pub stages_outside : (p : core.Program) (ks : List PassName) (g : Program) (hs : List Program) → AreStages p ks g hs
     → (k : ℕ) (h : Program) → slice_get hs k ≡ Some h → SameOutside g h
@@ -99,6 +109,45 @@ largest_below (q ∷ qs) = omega (arith, largest_below qs)
 pub largest_is_small : (g : Program) → largest_procedure g ≤ size g
 largest_is_small g = largest_below g.procs
 
+-- ---- functions
+
+numbers_length : (k n : ℕ) → length (numbers_from k n) ≡ n
+numbers_length k zero = refl
+numbers_length k (suc n) = ap suc (numbers_length (suc k) n)
+
+delayed_length : (p : core.Program) (base : ℕ) (ds : List Delay) → length (delayed_procs p base ds) ≡ length ds
+delayed_length p base [] = refl
+delayed_length p base (d ∷ ds) = ap suc (delayed_length p (base + span p d) ds)
+
+front_shorter : {A : Type 0} (xs ys : List A) → length xs ≤ length (xs ++ ys)
+front_shorter xs ys = omega (arith, length-append xs ys)
+
+function_delays : (p : core.Program) → length p.funs ≤ length (delays p)
+unfolding delays
+function_delays p =
+    let n : length (map Calls (numbers_from 0 (length p.funs))) ≤ length (delays p) = front_shorter (map Calls (numbers_from 0 (length p.funs))) _ in
+    let m = length-map (numbers_from 0 (length p.funs)) Calls in
+    omega (arith, n, m, numbers_length 0 (length p.funs))
+
+eval_length : (p : Program) (A : Solution) (x : ℕ) (qs : List Procedure) → length (eval_procs p A x qs) ≡ length qs
+eval_length p A x [] = refl
+eval_length p A x (q ∷ qs) = ap suc (eval_length p A (x + code_room p A q.body) qs)
+
+apply_length : (p : Program) (A : Solution) (x : ℕ) (qs : List Procedure) → length (apply_procs p A x qs) ≡ length qs
+apply_length p A x [] = refl
+apply_length p A x (q ∷ qs) = ap suc (apply_length p A (x + apply_code_room p A q.body) qs)
+
+-- each function has a procedure, and there is one more
+pub functions_inlined : (p : core.Program) (A : Solution) → suc (length p.funs) ≤ size (inlined A (tr p))
+functions_inlined p A =
+    let g = tr p in
+    let h = eval_inlined A g in
+    let all = length-append (delayed_procs p (length p.funs) (delays p)) (print_procs p) in
+    let first = delayed_length p (length p.funs) (delays p) in
+    let evals = eval_length g A (past_procs g.procs) g.procs in
+    let applies = apply_length h A (past_procs h.procs) h.procs in
+    omega (arith, function_delays p, all, first, evals, applies, few_procs (inlined A g).procs)
+
 -- ---- words
 
 pub record FewParts (inlined : Program) (functions : ℕ) (l : low.Program) : Type 0 where
@@ -124,3 +173,8 @@ pub few_words : (procs globals low_all calls size : ℕ) (words items : ℕ) →
     → items ≤ 64 * (procs + globals + 1) + 8 * low_all + 256 * calls → words ≤ items → words ≤ 268435456
 few_words procs globals low_all calls size words items fits some few light called bound placed =
     omega (arith, fits, some, few, light, called, bound, placed)
+
+-- at most 1,920 for each unit of the size
+pub few_steps : (procs globals low_all calls size items : ℕ) → procs ≤ size → globals + 1 ≤ size → low_all ≤ 192 * size → calls ≤ size
+    → items ≤ 64 * (procs + globals + 1) + 8 * low_all + 256 * calls → items ≤ 1920 * size
+few_steps procs globals low_all calls size items some few light called bound = omega (arith, some, few, light, called, bound)

@@ -1,29 +1,32 @@
 -- The stages of a program, and the last of them, of which code can be made.
-use Rattle.std.proofs.Common.{◌≡◌, ℕ, zero, suc, ◌≤◌, ◌<◌, [], ◌∷◌, length, Some, slice_get, refl, sym, ap, ◌∙◌, subst, arith}
+use Rattle.std.proofs.Common.{◌≡◌, ℕ, ◌≤◌, length, refl, sym, ap, ◌∙◌, subst, arith}
 use Rattle.arity_check.specs.Accepted.{IsValid}
 use Rattle.arity_check.specs.Program as core
+use Rattle.grin_syntax.specs.declared.program.Grin.{Grin}
 use Rattle.grin_syntax.specs.Tree.{Program, program_of}
-use Rattle.grin_syntax.specs.Formed.{Formed}
+use Rattle.grin_syntax.specs.SameOutside.{SameOutside}
 use Rattle.grin_meaning.specs.Keeps.{Keeps}
-use Rattle.grin_meaning.specs.Ready.{Ready}
+use Rattle.grin_meaning.specs.Slim.{Slim}
 use Rattle.grin_meaning.proofs.Kept.{keeps_again}
 use Rattle.flow_system.specs.Solution.{Solution}
 use Rattle.apply_inline.specs.Inlining.{inlined, inlined_size}
-use Rattle.apply_inline.specs.Size.{largest_procedure}
-use Rattle.vectorise.specs.Whole.{IsWhole}
-use Rattle.vectorise.specs.Widened.{Widened}
+use Rattle.apply_inline.specs.Size.{size, largest_procedure}
 use Rattle.vectorised_form.specs.Laws.{VectoriseTakesInlined}
+use Rattle.grin_measure.specs.declared.measure.Sizes.{Sizes}
+use Rattle.grin_measure.specs.Within.{HasSizes}
 use Rattle.grin_translate.specs.Translation.{tr}
 use Rattle.grin_opt.specs.declared.pass.PassName.{PassName}
-use Rattle.grin_opt.specs.declared.pass.PassName.TheVariants.{Translate, Eval, Apply}
-use Rattle.grin_stages.specs.Stage.{Analyses, IsStage, translated, evaluations_inlined, both_inlined, vectorised, Fits, OneExpandedSize, VectorisedIsSlim}
+use Rattle.grin_opt.specs.declared.pass.PassName.TheVariants.{Translate, Eval, Apply, Vectorise}
+use Rattle.grin_opt.specs.Schedule.{IsTaken, shape_of}
+use Rattle.grin_stages.specs.Stage.{Analyses, IsStage, translated, evaluations_inlined, both_inlined, by_pass, Fits, OneExpandedSize, VectorisedIsSlim}
+use Rattle.grin_compile.specs.declared.later.Later.{Later}
 use Rattle.grin_compile.specs.declared.stages.Stages.{Stages}
-use Rattle.grin_compile.specs.Lowerable.{IsLowerable}
 use Rattle.grin_compile.specs.Parts.{HasStages}
-use Rattle.grin_compile.specs.Stages.{IsSlim, IsLastSlim}
+use Rattle.grin_compile.specs.Passed.{ArePassed, later_after, programs_of, SlimBeside}
+use Rattle.grin_compile.specs.Stages.{passes, AreStages, IsLastOf, IsLastSlim}
 use Rattle.grin_compile.proofs.Functions.{few_functions}
-use Rattle.grin_compile.proofs.Narrow.{narrow}
 use Rattle.grin_compile.proofs.Sizes.{as_many_procs, few_procs, few_globals, largest_is_small}
+use Rattle.grin_compile.proofs.Stepped.{can_be_lowered, are_stages}
 
 -- the solution by which a stage is inlined
 record InlinedBy (p : core.Program) (a : Program) : Type 0 where
@@ -35,65 +38,97 @@ inlined_by : (p : core.Program) (k : PassName) (a : Program) → IsStage p k a �
 inlined_by p k a translated e = cc
 inlined_by p k a (evaluations_inlined least) e = cc
 inlined_by p k a (both_inlined {A = A} least) e = record { solution = A; least = least; is = refl }
-inlined_by p k a (vectorised stage widened keeps) e = cc
+inlined_by p k a (by_pass {g = b} stage shape keeps) e = absurd (subst (λ k. shape_of k b a) e shape)
 
--- vectorising takes a copy of the inlined program
-pub taken_by : VectoriseTakesInlined → (p : core.Program) → IsValid p → (a copied : Program) → IsStage p Apply a → copied ≡ a
-    → Formed copied × Ready copied × IsWhole copied
-taken_by taken p valid a copied stage e =
-    let by = inlined_by p Apply a stage refl in
-    subst (λ g. Formed g × Ready g × IsWhole g) (sym (e ∙ by.is)) (taken p valid by.solution by.least.solves)
+-- the passes after the inlining take the inlined program
+pub taken_by : VectoriseTakesInlined → (p : core.Program) → IsValid p → (a : Program) → IsStage p Apply a → IsTaken a
+taken_by taken p valid a stage = let by = inlined_by p Apply a stage refl in subst IsTaken (sym by.is) (taken p valid by.solution by.least.solves)
 
-module _ (taken : VectoriseTakesInlined) (slim : VectorisedIsSlim) (p : core.Program) (valid : IsValid p) (A : Solution) (least : Analyses p A)
-    (fits : inlined_size A (tr p) ≤ 131072) (v : Program) (widened : Widened (inlined A (tr p)) v) (keeps : Keeps (tr p) v) where
-  is_slim : IsSlim p A v
-  is_slim = slim p v (vectorised (both_inlined least) widened keeps) A least
+-- the sizes of a program that is not too large are as they were measured
+record AreMeasured (a : Program) (s : Sizes) : Type 0 where
+  pub program : s.program ≡ size a
+  pub largest : s.largest ≡ largest_procedure a
 
-  last_one : IsLastSlim p A (v ∷ []) v
-  last_one = record { at = 0; there = refl; slim = is_slim; last = none }
-    where
-      none : (k : ℕ) (h : Program) → 0 < k → slice_get (v ∷ []) k ≡ Some h → IsSlim p A h → ⊥
-      none zero h more there s = absurd (omega (arith, more))
-      none (suc k) h more there s = cc
+measured : (a : Program) (s : Sizes) → HasSizes a s → size a ≤ 131072 → AreMeasured a s
+measured a s has small =
+    let program = has.program in let largest = has.largest in
+    record { program = omega arith; largest = omega (arith, program, largest, small, largest_is_small a) }
 
-  lowerable : IsLowerable v
-  lowerable =
-      let takes = taken p valid A least.solves in
-      record {
-        formed = widened.formed;
-        ready = widened.ready;
-        vectorised = widened.vectorised;
-        narrow = narrow (inlined A (tr p)) v takes.1 takes.2 widened;
-        size = inlined_size A (tr p);
-        largest = largest_procedure (inlined A (tr p));
-        slim = is_slim;
-        fits = fits;
-        largest_fits = largest_is_small (inlined A (tr p));
-        few_procs = omega (arith, as_many_procs (inlined A (tr p)) v widened.outside, few_procs (inlined A (tr p)).procs);
-        few_globals = omega (arith, ap length widened.outside.same_globals, few_globals p p.funs 0, few_functions p valid);
-      }
+small_once : OneExpandedSize → (p : core.Program) → Fits p → (A : Solution) → Analyses p A → inlined_size A (tr p) ≤ 131072
+small_once one p fits A least =
+    subst (λ n. n ≤ 131072) (one p fits.size (inlined_size A (tr p)) fits.expanded (record { solution = A; least = least; is_size = refl })) fits.small
 
 module _ (taken : VectoriseTakesInlined) (slim : VectorisedIsSlim) (one : OneExpandedSize) (p : core.Program) (valid : IsValid p) (fits : Fits p)
-    (s : Stages) (copied : Program) where
-  pub has_stages : IsStage p Translate (program_of s.translated) → IsStage p Eval (program_of s.evaluated) → IsStage p Apply (program_of s.applied)
-      → Keeps (tr p) (program_of s.applied) → copied ≡ program_of s.applied
-      → Widened copied (program_of s.vectorised) → Keeps copied (program_of s.vectorised) → HasStages p s
-  has_stages first second third kept copy widened keeps =
-      let by = inlined_by p Apply (program_of s.applied) third refl in
-      let A = by.solution in
-      let wide : Widened (inlined A (tr p)) (program_of s.vectorised) = subst (λ g. Widened g (program_of s.vectorised)) (copy ∙ by.is) widened in
-      let kept : Keeps (tr p) (program_of s.vectorised) =
-      keeps_again (tr p) (program_of s.applied) (program_of s.vectorised) kept (subst (λ g. Keeps g (program_of s.vectorised)) copy keeps) in
-      let small : inlined_size A (tr p) ≤ 131072 =
-      subst (λ n. n ≤ 131072) (one p fits.size (inlined_size A (tr p)) fits.expanded (record { solution = A; least = by.least; is_size = refl })) fits.small in
+    (a : Program) (stage : IsStage p Apply a) (kept : Keeps (tr p) a) (l : Later) (passed : ArePassed passes a (programs_of l))
+    (s : Sizes) (sizes : HasSizes a s) where
+  by : InlinedBy p a
+  by = inlined_by p Apply a stage refl
+
+  abbrev A : Solution
+  A = by.solution
+
+  small : inlined_size A (tr p) ≤ 131072
+  small = small_once one p fits A by.least
+
+  are : AreMeasured a s
+  are = measured a s sizes (subst (λ g. size g ≤ 131072) (sym by.is) small)
+
+  program_is : s.program ≡ inlined_size A (tr p)
+  program_is = are.program ∙ ap size by.is
+
+  largest_is : s.largest ≡ largest_procedure (inlined A (tr p))
+  largest_is = are.largest ∙ ap largest_procedure by.is
+
+  pub small_program : s.program ≤ 131072
+  small_program = subst (λ n. n ≤ 131072) (sym program_is) small
+
+  pub small_largest : s.largest ≤ 131072
+  small_largest = omega (arith, largest_is, small, largest_is_small (inlined A (tr p)))
+
+  keeps : Keeps (tr p) (program_of l.vectorised)
+  keeps = keeps_again (tr p) a (program_of l.vectorised) kept passed.0.keeps
+
+  slim_beside : Slim (inlined_size A (tr p)) (largest_procedure (inlined A (tr p))) (program_of l.vectorised)
+  slim_beside = slim p (program_of l.vectorised) (by_pass {k = Vectorise} stage passed.0.shape keeps) A by.least
+
+  -- slim beside the sizes that were measured, and beside those of the inlined program
+  abbrev Beside : (size largest : ℕ) → Program → Type 0
+  Beside n m g = Slim n m g
+
+  pub vectors_are_slim : SlimBeside s (program_of l.vectorised)
+  vectors_are_slim =
+      subst (λ n. Slim n s.largest (program_of l.vectorised)) (sym program_is)
+      (subst (λ m. Slim (inlined_size A (tr p)) m (program_of l.vectorised)) (sym largest_is) slim_beside)
+
+  pub has_stages : (t e : Grin) (k : PassName) → IsStage p Translate (program_of t) → IsStage p Eval (program_of e) → (b : Grin) → program_of b ≡ a
+      → IsLastOf (SlimBeside s) (programs_of l) (later_after l k)
+      → HasStages p (record { translated = t; evaluated = e; applied = b; later = l; last = k })
+  has_stages t e k first second b is last =
+      let can = can_be_lowered a (taken_by taken p valid a stage) l passed k in
+      let last_slim : IsLastSlim p A (programs_of l) (later_after l k) =
+      subst (λ n. IsLastOf (Beside n (largest_procedure (inlined A (tr p)))) (programs_of l) (later_after l k)) program_is
+      (subst (λ m. IsLastOf (Beside s.program m) (programs_of l) (later_after l k)) largest_is last) in
+      let outside : SameOutside (inlined A (tr p)) (later_after l k) = subst (λ g. SameOutside g (later_after l k)) by.is can.outside in
       record {
         translated = first;
         evaluated = second;
         solution = A;
         least = by.least;
-        applied = by.is;
+        applied = is ∙ by.is;
         fits = small;
-        later = (kept, (wide, tt));
-        last = last_one taken slim p valid A by.least small (program_of s.vectorised) wide kept;
-        lowerable = lowerable taken slim p valid A by.least small (program_of s.vectorised) wide kept;
+        later = subst (λ g. AreStages p passes g (programs_of l)) by.is (are_stages p passes a (programs_of l) kept passed);
+        last = last_slim;
+        lowerable = record {
+          formed = can.of_vectors.formed;
+          ready = can.of_vectors.ready;
+          vectorised = can.of_vectors.vectorised;
+          narrow = can.narrow;
+          size = inlined_size A (tr p);
+          largest = largest_procedure (inlined A (tr p));
+          slim = last_slim.slim;
+          fits = small;
+          largest_fits = largest_is_small (inlined A (tr p));
+          few_procs = omega (arith, as_many_procs (inlined A (tr p)) (later_after l k) outside, few_procs (inlined A (tr p)).procs);
+          few_globals = omega (arith, ap length outside.same_globals, few_globals p p.funs 0, few_functions p valid);
+        };
       }

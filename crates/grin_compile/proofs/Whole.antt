@@ -14,11 +14,10 @@ use Rattle.grin_compile.specs.declared.stages.Stages.{Stages}
 use Rattle.grin_compile.specs.declared.layers.Layers.{Layers}
 use Rattle.grin_compile.specs.Code.{start_with, IsCodeFor}
 use Rattle.grin_compile.specs.declared.compilation.Compiled.{Compiled}
-use Rattle.grin_opt.specs.declared.pass.PassName.TheVariants.{Vectorise}
-use Rattle.grin_compile.specs.Compilation.{after, later, IsCompilation}
+use Rattle.grin_compile.specs.Compilation.{later, IsCompilation}
 use Rattle.grin_compile.specs.Limits.{HeapOver, FramesOver, heap_bytes, whole_words, InRange}
 use Rattle.grin_compile.specs.Made.{Made}
-use Rattle.grin_compile.specs.Parts.{HasStages, AreSizes, HasLayers}
+use Rattle.grin_compile.specs.Parts.{HasStages, made_of, AreSizes, HasLayers}
 use Rattle.grin_compile.specs.Stages.{passes, AreStages}
 use Rattle.grin_compile.proofs.Frames.{more_times, few_frame_words}
 use Rattle.grin_compile.proofs.FromLayers.{image, never_missing}
@@ -39,7 +38,7 @@ sizes_of cells stack r = record {
 pub small_heap : (width cells : ℕ) → width ≤ 14 → cells ≤ 8000000 → 4 * width * cells ≤ 448000000
 small_heap width cells few cells_few = omega (arith, more_times (4 * width) 56 cells (omega (arith, few)), cells_few)
 
-pub narrow_cells : (p : core.Program) (s : Stages) (m : Layers) (cells stack : ℕ) → HasStages p s → HasLayers (grin.program_of s.vectorised) cells stack m
+pub narrow_cells : (p : core.Program) (s : Stages) (m : Layers) (cells stack : ℕ) → HasStages p s → HasLayers (made_of s) cells stack m
     → (low.program_of m.low).width ≤ 14
 narrow_cells p s m cells stack stages layers = omega (arith, layers.made.lowers.width, stages.lowerable.ready.few_fields)
 
@@ -52,11 +51,11 @@ fits_layout code width cells stack some few narrow sizes = record {
 }
 
 module _ (does : ValidTranslationDoesAs) (p : core.Program) (valid : IsValid p) (cells stack : ℕ) (c : Compiled) (stages : HasStages p c.stages)
-    (layers : HasLayers (after c Vectorise) cells stack (record { low = c.low; places = c.places; code = c.code }))
+    (layers : HasLayers (made_of c.stages) cells stack (record { low = c.low; places = c.places; code = c.code }))
     (is_file : c.image.items ≡ file_of c.code.items (4 * (low.program_of c.low).width * cells) stack)
     (loads : Loads c.image.items (program c.code.items (4 * (low.program_of c.low).width * cells) stack)) where
   abbrev g : grin.Program
-  g = after c Vectorise
+  g = made_of c.stages
 
   abbrev l : low.Program
   l = low.program_of c.low
@@ -83,7 +82,7 @@ module _ (does : ValidTranslationDoesAs) (p : core.Program) (valid : IsValid p) 
 
   frames_for : IsCodeForLow (length g.procs) (heap_bytes g cells)
   frames_for =
-      let never = never_missing does p stages.solution (g ∷ []) g l c.places cells stack layers.items code c.image.items valid stages.fits stages.later stages.last layers.made file_is file_loads in
+      let never = never_missing does p stages.solution (later c) g l c.places cells stack layers.items code c.image.items valid stages.fits stages.later stages.last layers.made file_is file_loads in
       let carried = low_code_is_carried l c.places cells stack layers.items code never layers.made.selects layers.made.placed layers.few_words in
       subst (λ n. IsCodeForLow n (heap_bytes g cells)) layers.made.lowers.procs (subst (λ h. IsCodeForLow (length l.procs) h) heap_is carried)
 
@@ -94,14 +93,16 @@ module _ (does : ValidTranslationDoesAs) (p : core.Program) (valid : IsValid p) 
     solution = stages.solution;
     least = stages.least;
     applied = stages.applied;
-    stages = subst (λ h. AreStages p passes h (g ∷ [])) (sym stages.applied) stages.later;
+    stages = subst (λ h. AreStages p passes h (later c)) (sym stages.applied) stages.later;
     g = g;
     last = stages.last;
     lowers = layers.made.lowers;
     fits = layers.made.fits;
+    decode = layers.decode;
+    uses = layers.uses;
     small_frames = λ f. omega (arith, few_frame_words _ _ g l c.places stages.last.slim layers.made.small layers.made.fits f);
     addresses = addresses;
-    image = image does p stages.solution (g ∷ []) g l c.places cells stack layers.items code c.image.items valid stages.fits stages.later stages.last layers.made file_is file_loads;
+    image = image does p stages.solution (later c) g l c.places cells stack layers.items code c.image.items valid stages.fits stages.later stages.last layers.made file_is file_loads;
     within_frames = frames_for;
   }
 

@@ -7,16 +7,18 @@ use Rattle.flow_system.specs.Solution.{Solution}
 use Rattle.apply_inline.specs.Inlining.{inlined}
 use Rattle.grin_translate.specs.Translation.{tr}
 use Rattle.grin_opt.specs.declared.pass.PassName.{PassName}
-use Rattle.grin_opt.specs.declared.pass.PassName.TheVariants.{Translate, Eval, Apply, Vectorise}
+use Rattle.grin_opt.specs.declared.pass.PassName.TheVariants.{Translate, Eval, Apply}
 use Rattle.grin_stages.specs.Stage.{Analyses, IsStage}
 use Rattle.low_code.specs.Tree as low
 use Rattle.low_code.specs.Told.{of_low, entered_by_low}
 use Rattle.low_translate.specs.Lowers.{Lowers}
 use Rattle.register_alloc.specs.Assignment.{words_at}
-use Rattle.register_alloc.specs.Fits.{Fits}
+use Rattle.register_alloc.specs.Fits.{Fits, UsesRegisters}
+use Rattle.rv32_layout.specs.Places.{AllDecode}
 use Rattle.grin_compile.specs.declared.compilation.Compiled.{Compiled}
 use Rattle.grin_compile.specs.Limits.{HeapOver, FramesOver, frame_bound, heap_bytes}
 use Rattle.grin_compile.specs.Code.{start_with, IsCodeFor}
+use Rattle.grin_compile.specs.Passed.{later_after}
 use Rattle.grin_compile.specs.Stages.{passes, AreStages, IsLastSlim}
 use Rattle.grin_compile.specs.Made.{IsImageOf}
 
@@ -25,14 +27,14 @@ abbrev pub after : Compiled → PassName → grin.Program
 after c Translate = program_of c.stages.translated
 after c Eval = program_of c.stages.evaluated
 after c Apply = program_of c.stages.applied
-after c Vectorise = program_of c.stages.vectorised
+after c k = later_after c.stages.later k
 
--- the stages behind the inlining
+-- the stages after the inlining
 abbrev pub later : Compiled → List grin.Program
 later c = map (after c) passes
 
 -- the stages of p; the low code of the last one that is slim, with places that fit it; and an image
--- that is made of that stage and keeps within the frames of these places
+-- that is made of that stage, of words that decode, and keeps within the frames of these places
 pub record IsCompilation (p : core.Program) (cells stack : ℕ) (c : Compiled) : Type 0 where
   pub translated : IsStage p Translate (after c Translate)
   pub evaluated : IsStage p Eval (after c Eval)
@@ -44,6 +46,8 @@ pub record IsCompilation (p : core.Program) (cells stack : ℕ) (c : Compiled) :
   pub last : IsLastSlim p solution (later c) g
   pub lowers : Lowers g (low.program_of c.low)
   pub fits : Fits (low.program_of c.low) c.places
+  pub decode : AllDecode c.code.items
+  pub uses : UsesRegisters (low.program_of c.low) c.places
   pub small_frames : (f : ℕ) → 4 * words_at c.places f ≤ frame_bound p solution
   pub addresses : List ℕ
   pub image : IsImageOf p solution g cells stack c.code.items addresses c.image.items

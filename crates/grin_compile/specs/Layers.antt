@@ -1,6 +1,6 @@
 -- How the contracts of the layers below the stages compose.
 use Rattle.std.specs.Prelude.{◌≡◌, ℕ, ◌+◌, ◌*◌, ◌≤◌, List, length}
-use Rattle.headline.specs.Carries.{IsBytes, Meaning, Comes, Carries, Tells}
+use Rattle.headline.specs.Carries.{IsBytes, Meaning, Comes, Carries, KeepsPace, Tells}
 use Rattle.arity_check.specs.Accepted.{IsValid}
 use Rattle.arity_check.specs.Program as core
 use Rattle.elf32.specs.File.{file_of, program}
@@ -18,9 +18,10 @@ use Rattle.register_alloc.specs.Assignment.{Assignment, words_at}
 use Rattle.register_alloc.specs.Fits.{Fits}
 use Rattle.rv32_items.specs.declared.Item.{Item}
 use Rattle.rv32_items.specs.Course.{Layout, course}
-use Rattle.rv32_items.specs.Placed.{Rises, Placed}
+use Rattle.rv32_items.specs.Placed.{size_of, Rises, Placed}
 use Rattle.rv32_items.specs.Told.{of_items}
 use Rattle.rv32_items.specs.Laws.{addresses_of}
+use Rattle.rv32_steps.specs.Seen.{of_machine}
 use Rattle.rv32_steps.specs.Trace.{procedures_at}
 use Rattle.rv32_select.specs.Selects.{Selects, BelowHeap, start_at}
 use Rattle.grin_compile.specs.Limits.{HeapOver, FramesOver, StackOver, heap_bytes}
@@ -68,6 +69,17 @@ LayersCompose =
     → length words ≤ 268435456
     → IsCodeFor (HeapOver cells) (StackOver frame stack) told entered (length l.procs) words
     (start_with words (4 * l.width * cells) stack) (addresses_of placed.lay items s.begins)
+
+-- the machine keeps pace with what the low code tells, where all items take no more words than there
+-- are steps for the start and for each unit
+abbrev pub LayersKeepPace : Type 0
+LayersKeepPace =
+    (told : Meaning) (l : Program) (a : Assignment) (cells stack steps : ℕ) (items : List Item)
+    (words : List ℕ)
+    → ((i : List ℕ) → IsBytes i → (n : ℕ) → Tells (told i n) (of_low l (words_at a) i n))
+    → NeverMissing l → Selects l a cells stack items → Placed items words
+    → length words ≤ 268435456 → size_of items ≤ steps
+    → KeepsPace steps told (of_machine (start_with words (4 * l.width * cells) stack))
 
 -- what the layers below GRIN make of a program of GRIN: low code, places for its variables, items,
 -- and words

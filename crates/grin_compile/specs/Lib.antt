@@ -1,6 +1,7 @@
 pub mod Limits
 pub mod Code
 pub mod Stages
+pub mod Passed
 pub mod Made
 pub mod Layers
 pub mod Lowerable

@@ -5,7 +5,7 @@ use Rattle.arity_check.specs.Program as core
 use Rattle.grin_syntax.specs.Tree.{Program}
 use Rattle.grin_meaning.specs.Ready.{most_fields}
 use Rattle.flow_system.specs.Solution.{Solution}
-use Rattle.apply_inline.specs.Inlining.{inlined}
+use Rattle.apply_inline.specs.Inlining.{inlined, inlined_size}
 use Rattle.apply_inline.specs.Size.{largest_procedure}
 use Rattle.grin_translate.specs.Translation.{tr}
 
@@ -26,11 +26,15 @@ StackOver frame stack t = stack < frame * (t.depth + 1)
 abbrev pub frame_bound : core.Program → Solution → ℕ
 frame_bound p A = 4 * (1 + 20 * largest_procedure (inlined A (tr p)))
 
+-- so many steps are enough for the start of an image, and for each unit
+abbrev pub steps_each : core.Program → Solution → ℕ
+steps_each p A = 2048 * inlined_size A (tr p)
+
 -- a cell has a word for its tag and one for each field
 abbrev pub heap_bytes : Program → (cells : ℕ) → ℕ
 heap_bytes g cells = 4 * (1 + most_fields g.tags) * cells
 
--- a stack that isn't a multiple of four is rounded down to one
+-- the bytes of a stack that words fill
 abbrev pub whole_words : (bytes : ℕ) → ℕ
 whole_words bytes = bytes / 4 * 4
 

@@ -1,6 +1,7 @@
 -- An image that is made of the last slim stage of a program: it carries the program, and enters the
 -- procedures of that stage.
 use Rattle.std.specs.Prelude.{◌≡◌, ◌≤◌, ℕ, List, length}
+use Rattle.headline.specs.Carries.{KeepsPace}
 use Rattle.arity_check.specs.Program as core
 use Rattle.core_meaning.specs.Told.{of_core}
 use Rattle.elf32.specs.File.{file_of, program}
@@ -11,12 +12,13 @@ use Rattle.flow_system.specs.Solution.{Solution}
 use Rattle.apply_inline.specs.Inlining.{inlined}
 use Rattle.grin_translate.specs.Translation.{tr}
 use Rattle.grin_stages.specs.Stage.{Analyses}
-use Rattle.grin_compile.specs.Limits.{HeapOver, StackOver, frame_bound, heap_bytes}
+use Rattle.rv32_steps.specs.Seen.{of_machine}
+use Rattle.grin_compile.specs.Limits.{HeapOver, StackOver, frame_bound, heap_bytes, steps_each}
 use Rattle.grin_compile.specs.Code.{start_with, IsCodeFor}
 use Rattle.grin_compile.specs.Stages.{passes, AreStages, IsLastSlim}
 
 -- the file of an image with so many cells and so many bytes of stack. Its words are code for p that
--- enters the procedures of the stage g, each at its address
+-- enters the procedures of the stage g, each at its address, and keeps pace with p
 pub record IsImageOf (p : core.Program) (A : Solution) (g : Program) (cells stack : ℕ)
     (code addresses file : List ℕ) : Type 0 where
   pub few_words : length code ≤ 268435456
@@ -25,6 +27,8 @@ pub record IsImageOf (p : core.Program) (A : Solution) (g : Program) (cells stac
   pub code_for :
       IsCodeFor (HeapOver cells) (StackOver (frame_bound p A) stack) (of_core p) (entered_by_grin g)
       (length g.procs) code (start_with code (heap_bytes g cells) stack) addresses
+  pub paced :
+      KeepsPace (steps_each p A) (of_core p) (of_machine (start_with code (heap_bytes g cells) stack))
 
 -- all of this is chosen before the input
 pub record Made (p : core.Program) (cells stack : ℕ) (file : List ℕ) : Type 0 where

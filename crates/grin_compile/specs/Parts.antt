@@ -10,14 +10,21 @@ use Rattle.grin_opt.specs.declared.pass.PassName.TheVariants.{Translate, Eval}
 use Rattle.grin_stages.specs.Stage.{Analyses, IsStage}
 use Rattle.low_code.specs.Tree as low
 use Rattle.rv32_items.specs.declared.Item.{Item}
+use Rattle.rv32_layout.specs.Places.{AllDecode}
+use Rattle.register_alloc.specs.Fits.{UsesRegisters}
 use Rattle.grin_compile.specs.declared.stages.Stages.{Stages}
 use Rattle.grin_compile.specs.declared.layers.Layers.{Layers}
 use Rattle.grin_compile.specs.Layers.{AreLayers}
 use Rattle.grin_compile.specs.Limits.{InRange}
 use Rattle.grin_compile.specs.Lowerable.{IsLowerable}
+use Rattle.grin_compile.specs.Passed.{later_after, programs_of}
 use Rattle.grin_compile.specs.Stages.{passes, AreStages, IsLastSlim}
 
--- the stages of a program that is not too large, of which the last can be lowered
+-- the program of which code is made
+abbrev pub made_of : Stages → grin.Program
+made_of s = later_after s.later s.last
+
+-- the stages of a program that is not too large, of which one can be lowered
 pub record HasStages (p : core.Program) (s : Stages) : Type 0 where
   pub translated : IsStage p Translate (program_of s.translated)
   pub evaluated : IsStage p Eval (program_of s.evaluated)
@@ -25,9 +32,9 @@ pub record HasStages (p : core.Program) (s : Stages) : Type 0 where
   pub least : Analyses p solution
   pub applied : program_of s.applied ≡ inlined solution (tr p)
   pub fits : inlined_size solution (tr p) ≤ 131072
-  pub later : AreStages p passes (inlined solution (tr p)) (program_of s.vectorised ∷ [])
-  pub last : IsLastSlim p solution (program_of s.vectorised ∷ []) (program_of s.vectorised)
-  pub lowerable : IsLowerable (program_of s.vectorised)
+  pub later : AreStages p passes (inlined solution (tr p)) (programs_of s.later)
+  pub last : IsLastSlim p solution (programs_of s.later) (made_of s)
+  pub lowerable : IsLowerable (made_of s)
 
 -- the cells and the bytes of stack, in whole words
 pub record AreSizes (cells stack : ℕ) : Type 0 where
@@ -40,3 +47,5 @@ pub record HasLayers (g : grin.Program) (cells stack : ℕ) (m : Layers) : Type 
   pub made : AreLayers g (low.program_of m.low) m.places cells stack items m.code.items
   pub some_words : 0 < length m.code.items
   pub few_words : length m.code.items ≤ 268435456
+  pub decode : AllDecode m.code.items
+  pub uses : UsesRegisters (low.program_of m.low) m.places

@@ -1,4 +1,4 @@
--- The stages behind the inlining, and the last one of which code can be made.
+-- The stages after the inlining, and the last one of which code can be made.
 use Rattle.std.specs.Prelude.{◌≡◌, ℕ, ◌<◌, List, [], ◌∷◌, Some, slice_get}
 use Rattle.arity_check.specs.Program as core
 use Rattle.grin_syntax.specs.Tree.{Program}
@@ -7,22 +7,17 @@ use Rattle.grin_meaning.specs.Slim.{Slim}
 use Rattle.flow_system.specs.Solution.{Solution}
 use Rattle.apply_inline.specs.Inlining.{inlined, inlined_size}
 use Rattle.apply_inline.specs.Size.{largest_procedure}
-use Rattle.vectorise.specs.Widened.{Widened}
 use Rattle.grin_translate.specs.Translation.{tr}
 use Rattle.grin_opt.specs.declared.pass.PassName.{PassName}
-use Rattle.grin_opt.specs.declared.pass.PassName.TheVariants.{Vectorise}
+use Rattle.grin_opt.specs.declared.pass.PassName.TheVariants.{Vectorise, Simplify, Fetch, Copy, Update}
+use Rattle.grin_opt.specs.Schedule.{shape_of}
 
--- the passes behind the inlining, in their order
+-- the passes after the inlining, in their order
 abbrev pub passes : List PassName
-passes = Vectorise ∷ []
+passes = Vectorise ∷ Simplify ∷ Fetch ∷ Copy ∷ Update ∷ []
 
--- what a pass says of its input and its answer
-abbrev pub shape_of : PassName → Program → Program → Type 0
-shape_of Vectorise g h = Widened g h
-shape_of _ g h = ⊥
-
--- stages behind g, one for each of these passes: each has the shape of its pass for the one before
--- it, and does what the translation does
+-- stages after g, one for each of these passes: each has the shape of its pass for the one before it,
+-- and does what the translation does
 abbrev pub AreStages : core.Program → List PassName → Program → List Program → Type 0
 AreStages p [] g [] = Unit {0}
 AreStages p (k ∷ ks) g (h ∷ hs) = Keeps (tr p) h × (shape_of k g h × AreStages p ks h hs)
@@ -32,10 +27,12 @@ AreStages p _ g _ = ⊥
 abbrev pub IsSlim : core.Program → Solution → Program → Type 0
 IsSlim p A g = Slim (inlined_size A (tr p)) (largest_procedure (inlined A (tr p))) g
 
--- the last of these stages that is slim
-pub record IsLastSlim (p : core.Program) (A : Solution) (stages : List Program)
-    (g : Program) : Type 0 where
+-- the last of these stages that is as is asked
+pub record IsLastOf (Asked : Program → Type 0) (stages : List Program) (g : Program) : Type 0 where
   pub at : ℕ
   pub there : slice_get stages at ≡ Some g
-  pub slim : IsSlim p A g
-  pub last : (k : ℕ) (h : Program) → at < k → slice_get stages k ≡ Some h → IsSlim p A h → ⊥
+  pub slim : Asked g
+  pub last : (k : ℕ) (h : Program) → at < k → slice_get stages k ≡ Some h → Asked h → ⊥
+
+abbrev pub IsLastSlim : core.Program → Solution → (stages : List Program) → Program → Type 0
+IsLastSlim p A stages g = IsLastOf (IsSlim p A) stages g

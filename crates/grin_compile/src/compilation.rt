@@ -22,7 +22,7 @@ use low_code::Low;
 use register_alloc::Places;
 use std::alloc::Global;
 
-/// The size of an image's heap, in cells, and of its stack, in bytes, which are rounded down to a multiple of four.
+/// The size of an image's heap, in cells, and of its stack, in bytes, of which as many are used as words fill.
 #[derive(Clone, Copy, Debug, PartialEq, Eq)]
 pub struct Options {
     pub cells: u32,
@@ -49,7 +49,7 @@ impl Compiled {
             PassName::Translate => &self.stages.translated,
             PassName::Eval => &self.stages.evaluated,
             PassName::Apply => &self.stages.applied,
-            PassName::Vectorise => &self.stages.vectorised,
+            _ => self.stages.later.after(pass),
         }
     }
 
@@ -95,7 +95,7 @@ pub fn compile(alloc: Global, p: &Checked, options: Options) -> Result<Compiled,
     valid_translation_does_as();
     let stack = options.stack / 4 * 4;
     let stages = all_stages(alloc, p)?;
-    let layers = layers_below(alloc, &stages.vectorised, options.cells, stack)?;
+    let layers = layers_below(alloc, stages.made_of(), options.cells, stack)?;
     let heap = 4 * layers.low.width * options.cells;
     let image = write(alloc, layers.code.as_slice(), heap, stack)?;
     Ok(Compiled {

@@ -1,6 +1,6 @@
 // Laws on the layers, about definitions alone: functions without a body.
 
-ghost use Rattle.grin_compile.specs.Layers.{LayersCompose, LowCodeIsCarried, MadeFromLayers, SelectionCarries};
+ghost use Rattle.grin_compile.specs.Layers.{LayersCompose, LayersKeepPace, LowCodeIsCarried, MadeFromLayers, SelectionCarries};
 ghost use Rattle.grin_translate.specs.Same.{ValidTranslationDoesAs};
 
 use grin_translate::valid_translation_does_as;
@@ -19,6 +19,11 @@ pub fn low_code_is_carried()
 /// They are code for each meaning that the low code tells, where its frames are within a bound.
 pub fn layers_compose()
     ensures { LayersCompose }
+{}
+
+/// The machine does no more steps for the start and for each unit than all items take words.
+pub fn layers_keep_pace()
+    ensures { LayersKeepPace }
 {}
 
 /// What the layers below GRIN make of the last slim stage of a program is an image of the program.

@@ -2,9 +2,11 @@
 #![tactic(auto)]
 
 mod compilation;
+mod later;
 pub mod laws;
 mod layers;
 mod stages;
 
 pub use compilation::{Compiled, Options, compile};
+pub use later::Later;
 pub use stages::Stages;

@@ -1,28 +1,39 @@
 // The stages of a program, all kept.
 
-ghost use Rattle.std.specs.Prelude.{IfOk, IfErr};
+ghost use Rattle.std.specs.Prelude.{◌≡◌, IfOk, IfErr};
 ghost use Rattle.arity_check.specs.Accepted.{IsValid};
 ghost use Rattle.arity_check.specs.Program.{program};
+ghost use Rattle.grin_syntax.specs.Tree.{program_of};
 ghost use Rattle.grin_stages.specs.Stage.{Fits, IsLarge};
-ghost use Rattle.grin_compile.specs.Parts.{HasStages};
+ghost use Rattle.grin_compile.specs.Parts.{HasStages, made_of};
 
+use crate::later::{Later, later_stages};
 use arity_check::normal::Checked;
-use grin_meaning::Pass;
+use grin_measure::sizes_of;
 use grin_opt::PassName;
 use grin_stages::laws::{one_expanded_size, vectorised_is_slim};
-use grin_stages::{CompileRefusal, stage};
-use grin_syntax::{Grin, copy};
+use grin_stages::{CompileRefusal, inlined_stages};
+use grin_syntax::Grin;
 use std::alloc::Global;
-use vectorise::Vectorise;
 use vectorised_form::vectorise_takes_inlined;
 
-/// The program after each stage.
+/// The program after each stage, and the last stage of which code can be made.
 #[derive(Drop)]
 pub struct Stages {
     pub translated: Grin,
     pub evaluated: Grin,
     pub applied: Grin,
-    pub vectorised: Grin,
+    pub later: Later,
+    pub last: PassName,
+}
+
+impl Stages {
+    /// The program of which code is made.
+    pub(crate) fn made_of(&self) -> &Grin
+        ensures { program_of result.now ≡ made_of self.now }
+    {
+        self.later.after(self.last)
+    }
 }
 
 /// The stages of a program. `ExpandedTooLarge` where it is over 131,072 in size once it is inlined.
@@ -36,15 +47,14 @@ pub(crate) fn all_stages(alloc: Global, p: &Checked) -> Result<Stages, CompileRe
     vectorise_takes_inlined();
     vectorised_is_slim();
     one_expanded_size();
-    let translated = stage(alloc, p, PassName::Translate)?;
-    let evaluated = stage(alloc, p, PassName::Eval)?;
-    let applied = stage(alloc, p, PassName::Apply)?;
-    let copied = copy(alloc, &applied)?;
-    let vectorised = Vectorise.apply(alloc, copied)?;
+    let inlined = inlined_stages(alloc, p)?;
+    let later = later_stages(alloc, &inlined.applied)?;
+    let last = later.last_slim(sizes_of(&inlined.applied));
     Ok(Stages {
-        translated,
-        evaluated,
-        applied,
-        vectorised,
+        translated: inlined.translated,
+        evaluated: inlined.evaluated,
+        applied: inlined.applied,
+        later,
+        last,
     })
 }

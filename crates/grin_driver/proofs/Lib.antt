@@ -5,5 +5,11 @@ pub mod Outcomes
 pub mod Execution
 pub mod Checks
 pub mod Putting
+pub mod Stores
+pub mod Generations
+pub mod Summaries
+pub mod Complete
+pub mod Commands
+pub mod Codes
 pub mod Listings
 pub mod Ranges

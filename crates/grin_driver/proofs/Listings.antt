@@ -5,12 +5,14 @@ use Rattle.core_reader.specs.Text.{TextTooLong}
 use Rattle.command_line.specs.declared.command.Listing.{Listing}
 use Rattle.command_line.specs.declared.command.Listing.TheVariants as listing
 use Rattle.grin_opt.specs.declared.pass.PassName.{PassName}
-use Rattle.grin_opt.specs.declared.pass.PassName.TheVariants.{Translate, Eval, Apply, Vectorise}
+use Rattle.grin_opt.specs.declared.pass.PassName.TheVariants.{Translate, Eval, Apply, Vectorise, Simplify, Fetch, Copy, Update}
 use Rattle.grin_io.specs.Changes.{SinkChange}
 use Rattle.grin_driver.specs.declared.status.Status.{Status}
 use Rattle.grin_driver.specs.declared.status.Status.TheVariants.{Done, Refused, OutOfMemory, WriteFault}
 use Rattle.grin_driver.specs.Text.{IsUnaccepted}
-use Rattle.grin_driver.specs.Listing.{IsNotListed, IsUnlisted, Lists, ListsAfter, Prints}
+use Rattle.grin_driver.specs.Listing.{IsNotListed, IsUnlisted, Lists, Prints}
+use Rattle.grin_driver.specs.After.{ListsAfter}
+use Rattle.grin_driver.proofs.Codes.{lists_code_long}
 use Rattle.grin_driver.proofs.Texts.{refused_long, unread_long, accepted_short}
 
 -- a text that is not accepted is not listed
@@ -46,3 +48,8 @@ module _ {K : Type 0} (o : SinkChange K) (front text : List ℕ) (short : 104857
   lists_after_long listing.Eval status h = lists_long Eval status h
   lists_after_long listing.Apply status h = lists_long Apply status h
   lists_after_long listing.Vectorise status h = lists_long Vectorise status h
+  lists_after_long listing.Simplify status h = lists_long Simplify status h
+  lists_after_long listing.Fetch status h = lists_long Fetch status h
+  lists_after_long listing.Copy status h = lists_long Copy status h
+  lists_after_long listing.Update status h = lists_long Update status h
+  lists_after_long listing.Code status h = lists_code_long o front text 1000000 1048576 short long status h

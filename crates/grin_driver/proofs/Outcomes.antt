@@ -1,5 +1,5 @@
 -- What the end of a run says of the program.
-use Rattle.std.proofs.Common.{◌≡◌, ℕ, zero, suc, ◌<◌, ◌≤◌, Bool, true, false, List, length, Some, refl, sym, ap, ◌∙◌, subst, arith}
+use Rattle.std.proofs.Common.{◌≡◌, ℕ, zero, suc, ◌+◌, ◌*◌, ◌<◌, ◌≤◌, Bool, true, false, List, length, Some, refl, sym, ap, ◌∙◌, subst, arith}
 use mathlib.Core.Logic.{inl, inr}
 use Rattle.arity_check.specs.Program.{Program}
 use Rattle.core_meaning.specs.Told.{of_core}
@@ -14,13 +14,14 @@ use Rattle.grin_opt.specs.declared.pass.PassName.TheVariants.{Translate, Eval}
 use Rattle.grin_stages.specs.Stage.{IsTooLarge, IsLarge}
 use Rattle.grin_stages.specs.declared.refusal.CompileRefusal.{CompileRefusal}
 use Rattle.grin_stages.specs.declared.refusal.CompileRefusal.TheVariants.{ExpandedTooLarge, Memory}
-use Rattle.headline.specs.Carries.{Told as Telling, Finish, runs, exits, traps, IsBytes, Begins, After, Finishes, Comes, Carries}
+use Rattle.headline.specs.Carries as carries
+use Rattle.headline.specs.Carries.{Told as Telling, going, done, no_alternative, missing, Seen, Finish, runs, exits, traps, IsBytes, Begins, Matches, Reaches, After, Finishes, Comes, Carries, KeepsPace}
 use Rattle.rv32_machine.specs.Steps.{start_of}
 use Rattle.rv32_machine.specs.Runs.{End, Going, Exited as exited, Stopped, run, pieces}
 use Rattle.rv32_machine.specs.declared.machine.Stop.{Stop}
 use Rattle.rv32_machine.specs.declared.machine.Stop.TheVariants.{Steps, Exit, Trap}
 use Rattle.rv32_steps.specs.Seen.{seen, finish_of}
-use Rattle.grin_compile.specs.Limits.{HeapOver, StackOver, frame_bound, whole_words}
+use Rattle.grin_compile.specs.Limits.{HeapOver, StackOver, frame_bound, steps_each, whole_words}
 use Rattle.grin_driver.specs.declared.status.Status.{Status}
 use Rattle.grin_driver.specs.declared.status.Status.TheVariants.{Refused, OutOfMemory, ReadFault, WriteFault}
 use Rattle.grin_driver.specs.Listing.{IsUnlisted}
@@ -48,7 +49,7 @@ unlisted_is_unmade text _ h = absurd h
 
 -- ---- the image
 
-rule_below : (r : ElfRefusal) → rule r < 49
+pub rule_below : (r : ElfRefusal) → rule r < 49
 rule_below ImageTooLong = omega arith
 rule_below TooShort = omega arith
 rule_below NotElf = omega arith
@@ -61,7 +62,7 @@ rule_below SegmentsTooLarge = omega arith
 rule_below (OutOfMemory' e) = omega arith
 
 -- a file that loads breaks no rule
-loadable : (file : List ℕ) (image : Image) (k at : ℕ) → Loads file image → IsUnloadable file k at → ⊥
+pub loadable : (file : List ℕ) (image : Image) (k at : ℕ) → Loads file image → IsUnloadable file k at → ⊥
 loadable file image k at loads u = loads.unbroken u.refusal (rule_below u.refusal) u.broken
 
 -- whatever a text's file loads as carries the text's program
@@ -71,6 +72,25 @@ carried text cells stack file from image loads =
     subst (λ b. Carries (HeapOver cells) (StackOver (frame_bound from.program from.made.solution) (whole_words stack)) (of_core from.program) (seen b))
     (from.made.image.loads.program ∙ sym loads.program) from.made.image.code_for.carries
 
+-- and keeps pace with it
+pub paced : (text : List ℕ) (cells stack : ℕ) (file : List ℕ) (from : IsImageOf text cells stack file) (image : Image) → Loads file image
+    → KeepsPace (steps_each from.program from.made.solution) (of_core from.program) (seen image)
+paced text cells stack file from image loads =
+    subst (λ b. KeepsPace (steps_each from.program from.made.solution) (of_core from.program) (seen b))
+    (from.made.image.loads.program ∙ sym loads.program) from.made.image.paced
+
+-- where a machine runs on, what it has come to has no end
+runs_on : (t : Telling) (s : Seen) → s.finish ≡ runs → Reaches t s → (t.end ≡ going) × Begins t.out s.out
+runs_on t s on (inl r) = (by_end t.end r.1, r.0)
+  where
+    by_end : (e : carries.End) → Matches e t s → e ≡ going
+    by_end going m = refl
+    by_end done m = let no : exits 0 ≡ runs = sym m.1 ∙ on in cc
+    by_end no_alternative m = let no : exits 3 ≡ runs = sym m.1 ∙ on in cc
+    by_end missing m = absurd m
+runs_on t s on (inr (inl four, b)) = let no : exits 4 ≡ runs = sym four ∙ on in cc
+runs_on t s on (inr (inr five, b)) = let no : exits 5 ≡ runs = sym five ∙ on in cc
+
 -- ---- what the program says
 
 -- the finish that an answer of the machine names
@@ -79,54 +99,60 @@ finish_by Steps = runs
 finish_by (Exit code) = exits code
 finish_by (Trap kind pc) = traps
 
-finish_at : (e : End) → finish_of e ≡ finish_by (stop_at e)
+pub finish_at : (e : End) → finish_of e ≡ finish_by (stop_at e)
 finish_at (Going s) = refl
 finish_at (exited code s) = refl
 finish_at (Stopped kind s) = refl
 
 module _ {I K : Type 0} (i : SourceChange I) (o : SinkChange K) (Heap Stack : Telling → Type 0) (told : ℕ → Telling) (image : Image) (steps : ℕ) (bytes : List ℕ)
-    (c : (n : ℕ) × Comes Heap Stack told n (seen image bytes steps)) where
-  pub says_stopped : (stop : Stop) → Finishes Heap Stack told c.0 (seen image bytes steps) (finish_by stop)
+    (c : (n : ℕ) × Comes Heap Stack told n (seen image bytes steps)) (each : ℕ) (reaches : (n : ℕ) → each * (n + 1) ≤ steps → Reaches (told n) (seen image bytes steps)) where
+  pub says_stopped : (stop : Stop) → (seen image bytes steps).finish ≡ finish_by stop → Finishes Heap Stack told c.0 (seen image bytes steps) (finish_by stop)
       → TookAll o (pieces steps bytes (start_of image)) → i.left i.new ≡ Some (run steps bytes (start_of image)).left
-      → Says i o Heap Stack told bytes (named (status_of stop))
-  says_stopped Steps f took left = record {
+      → Says i o Heap Stack told bytes each steps (named (status_of stop))
+  says_stopped Steps is f took left = record {
+    keeps_pace = λ n enough.
+        let r = runs_on (told n) (seen image bytes steps) is (reaches n enough) in
+        (r.0, took_output i o steps bytes (start_of image) (λ out. Begins (told n).out out) took r.1);
     units = c.0;
     took = took_output i o steps bytes (start_of image) (λ out. Begins out (told c.0).out) took c.1.output;
     gave = gave_used i o steps bytes (start_of image) (λ count. count ≤ (told c.0).used) left c.1.used;
   }
-  says_stopped (Exit zero) f took left = record {
+  says_stopped (Exit zero) is f took left = record {
     units = c.0;
     ended = f.2;
     took = took_output i o steps bytes (start_of image) (λ out. out ≡ (told c.0).out) took f.0;
     gave = gave_used i o steps bytes (start_of image) (λ count. count ≡ (told c.0).used) left f.1;
   }
-  says_stopped (Exit (suc zero)) f took left = absurd f
-  says_stopped (Exit (suc (suc zero))) f took left = absurd f
-  says_stopped (Exit (suc (suc (suc zero)))) f took left = record {
+  says_stopped (Exit (suc zero)) is f took left = absurd f
+  says_stopped (Exit (suc (suc zero))) is f took left = absurd f
+  says_stopped (Exit (suc (suc (suc zero)))) is f took left = record {
     units = c.0;
     ended = f.2;
     took = took_output i o steps bytes (start_of image) (λ out. out ≡ (told c.0).out) took f.0;
     gave = gave_used i o steps bytes (start_of image) (λ count. count ≡ (told c.0).used) left f.1;
   }
-  says_stopped (Exit (suc (suc (suc (suc zero))))) f took left = record {
+  says_stopped (Exit (suc (suc (suc (suc zero))))) is f took left = record {
     units = c.0;
     needs = f.0;
     took = took_output i o steps bytes (start_of image) (λ out. After told c.0 out × Begins out (told c.0).out) took (f.1, c.1.output);
     gave = gave_used i o steps bytes (start_of image) (λ count. count ≤ (told c.0).used) left c.1.used;
   }
-  says_stopped (Exit (suc (suc (suc (suc (suc zero)))))) f took left = record {
+  says_stopped (Exit (suc (suc (suc (suc (suc zero)))))) is f took left = record {
     units = c.0;
     needs = f.0;
     took = took_output i o steps bytes (start_of image) (λ out. After told c.0 out × Begins out (told c.0).out) took (f.1, c.1.output);
     gave = gave_used i o steps bytes (start_of image) (λ count. count ≤ (told c.0).used) left c.1.used;
   }
-  says_stopped (Exit (suc (suc (suc (suc (suc (suc k))))))) f took left = absurd f
-  says_stopped (Trap kind pc) f took left = absurd f
+  says_stopped (Exit (suc (suc (suc (suc (suc (suc k))))))) is f took left = absurd f
+  says_stopped (Trap kind pc) is f took left = absurd f
+
+  pub finish_is : (stop : Stop) → stop_at (run steps bytes (start_of image)).end ≡ stop → (seen image bytes steps).finish ≡ finish_by stop
+  finish_is stop is = finish_at (run steps bytes (start_of image)).end ∙ ap finish_by is
 
   pub finishes : (stop : Stop) → stop_at (run steps bytes (start_of image)).end ≡ stop → Finishes Heap Stack told c.0 (seen image bytes steps) (finish_by stop)
   finishes stop is =
       subst (λ f. Finishes Heap Stack told c.0 (seen image bytes steps) f)
-      (finish_at (run steps bytes (start_of image)).end ∙ ap finish_by is) c.1.finish
+      (finish_is stop is) c.1.finish
 
 -- ---- the statuses
 
@@ -135,14 +161,20 @@ module _ {I K : Type 0} (i : SourceChange I) (o : SinkChange K) (text : List ℕ
   abbrev Said : Status → Type 0
   Said status =
       (bytes : List ℕ) → i.left i.old ≡ Some bytes → IsBytes bytes
-      → Says i o (HeapOver cells) (StackOver (frame_bound from.program from.made.solution) (whole_words stack)) (of_core from.program bytes) bytes status
+      → Says i o (HeapOver cells) (StackOver (frame_bound from.program from.made.solution) (whole_words stack)) (of_core from.program bytes) bytes
+      (steps_each from.program from.made.solution) steps status
 
   said : (image : Image) → Loads file image → (stop : Stop) → Stops i o image steps stop → Said (named (status_of stop))
   said image loads stop stops bytes is are =
       let c = (carried text cells stack file from image loads).comes bytes are steps in
       let s = stops.stands bytes is in
-      says_stopped i o (HeapOver cells) (StackOver (frame_bound from.program from.made.solution) (whole_words stack)) (of_core from.program bytes) image steps bytes c stop
-      (finishes i o (HeapOver cells) (StackOver (frame_bound from.program from.made.solution) (whole_words stack)) (of_core from.program bytes) image steps bytes c stop s.0) (stops.took bytes is) s.1
+      let each = steps_each from.program from.made.solution in
+      let reaches = λ (n : ℕ) (enough : each * (n + 1) ≤ steps). paced text cells stack file from image loads bytes are n steps enough in
+      let Heap = HeapOver cells in
+      let Stack = StackOver (frame_bound from.program from.made.solution) (whole_words stack) in
+      says_stopped i o Heap Stack (of_core from.program bytes) image steps bytes c each reaches stop
+      (finish_is i o Heap Stack (of_core from.program bytes) image steps bytes c each reaches stop s.0)
+      (finishes i o Heap Stack (of_core from.program bytes) image steps bytes c each reaches stop s.0) (stops.took bytes is) s.1
 
   -- the run stopped
   runs_to : (image : Image) → Loads file image → (stop : Stop) → Stops i o image steps stop → Said (named (status_of stop)) → Outcome i o text cells stack steps (named (status_of stop))
@@ -188,7 +220,7 @@ module _ {I K : Type 0} (i : SourceChange I) (o : SinkChange K) (text : List ℕ
 
 -- ---- texts that are too long
 
-not_run_long : (front text : List ℕ) → 1048576 < length front → 1048576 < length text → (k at : ℕ) → IsNotRun front k at → IsNotRun text k at
+pub not_run_long : (front text : List ℕ) → 1048576 < length front → 1048576 < length text → (k at : ℕ) → IsNotRun front k at → IsNotRun text k at
 not_run_long front text short long k at (inl h) = inl (refused_long front text short long k at h)
 not_run_long front text short long k at (inr h) = accepted_short front h.1.source h.1.program short h.1.accepted
 

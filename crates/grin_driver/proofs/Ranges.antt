@@ -7,7 +7,7 @@ use Rattle.std.specs.Str.Parse.{digits_value}
 use Rattle.std.proofs.lemmas.Bool.Decides.{nat_tests}
 use Rattle.command_line.specs.Numbers.{is_number}
 use Rattle.command_line.specs.Parts.{Part, parts_of}
-use Rattle.command_line.specs.Commands.{CommandLine, RunFile, ListFile, ExecImage, Form, Given, number_of, cells_of, stack_of, steps_of, run_form, check_form, list_form, exec_form, asked, command_from, command_of, operands, values, takes_only, only, is_empty}
+use Rattle.command_line.specs.Commands.{CommandLine, RunFile, ListFile, BuildFile, ExecImage, GenRun, Form, Given, number_of, cells_of, stack_of, steps_of, run_form, check_form, list_form, build_form, exec_form, gen_form, of_operand, without_operand, asked, command_from, command_of, operands, values, takes_only, only, is_empty, seed_of, size_of}
 use Rattle.grin_driver.specs.Answer.{IsWithin}
 
 -- ---- of what may be none
@@ -48,32 +48,54 @@ number_in_range default least most low high (value ∷ other ∷ rest) = tt
 
 -- ---- the forms
 
-runs_within : (given : Given) (file : List ℕ) → IfSome (run_form.asks given file) IsWithin
-runs_within given file =
+of_any : (asks : List ℕ → Option CommandLine) (operands : List (List ℕ)) → ((operand : List ℕ) → IfSome (asks operand) IsWithin) → IfSome (of_operand asks operands) IsWithin
+of_any asks operands h = some_and_then asks (λ operand. Unit {0}) IsWithin (only operands) (some_any (only operands)) (λ operand n. h operand)
+
+runs_within : (given : Given) (operands : List (List ℕ)) → IfSome (run_form.asks given operands) IsWithin
+runs_within given operands = of_any _ operands (λ file.
     some_and_then _ (Within 1 8000000) IsWithin (cells_of given) (number_in_range 1000000 1 8000000 (omega arith) (omega arith) (given (codes "heap"))) (λ cells c.
     some_and_then _ (Within 1024 67108864) IsWithin (stack_of given) (number_in_range 1048576 1024 67108864 (omega arith) (omega arith) (given (codes "stack"))) (λ stack s.
     some_map (RunFile file cells stack) (λ steps. Unit {0}) IsWithin (steps_of given) (some_any (steps_of given)) (λ steps n.
+    record { some_cells = c.0; few_cells = c.1; some_stack = s.0; small_stack = s.1 }))))
+
+checks_within : (given : Given) (operands : List (List ℕ)) → IfSome (check_form.asks given operands) IsWithin
+checks_within given operands = of_any _ operands (λ file. tt)
+
+lists_within : (given : Given) (operands : List (List ℕ)) → IfSome (list_form.asks given operands) IsWithin
+lists_within given operands = of_any _ operands (λ file. some_map (ListFile file) (λ after. Unit {0}) IsWithin _ (some_any _) (λ after n. tt))
+
+builds_within : (given : Given) (operands : List (List ℕ)) → IfSome (build_form.asks given operands) IsWithin
+builds_within given operands = of_any _ operands (λ file.
+    some_and_then _ (Within 1 8000000) IsWithin (cells_of given) (number_in_range 1000000 1 8000000 (omega arith) (omega arith) (given (codes "heap"))) (λ cells c.
+    some_map (BuildFile file cells) (Within 1024 67108864) IsWithin (stack_of given) (number_in_range 1048576 1024 67108864 (omega arith) (omega arith) (given (codes "stack"))) (λ stack s.
     record { some_cells = c.0; few_cells = c.1; some_stack = s.0; small_stack = s.1 })))
 
-lists_within : (given : Given) (file : List ℕ) → IfSome (list_form.asks given file) IsWithin
-lists_within given file = some_map (ListFile file) (λ after. Unit {0}) IsWithin _ (some_any _) (λ after n. tt)
+execs_within : (given : Given) (operands : List (List ℕ)) → IfSome (exec_form.asks given operands) IsWithin
+execs_within given operands = of_any _ operands (λ image. some_map (ExecImage image) (λ steps. Unit {0}) IsWithin _ (some_any _) (λ steps n. tt))
 
-execs_within : (given : Given) (image : List ℕ) → IfSome (exec_form.asks given image) IsWithin
-execs_within given image = some_map (ExecImage image) (λ steps. Unit {0}) IsWithin _ (some_any _) (λ steps n. tt)
+without_any : (asked : Option CommandLine) (operands : List (List ℕ)) → IfSome asked IsWithin → IfSome (without_operand asked operands) IsWithin
+without_any asked [] h = h
+without_any asked (operand ∷ operands) h = tt
+
+gens_within : (given : Given) (operands : List (List ℕ)) → IfSome (gen_form.asks given operands) IsWithin
+gens_within given operands = without_any _ operands
+    (some_and_then (λ seed. option_map (GenRun seed) (size_of given)) (λ seed. Unit {0}) IsWithin (seed_of given) (some_any (seed_of given)) (λ seed n.
+    some_map (GenRun seed) (λ size. Unit {0}) IsWithin (size_of given) (some_any (size_of given)) (λ size m. tt)))
 
 -- ---- the command line
 
-asked_within : (parts : List Part) (form : Form) → ((given : Given) (operand : List ℕ) → IfSome (form.asks given operand) IsWithin) → IfSome (asked parts form) IsWithin
+asked_within : (parts : List Part) (form : Form) → ((given : Given) (operands : List (List ℕ)) → IfSome (form.asks given operands) IsWithin) → IfSome (asked parts form) IsWithin
 asked_within parts form h =
-    some_either IsWithin (takes_only form.options parts) _ None
-    (some_and_then _ (λ operand. Unit {0}) IsWithin (only (operands parts)) (some_any (only (operands parts))) (λ operand n. h (λ option. values option parts) operand)) tt
+    some_either IsWithin (takes_only form.options parts) _ None (h (λ option. values option parts) (operands parts)) tt
 
 from_within : (name : List ℕ) (parts : List Part) → IfSome (command_from name parts) IsWithin
 from_within name parts =
     some_either IsWithin (bytes_eq name (codes "run")) _ _ (asked_within parts run_form runs_within)
-    (some_either IsWithin (bytes_eq name (codes "check")) _ _ (asked_within parts check_form (λ given file. tt))
+    (some_either IsWithin (bytes_eq name (codes "check")) _ _ (asked_within parts check_form checks_within)
     (some_either IsWithin (bytes_eq name (codes "list")) _ _ (asked_within parts list_form lists_within)
-    (some_either IsWithin (bytes_eq name (codes "exec")) _ None (asked_within parts exec_form execs_within) tt)))
+    (some_either IsWithin (bytes_eq name (codes "build")) _ _ (asked_within parts build_form builds_within)
+    (some_either IsWithin (bytes_eq name (codes "exec")) _ _ (asked_within parts exec_form execs_within)
+    (some_either IsWithin (bytes_eq name (codes "gen")) _ None (asked_within parts gen_form gens_within) tt)))))
 
 commands_within : (words : List (List ℕ)) → IfSome (command_of words) IsWithin
 commands_within [] = tt

@@ -1,6 +1,6 @@
 -- What each status says of the words of a command line.
 use Rattle.std.specs.Prelude.{◌≡◌, ◌⊎◌, ℕ, min, List, length, Option, Some, None}
-use Rattle.command_line.specs.Commands.{CommandLine, RunFile, CheckFile, ListFile, ExecImage}
+use Rattle.command_line.specs.Commands.{CommandLine, RunFile, CheckFile, ListFile, BuildFile, ExecImage, GenRun}
 use Rattle.grin_io.specs.Content.{file_named}
 use Rattle.grin_io.specs.Changes.{Told, ShelfChange, SourceChange, SinkChange}
 use Rattle.grin_driver.specs.declared.status.Status.{Status}
@@ -9,8 +9,11 @@ use Rattle.grin_driver.specs.Reading.{IsUnread, open_behind}
 use Rattle.grin_compile.specs.Limits.{InRange}
 use Rattle.grin_driver.specs.Outcome.{Outcome}
 use Rattle.grin_driver.specs.Checking.{Checks}
-use Rattle.grin_driver.specs.Listing.{ListsAfter}
+use Rattle.grin_driver.specs.After.{ListsAfter}
+use Rattle.grin_driver.specs.Building.{Builds}
 use Rattle.grin_driver.specs.Execution.{IsUntouched, Execution}
+use Rattle.generator.specs.Generated.{generated}
+use Rattle.grin_driver.specs.Generating.{Generates}
 
 -- the most bytes that are taken of a text and of an image: one more than those of the longest one
 abbrev pub most_of_text : ℕ
@@ -33,16 +36,19 @@ OfFile f most file outcome = (bytes : List ℕ) × IsTaken f most file bytes × 
 abbrev pub OfOperand : {F : Type 0} → ShelfChange F → (most : ℕ) → (untouched : Type 0) → (file : List ℕ) → (outcome : List ℕ → Status → Type 0) → Status → Type 0
 OfOperand f most untouched file outcome status = (IsUnread f status × untouched) ⊎ OfFile f most file (λ bytes. outcome bytes status)
 
--- the file that a command names
-abbrev pub operand_of : CommandLine → List ℕ
-operand_of (RunFile file cells stack steps) = file
-operand_of (CheckFile file) = file
-operand_of (ListFile file after) = file
-operand_of (ExecImage image steps) = image
+-- this holds of the file that a command names, if it names one
+abbrev pub OfNamed : (List ℕ → Type 0) → CommandLine → Type 0
+OfNamed Holds (RunFile file cells stack steps) = Holds file
+OfNamed Holds (CheckFile file) = Holds file
+OfNamed Holds (ListFile file after) = Holds file
+OfNamed Holds (BuildFile file cells stack) = Holds file
+OfNamed Holds (ExecImage image steps) = Holds image
+OfNamed Holds (GenRun seed size) = Unit {0}
 
--- what `run` asks of an image is within the limits
+-- what `run` and `build` ask of an image is within the limits
 abbrev pub IsWithin : CommandLine → Type 0
 IsWithin (RunFile file cells stack steps) = InRange cells stack
+IsWithin (BuildFile file cells stack) = InRange cells stack
 IsWithin _ = Unit {0}
 
 -- what a command line did to a shelf, an input and an output
@@ -62,5 +68,7 @@ module _ {F I K : Type 0} (f : ShelfChange F) (i : SourceChange I) (o : SinkChan
       OfOperand f most_of_text (IsUntouched i o) file (λ text status. Outcome i o text cells stack steps status) status
   Answers (Some (CheckFile file)) status = FromText file (λ text status. Checks o text status) status
   Answers (Some (ListFile file after)) status = FromText file (λ text status. ListsAfter o text after status) status
+  Answers (Some (BuildFile file cells stack)) status = FromText file (λ text status. Builds o text cells stack status) status
   Answers (Some (ExecImage image steps)) status =
       OfOperand f most_of_image (IsUntouched i o) image (λ bytes status. Execution i o bytes steps status) status
+  Answers (Some (GenRun seed size)) status = Generates o (generated seed size) status × (f.new ≡ f.old) × (i.new ≡ i.old)

@@ -6,5 +6,10 @@ pub mod Putting
 pub mod Outcome
 pub mod Checking
 pub mod Listing
+pub mod CodeListing
+pub mod After
+pub mod Building
+pub mod Generating
 pub mod Execution
 pub mod Answer
+pub mod Completeness

@@ -7,9 +7,7 @@ use Rattle.arity_check.specs.Program.{Program}
 use Rattle.grin_syntax.specs.Tree as grin
 use Rattle.grin_syntax.specs.Listing as grin_listing
 use Rattle.grin_opt.specs.declared.pass.PassName.{PassName}
-use Rattle.grin_opt.specs.declared.pass.PassName.TheVariants.{Translate, Eval, Apply, Vectorise}
-use Rattle.command_line.specs.declared.command.Listing.{Listing}
-use Rattle.command_line.specs.declared.command.Listing.TheVariants as listing
+use Rattle.grin_opt.specs.declared.pass.PassName.TheVariants.{Translate}
 use Rattle.grin_stages.specs.Stage.{IsStage, Fits, HasExpandedSize}
 use Rattle.grin_io.specs.Changes.{SinkChange, TookAll, BrokeOff}
 use Rattle.grin_driver.specs.declared.status.Status.{Status}
@@ -71,11 +69,3 @@ Prints o text WriteFault = (bytes : List ℕ) × IsCanonicalText text bytes × O
 Prints o text (Refused rule number) = IsFirstUnread text rule number × (o.new ≡ o.old)
 Prints o text OutOfMemory = o.new ≡ o.old
 Prints o text _ = ⊥
-
--- what a listing is made after, and its status
-abbrev pub ListsAfter : {K : Type 0} → SinkChange K → (text : List ℕ) → Listing → Status → Type 0
-ListsAfter o text listing.Read status = Prints o text status
-ListsAfter o text listing.Translate status = Lists o text Translate status
-ListsAfter o text listing.Eval status = Lists o text Eval status
-ListsAfter o text listing.Apply status = Lists o text Apply status
-ListsAfter o text listing.Vectorise status = Lists o text Vectorise status

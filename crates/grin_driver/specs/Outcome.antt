@@ -1,5 +1,5 @@
 -- What each status says of a text that is run.
-use Rattle.std.specs.Prelude.{◌≡◌, ◌≤◌, ◌⊎◌, ℕ, zero, suc, List, ◌++◌, length, drop, Some}
+use Rattle.std.specs.Prelude.{◌≡◌, ◌≤◌, ◌⊎◌, ℕ, zero, suc, ◌+◌, ◌*◌, List, ◌++◌, length, drop, Some}
 use Rattle.core_reader.specs.Tree as tree
 use Rattle.arity_check.specs.Program.{Program}
 use Rattle.core_meaning.specs.Told.{of_core}
@@ -7,10 +7,10 @@ use Rattle.elf32.specs.Image.{Image}
 use Rattle.elf32.specs.Rules.{Loads}
 use Rattle.grin_io.specs.Changes.{Told, SourceChange, SinkChange}
 use Rattle.grin_io.specs.declared.outside.Fault.TheVariants.{Read, Write}
-use Rattle.headline.specs.Carries.{End, done, no_alternative, Told as Telling, IsBytes, Begins, After}
+use Rattle.headline.specs.Carries.{End, going, done, no_alternative, Told as Telling, IsBytes, Begins, After}
 use Rattle.rv32_machine.specs.declared.machine.Stop.TheVariants.{Steps, Exit, Trap}
 use Rattle.grin_stages.specs.Stage.{Fits}
-use Rattle.grin_compile.specs.Limits.{HeapOver, StackOver, frame_bound, whole_words}
+use Rattle.grin_compile.specs.Limits.{HeapOver, StackOver, frame_bound, steps_each, whole_words}
 use Rattle.grin_compile.specs.Made.{Made}
 use Rattle.grin_driver.specs.declared.status.Status.{Status}
 use Rattle.grin_driver.specs.declared.status.Status.TheVariants.{Done, Refused, NoAlternative, HeapFull, StackFull, StepLimit, Exited, Trapped, OutOfMemory, ReadFault, WriteFault}
@@ -25,7 +25,7 @@ abbrev pub IsNotRun : (text : List ℕ) → (rule number : ℕ) → Type 0
 IsNotRun text rule number = IsRefusedBy text rule number ⊎ ((rule ≡ 36) × IsLargeText text number)
 
 -- The text breaks no rule, and this is the file of an image that is made of its program, with so many cells and so many bytes of
--- stack, rounded down to words.
+-- stack, of which whole words are used.
 pub record IsImageOf (text : List ℕ) (cells stack : ℕ) (file : List ℕ) : Type 0 where
   pub source : tree.Program
   pub program : Program
@@ -87,11 +87,14 @@ module _ {I K : Type 0} (i : SourceChange I) (o : SinkChange K) where
       pub took : Took (λ out. After told units out × Begins out (told units).out)
       pub gave : Gave bytes (λ count. count ≤ (told units).used)
 
-    -- what was taken begins the program's output within some units, and no more was given than it used
-    pub record Pauses : Type 0 where
+    -- What was taken begins the program's output within some units, and no more was given than it used. For whatever number of
+    -- units the steps are enough, at so many steps for the start and for each unit, the program has no end within these units, and
+    -- its output within them begins what was taken.
+    pub record Pauses (each steps : ℕ) : Type 0 where
       pub units : ℕ
       pub took : Took (λ out. Begins out (told units).out)
       pub gave : Gave bytes (λ count. count ≤ (told units).used)
+      pub keeps_pace : (n : ℕ) → each * (n + 1) ≤ steps → ((told n).end ≡ going) × Took (λ out. Begins (told n).out out)
 
     -- what was taken begins the program's output within some units
     pub record Breaks : Type 0 where
@@ -99,15 +102,15 @@ module _ {I K : Type 0} (i : SourceChange I) (o : SinkChange K) where
       pub took : Took (λ out. Begins out (told units).out)
 
     -- what the program says of the end of a run; there is no other end
-    abbrev pub Says : Status → Type 0
-    Says Done = Ends done
-    Says NoAlternative = Ends no_alternative
-    Says HeapFull = Lacks OutOfHeap
-    Says StackFull = Lacks OutOfStack
-    Says StepLimit = Pauses
-    Says ReadFault = Breaks
-    Says WriteFault = Breaks
-    Says _ = ⊥
+    abbrev pub Says : (each steps : ℕ) → Status → Type 0
+    Says each steps Done = Ends done
+    Says each steps NoAlternative = Ends no_alternative
+    Says each steps HeapFull = Lacks OutOfHeap
+    Says each steps StackFull = Lacks OutOfStack
+    Says each steps StepLimit = Pauses each steps
+    Says each steps ReadFault = Breaks
+    Says each steps WriteFault = Breaks
+    Says each steps _ = ⊥
 
   -- ---- the statuses of a text
 
@@ -121,7 +124,8 @@ module _ {I K : Type 0} (i : SourceChange I) (o : SinkChange K) where
     pub ran : RunsTo image steps status
     pub says :
         Told (i.left i.old) (λ bytes. IsBytes bytes
-        → Says (HeapOver cells) (StackOver (frame_bound from.program from.made.solution) (whole_words stack)) (of_core from.program bytes) bytes status)
+        → Says (HeapOver cells) (StackOver (frame_bound from.program from.made.solution) (whole_words stack)) (of_core from.program bytes) bytes
+        (steps_each from.program from.made.solution) steps status)
 
   -- The status of a text, with so many cells, bytes of stack and steps. At a refusal and for want of memory nothing was touched.
   abbrev pub Outcome : (text : List ℕ) → (cells stack steps : ℕ) → Status → Type 0

@@ -6,13 +6,19 @@ ghost use Rattle.command_line.specs.Commands.{command_of, asked_by};
 ghost use Rattle.grin_compile.specs.Limits.{InRange};
 ghost use Rattle.grin_driver.specs.Outcome.{Outcome};
 ghost use Rattle.grin_driver.specs.Checking.{Checks};
-ghost use Rattle.grin_driver.specs.Listing.{ListsAfter};
+ghost use Rattle.grin_driver.specs.Building.{Builds};
+ghost use Rattle.grin_driver.specs.After.{ListsAfter};
 ghost use Rattle.grin_driver.specs.Execution.{Execution};
-ghost use Rattle.grin_driver.specs.Answer.{OfOperand, Answers, IsWithin, operand_of, most_of_text, most_of_image};
+ghost use Rattle.grin_driver.specs.Answer.{OfOperand, Answers, IsWithin, OfNamed, most_of_text, most_of_image};
 ghost use Rattle.grin_driver.specs.Telling.{IsTold};
+ghost use Rattle.grin_driver.specs.Completeness.{NothingFailed, Gives};
+ghost use Rattle.grin_driver.specs.declared.status.Status.TheVariants.{OutOfMemory};
 
+use crate::build::build_text;
 use crate::check::check_text;
 use crate::exec::exec_image;
+use crate::generate::generate;
+use crate::laws::one_accepted_program;
 use crate::list::list_after;
 use crate::reading::read_file;
 use crate::run::run_text;
@@ -82,6 +88,25 @@ fn list_file<F: Shelf, K: Sink>(
     }
 }
 
+/// Puts the image of the text of a file, with so many cells and bytes of stack.
+fn build_file<F: Shelf, K: Sink>(
+    alloc: Global,
+    file: &str,
+    options: Options,
+    shelf: &mut F,
+    out: &mut K,
+) -> Status
+    requires permitted { F.permitted file.now }
+    requires within { InRange options.cells options.stack }
+    ensures answer { OfOperand (of_shelf F.content F.faults shelf.old shelf.new) most_of_text (out.new ≡ out.old) file.now (λ text status. Builds (of_sink K.put_gives K.taken K.faults out.old out.new) text options.cells options.stack status) result }
+    ensures later { (F.faults shelf.old ≤ F.faults shelf.new) × (K.faults out.old ≤ K.faults out.new) }
+{
+    match read_file(alloc, shelf, file, MOST_OF_TEXT) {
+        Ok(text) => build_text(alloc, text.as_slice(), options, out),
+        Err(status) => status,
+    }
+}
+
 /// Runs the executable of a file on the input for at most so many instructions.
 fn exec_file<F: Shelf, I: Source, K: Sink>(
     alloc: Global,
@@ -109,7 +134,7 @@ fn run_command<F: Shelf, I: Source, K: Sink>(
     input: &mut I,
     out: &mut K,
 ) -> Status
-    requires permitted { F.permitted (operand_of (asked_by command.now)) }
+    requires permitted { OfNamed F.permitted (asked_by command.now) }
     requires within { IsWithin (asked_by command.now) }
     ensures answer { Answers (of_shelf F.content F.faults shelf.old shelf.new) (of_source I.left I.faults input.old input.new) (of_sink K.put_gives K.taken K.faults out.old out.new) (Some (asked_by command.now)) result }
     ensures later { (F.faults shelf.old ≤ F.faults shelf.new) × ((I.faults input.old ≤ I.faults input.new) × (K.faults out.old ≤ K.faults out.new)) }
@@ -129,7 +154,15 @@ fn run_command<F: Shelf, I: Source, K: Sink>(
         }
         Command::Check { file } => check_file(alloc, file, shelf, out),
         Command::List { file, after } => list_file(alloc, file, *after, shelf, out),
+        Command::Build { file, cells, stack } => {
+            let options = Options {
+                cells: *cells,
+                stack: *stack,
+            };
+            build_file(alloc, file, options, shelf, out)
+        }
         Command::Exec { image, steps } => exec_file(alloc, image, *steps, shelf, input, out),
+        Command::Gen { seed, size } => generate(alloc, *seed, *size, out),
     }
 }
 
@@ -141,7 +174,7 @@ fn run_line<F: Shelf, I: Source, K: Sink>(
     input: &mut I,
     out: &mut K,
 ) -> Status
-    requires { IfSome (command_of line.now) (λ command. F.permitted (operand_of command)) }
+    requires { IfSome (command_of line.now) (OfNamed F.permitted) }
     ensures answer { Answers (of_shelf F.content F.faults shelf.old shelf.new) (of_source I.left I.faults input.old input.new) (of_sink K.put_gives K.taken K.faults out.old out.new) (command_of line.now) result }
     ensures later { (F.faults shelf.old ≤ F.faults shelf.new) × ((I.faults input.old ≤ I.faults input.new) × (K.faults out.old ≤ K.faults out.new)) }
 {
@@ -153,8 +186,9 @@ fn run_line<F: Shelf, I: Source, K: Sink>(
 
 /// Runs the command that the words of a line stand for, and puts the line of its status on `err`.
 ///
-/// `run FILE` compiles a text and runs it on the input, `check FILE` puts the line of its program, `list FILE` lists it, and
-/// `exec IMAGE` runs an executable on the input. A file is read to its end, or up to the first byte past the longest one. A fault of `err`
+/// `run FILE` compiles a text and runs it on the input, `check FILE` puts the line of its program, `list FILE` lists it,
+/// `build FILE` puts its image, and `exec IMAGE` runs an executable on the input; `gen` runs a generated text and puts
+/// its summary. A file is read to its end, or up to the first byte past the longest one. A fault of `err`
 /// changes no status.
 pub fn grinc_main<F: Shelf, I: Source, K: Sink, E: Sink>(
     alloc: Global,
@@ -164,11 +198,15 @@ pub fn grinc_main<F: Shelf, I: Source, K: Sink, E: Sink>(
     out: &mut K,
     err: &mut E,
 ) -> Status
-    requires permitted { IfSome (command_of line.now) (λ command. F.permitted (operand_of command)) }
+    requires permitted { IfSome (command_of line.now) (OfNamed F.permitted) }
     ensures answer { Answers (of_shelf F.content F.faults shelf.old shelf.new) (of_source I.left I.faults input.old input.new) (of_sink K.put_gives K.taken K.faults out.old out.new) (command_of line.now) result }
     ensures told { IsTold (of_sink E.put_gives E.taken E.faults err.old err.new) result }
+    ensures complete { NothingFailed (of_shelf F.content F.faults shelf.old shelf.new) (of_source I.left I.faults input.old input.new) (of_sink K.put_gives K.taken K.faults out.old out.new) → Gives (of_shelf F.content F.faults shelf.old shelf.new) (of_source I.left I.faults input.old input.new) (command_of line.now) result }
+    ensures memory { result ≡ OutOfMemory → out.new ≡ out.old }
     ensures later { (F.faults shelf.old ≤ F.faults shelf.new) × ((I.faults input.old ≤ I.faults input.new) × (K.faults out.old ≤ K.faults out.new)) }
 {
+    // A law: each accepted text has one program, so what is accepted isn't refused.
+    one_accepted_program();
     let status = run_line(alloc, line, shelf, input, out);
     status.tell(err);
     status

@@ -2,9 +2,14 @@
 #![tactic(auto)]
 
 mod accept;
+mod build;
 mod check;
+mod code;
 mod command;
 mod exec;
+mod generate;
+mod image;
+pub mod laws;
 mod list;
 mod note;
 mod pieces;

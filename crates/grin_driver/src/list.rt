@@ -1,4 +1,4 @@
-//! Listings of a program: its canonical text, and its stages in GRIN.
+//! Listings of a program: its canonical text, its stages in GRIN, and its code.
 
 ghost use Rattle.std.specs.Prelude.{◌≤◌, ℕ, List, IfOk, IfErr};
 ghost use Rattle.core_reader.specs.Tree as tree;
@@ -6,10 +6,12 @@ ghost use Rattle.arity_check.specs.Program.{Program};
 ghost use Rattle.grin_io.specs.Changes.{of_sink};
 ghost use Rattle.grin_opt.specs.declared.pass.PassName.{PassName as PassName'};
 ghost use Rattle.grin_stages.specs.Stage.{IsTooLarge};
-ghost use Rattle.grin_driver.specs.Listing.{IsListing, IsUnlisted, Lists, ListsAfter, IsCanonicalText, Prints};
+ghost use Rattle.grin_driver.specs.Listing.{IsListing, IsUnlisted, Lists, IsCanonicalText, Prints};
+ghost use Rattle.grin_driver.specs.After.{ListsAfter};
 ghost use Rattle.grin_driver.specs.Text.{IsNotRead, IsAccepted};
 
 use crate::accept::{accept, unread};
+use crate::code::list_code;
 use crate::pieces::put_pieces;
 use crate::status::Status;
 use command_line::Listing;
@@ -103,5 +105,10 @@ pub(crate) fn list_after<K: Sink>(alloc: Global, text: &[u8], after: Listing, ou
         Listing::Eval => list_text(alloc, text, PassName::Eval, out),
         Listing::Apply => list_text(alloc, text, PassName::Apply, out),
         Listing::Vectorise => list_text(alloc, text, PassName::Vectorise, out),
+        Listing::Simplify => list_text(alloc, text, PassName::Simplify, out),
+        Listing::Fetch => list_text(alloc, text, PassName::Fetch, out),
+        Listing::Copy => list_text(alloc, text, PassName::Copy, out),
+        Listing::Update => list_text(alloc, text, PassName::Update, out),
+        Listing::Code => list_code(alloc, text, out),
     }
 }

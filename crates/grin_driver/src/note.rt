@@ -6,9 +6,9 @@ use itoa::Buffer;
 use std::marker::Model;
 
 /// The most bytes of a line.
-const MOST: usize = 96;
+const MOST: usize = 136;
 
-/// A line of at most 96 bytes.
+/// A line of at most 136 bytes.
 #[derive(Drop)]
 pub(crate) struct Note {
     bytes: [u8; MOST],
@@ -22,7 +22,7 @@ impl Model for Note {
 
     ghost view = { λ n. take n.length n.bytes };
 
-    ghost invariant = { λ n. n.length ≤ 96 };
+    ghost invariant = { λ n. n.length ≤ 136 };
 }
 
 impl Note {
@@ -37,7 +37,7 @@ impl Note {
 
     /// Puts a piece at the end.
     pub(crate) fn push(&mut self, piece: &[u8])
-        requires { length self.old + length piece.now ≤ 96 }
+        requires { length self.old + length piece.now ≤ 136 }
         ensures { self.new ≡ self.old ++ piece.now }
     {
         let end = self.length + piece.len();
@@ -47,7 +47,7 @@ impl Note {
 
     /// Puts a number at the end, in decimal.
     fn push_number(&mut self, number: u64)
-        requires { length self.old + 20 ≤ 96 }
+        requires { length self.old + 20 ≤ 136 }
         ensures number { self.new ≡ self.old ++ decimal number }
         ensures short { length self.new ≤ length self.old + 20 }
     {
@@ -57,7 +57,7 @@ impl Note {
 
     /// Puts a name and a number at the end.
     pub(crate) fn push_named(&mut self, name: &[u8], number: u64)
-        requires room { length self.old + length name.now + 20 ≤ 96 }
+        requires room { length self.old + length name.now + 20 ≤ 136 }
         ensures named { self.new ≡ self.old ++ (name.now ++ decimal number) }
         ensures short { length self.new ≤ length self.old + length name.now + 20 }
     {

@@ -1,33 +1,19 @@
 //! The run of a text: accepted, compiled to an image, and run.
 
-ghost use Rattle.std.specs.Prelude.{◌≡◌, ◌≤◌, IfOk, IfErr};
+ghost use Rattle.std.specs.Prelude.{◌≡◌, ◌≤◌};
 ghost use Rattle.grin_io.specs.Changes.{of_source, of_sink};
 ghost use Rattle.grin_compile.specs.Limits.{InRange};
-ghost use Rattle.grin_driver.specs.Outcome.{IsImageOf, IsUnmade, named, Outcome};
+ghost use Rattle.grin_driver.specs.Outcome.{named, Outcome};
 
-use crate::accept::accept;
 use crate::exec::exec_image;
-use crate::list::unstaged;
+use crate::image::compiled;
 use crate::status::Status;
-use grin_compile::{Compiled, Options, compile};
+use grin_compile::Options;
 use grin_io::{Sink, Source};
 use std::alloc::Global;
 
-/// The compiled program of a text, or why there is none.
-fn compiled(alloc: Global, text: &[u8], options: Options) -> Result<Compiled, Status>
-    requires { InRange options.cells options.stack }
-    ensures image { IfOk result (λ c. IsImageOf text.now options.cells options.stack c.image.items) }
-    ensures unmade { IfErr result (IsUnmade text.now) }
-{
-    let accepted = accept(alloc, text)?;
-    match compile(alloc, &accepted.program, options) {
-        Ok(compiled) => Ok(compiled),
-        Err(refusal) => Err(unstaged(&refusal)),
-    }
-}
-
 /// The status of a text whose image ended so: the exits 3, 4 and 5 say why.
-fn named(status: Status) -> Status
+pub(crate) fn named(status: Status) -> Status
     ensures { result ≡ named status }
 {
     match status {

@@ -148,7 +148,7 @@ fn trap(kind: &TrapKind, pc: u32) -> Note
 
 /// Puts the reason of a trap at the end.
 fn push_kind(note: &mut Note, kind: &TrapKind)
-    requires { length note.old + 40 ≤ 96 }
+    requires { length note.old + 40 ≤ 136 }
     ensures kind { note.new ≡ note.old ++ kind_text kind.now }
     ensures short { length note.new ≤ length note.old + 40 }
 {

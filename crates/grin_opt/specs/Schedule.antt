@@ -1,26 +1,49 @@
--- The passes behind the inlining.
-use Rattle.std.specs.Prelude.{◌≡◌}
+-- The passes after the inlining.
 use Rattle.grin_syntax.specs.Tree.{Program}
 use Rattle.grin_syntax.specs.Formed.{Formed}
 use Rattle.grin_meaning.specs.Keeps.{Keeps}
 use Rattle.grin_meaning.specs.Ready.{Ready}
 use Rattle.vectorise.specs.Whole.{IsWhole}
 use Rattle.vectorise.specs.Widened.{Widened}
+use Rattle.case_simplify.specs.Simplified.{Simplified}
+use Rattle.fetch_passes.specs.Fetched.{Fetched}
+use Rattle.copy_prop.specs.Copied.{Copied}
+use Rattle.update_special.specs.Updated.{Updated}
 use Rattle.grin_opt.specs.declared.pass.PassName.{PassName}
-use Rattle.grin_opt.specs.declared.pass.PassName.TheVariants.{Translate, Eval, Apply, Vectorise}
+use Rattle.grin_opt.specs.declared.pass.PassName.TheVariants.{Translate, Eval, Apply, Vectorise, Simplify, Fetch, Copy, Update}
 
 -- the stages from the inlining of applications on
-abbrev pub IsBehindInlining : PassName → Type 0
-IsBehindInlining Translate = ⊥
-IsBehindInlining Eval = ⊥
-IsBehindInlining _ = Unit {0}
+abbrev pub IsAfterInlining : PassName → Type 0
+IsAfterInlining Translate = ⊥
+IsAfterInlining Eval = ⊥
+IsAfterInlining _ = Unit {0}
 
--- what the first pass takes: well-formed programs without eval and apply in which no part of a node stands by itself
+-- what the first pass takes: well-formed programs without eval and apply in which no part of a node
+-- stands by itself
 abbrev pub IsTaken : Program → Type 0
 IsTaken g = Formed g × Ready g × IsWhole g
 
--- The program after the passes up to this one: itself; or it is vectorised, and keeps what g does.
-abbrev pub IsOptimised : Program → PassName → Program → Type 0
-IsOptimised g Apply h = h ≡ g
-IsOptimised g Vectorise h = Widened g h × Keeps g h
-IsOptimised g _ h = ⊥
+-- what a pass after the inlining says of its input and its answer
+abbrev pub shape_of : PassName → Program → Program → Type 0
+shape_of Vectorise g h = Widened g h
+shape_of Simplify g h = Simplified g h
+shape_of Fetch g h = Fetched g h
+shape_of Copy g h = Copied g h
+shape_of Update g h = Updated g h
+shape_of _ g h = ⊥
+
+-- the stage that such a pass takes
+abbrev pub before : PassName → PassName
+before Vectorise = Apply
+before Simplify = Vectorise
+before Fetch = Simplify
+before Copy = Fetch
+before Update = Copy
+before k = k
+
+-- The program after the passes up to this one: itself; or it has the pass's shape beside the program
+-- before, and keeps what g does.
+pub data IsOptimised (g : Program) : PassName → Program → Type 0 where
+  itself : IsOptimised g Apply g
+  by_pass : {k : PassName} {h h' : Program} → IsOptimised g (before k) h → shape_of k h h'
+      → Keeps g h' → IsOptimised g k h'

@@ -1,11 +1,17 @@
 // The names of the stages.
 
 /// The stages of a program, in the order in which they are made: its translation, the inlining of its evaluations by the tags
-/// that they meet, that of its applications, and vectors of words in place of its node variables.
+/// that they meet, that of its applications, vectors of words in place of its node variables, cases on known tags in place of
+/// which their alternatives stand, fetches of words in place of those of nodes, copies that are gone, and updates with a known
+/// tag.
 #[derive(Clone, Copy, PartialEq, Eq, Debug, Drop)]
 pub enum PassName {
     Translate,
     Eval,
     Apply,
     Vectorise,
+    Simplify,
+    Fetch,
+    Copy,
+    Update,
 }

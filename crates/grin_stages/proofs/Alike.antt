@@ -26,8 +26,9 @@ use Rattle.apply_inline.specs.Size.{size}
 use Rattle.arity_check.specs.Program as core
 use Rattle.grin_translate.specs.Translation.{tr}
 use Rattle.grin_opt.specs.declared.pass.PassName.{PassName}
-use Rattle.grin_opt.specs.declared.pass.PassName.TheVariants.{Apply}
-use Rattle.grin_stages.specs.Stage.{Analyses, OneExpandedSize, IsStage, translated, evaluations_inlined, both_inlined, vectorised, UpToInlining, OneStage}
+use Rattle.grin_opt.specs.declared.pass.PassName.TheVariants.{Translate, Eval, Apply, Vectorise, Simplify, Fetch, Copy, Update}
+use Rattle.grin_opt.specs.Schedule.{shape_of}
+use Rattle.grin_stages.specs.Stage.{Analyses, OneExpandedSize, IsStage, translated, evaluations_inlined, both_inlined, by_pass, UpToInlining, OneStage}
 use Rattle.eval_inline.specs.Inlining.{those, some_of, cells_in, site_of, sites_of, tags_of, fields_at, call_body, eval_arm, eval_arms, evaluation, eval_bound, eval_ended, eval_act, eval_code, eval_all, eval_procs, act_room, code_room, all_room, arms_room, eval_inlined}
 use Rattle.apply_inline.specs.Inlining.{word_has, value_has, is_part_tag, parts_of, others_of, with_one_more, apply_body, part_body, apply_arm, apply_arms, else_fail, apply_act, apply_code, apply_all, apply_procs, apply_act_room, apply_code_room, apply_arms_room, parts_room, apply_inlined, inlined}
 
@@ -353,6 +354,17 @@ alike p A B a b =
 pub expanded_once : OneExpandedSize
 expanded_once p n m h k = h.is_size ∙ (ap size (alike (tr p) h.solution k.solution h.least k.least).both ∙ sym k.is_size)
 
+-- no stage up to the inlining is made by a pass
+no_pass : (k : PassName) (g h : Program) → UpToInlining k → shape_of k g h → ⊥
+no_pass Translate g h u s = s
+no_pass Eval g h u s = s
+no_pass Apply g h u s = s
+no_pass Vectorise g h u s = absurd u
+no_pass Simplify g h u s = absurd u
+no_pass Fetch g h u s = absurd u
+no_pass Copy g h u s = absurd u
+no_pass Update g h u s = absurd u
+
 -- where two stages are of one pass, up to the inlining, they are one program
 stages_agree : (p : core.Program) (upto upto' : PassName) (g h : Program) → UpToInlining upto → IsStage p upto g → IsStage p upto' h → upto ≡ upto' → g ≡ h
 stages_agree p upto upto' g h u translated translated e = refl
@@ -360,14 +372,14 @@ stages_agree p upto upto' g h u (evaluations_inlined {A = A} a) (evaluations_inl
 stages_agree p upto upto' g h u (both_inlined {A = A} a) (both_inlined {A = B} b) e = (alike (tr p) A B a b).both
 stages_agree p upto upto' g h u translated (evaluations_inlined b) e = cc
 stages_agree p upto upto' g h u translated (both_inlined b) e = cc
-stages_agree p upto upto' g h u translated (vectorised t w k) e = cc
+stages_agree p upto upto' g h u translated (by_pass {g = b} t shape k) e = absurd (no_pass upto' b h (subst UpToInlining e u) shape)
 stages_agree p upto upto' g h u (evaluations_inlined a) translated e = cc
 stages_agree p upto upto' g h u (evaluations_inlined a) (both_inlined b) e = cc
-stages_agree p upto upto' g h u (evaluations_inlined a) (vectorised t w k) e = cc
+stages_agree p upto upto' g h u (evaluations_inlined a) (by_pass {g = b} t shape k) e = absurd (no_pass upto' b h (subst UpToInlining e u) shape)
 stages_agree p upto upto' g h u (both_inlined a) translated e = cc
 stages_agree p upto upto' g h u (both_inlined a) (evaluations_inlined b) e = cc
-stages_agree p upto upto' g h u (both_inlined a) (vectorised t w k) e = cc
-stages_agree p upto upto' g h u (vectorised s w k) t e = absurd u
+stages_agree p upto upto' g h u (both_inlined a) (by_pass {g = b} t shape k) e = absurd (no_pass upto' b h (subst UpToInlining e u) shape)
+stages_agree p upto upto' g h u (by_pass {g = b} s shape k) t e = absurd (no_pass upto b g u shape)
 
 pub staged_once : OneStage
 staged_once p upto g h u a b = stages_agree p upto upto g h u a b refl

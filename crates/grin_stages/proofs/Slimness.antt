@@ -1,18 +1,16 @@
 -- What vectorising makes of a slim program is slim.
 use Rattle.std.proofs.Common.{◌≡◌, ℕ, ◌≤◌, ◌*◌, List, [], ◌∷◌, refl, subst, arith}
-use Rattle.arity_check.specs.Program as core
 use Rattle.grin_syntax.specs.Tree.{Procedure, Program}
 use Rattle.grin_syntax.specs.Formed.{AllOf}
 use Rattle.grin_meaning.specs.Slim.{Slim, procedure_words}
-use Rattle.flow_system.specs.Solution.{Solution}
 use Rattle.apply_inline.specs.Inlining.{inlined}
 use Rattle.apply_inline.specs.Size.{size, largest_procedure}
 use Rattle.apply_inline.specs.Small.{SlimBesideItsSize}
 use Rattle.vectorise.specs.Widened.{FewWords, Widened}
 use Rattle.grin_translate.specs.Translation.{tr}
-use Rattle.grin_opt.specs.declared.pass.PassName.{PassName}
 use Rattle.grin_opt.specs.declared.pass.PassName.TheVariants.{Vectorise}
-use Rattle.grin_stages.specs.Stage.{Analyses, IsStage, translated, evaluations_inlined, both_inlined, vectorised, VectorisedIsSlim}
+use Rattle.grin_stages.specs.Stage.{VectorisedIsSlim}
+use Rattle.grin_stages.proofs.Stages.{from_pass}
 use Rattle.grin_stages.proofs.Alike.{inlined_stage}
 
 few_words : (most : ℕ) (qs rs : List Procedure) → FewWords qs rs → AllOf (λ q. procedure_words q ≤ most) qs → AllOf (λ q. procedure_words q ≤ most) rs
@@ -28,13 +26,7 @@ widened_is_slim s most g h w slim = record {
   few_words = few_words (20 * most) g.procs h.procs w.few_words slim.few_words;
 }
 
-stage_is_slim : SlimBesideItsSize → (p : core.Program) (upto : PassName) (h : Program) → upto ≡ Vectorise → IsStage p upto h
-    → (A : Solution) → Analyses p A → Slim (size (inlined A (tr p))) (largest_procedure (inlined A (tr p))) h
-stage_is_slim law p upto h e (vectorised {g = g} s w k) A least =
-    widened_is_slim _ _ g h w (subst (λ g'. Slim (size g') (largest_procedure g') g) (inlined_stage p g s A least) (law g))
-stage_is_slim law p upto h e translated A least = cc
-stage_is_slim law p upto h e (evaluations_inlined a) A least = cc
-stage_is_slim law p upto h e (both_inlined a) A least = cc
-
 pub vectorised_slim : SlimBesideItsSize → VectorisedIsSlim
-vectorised_slim law p h s A least = stage_is_slim law p Vectorise h refl s A least
+vectorised_slim law p h s A least =
+    let from = from_pass p Vectorise h tt s in
+    widened_is_slim _ _ from.g h from.shape (subst (λ g. Slim (size g) (largest_procedure g) from.g) (inlined_stage p from.g from.stage A least) (law from.g))

@@ -22,9 +22,10 @@ use Rattle.inlined_form.proofs.SizesFit.{sizes_fit}
 use Rattle.vectorise.specs.Widened.{Widened}
 use Rattle.vectorised_form.specs.Laws.{VectoriseTakesInlined}
 use Rattle.grin_opt.specs.declared.pass.PassName.{PassName}
-use Rattle.grin_opt.specs.declared.pass.PassName.TheVariants.{Translate, Eval, Apply, Vectorise}
-use Rattle.grin_opt.specs.Schedule.{IsBehindInlining, IsTaken, IsOptimised}
-use Rattle.grin_stages.specs.Stage.{Analyses, IsStage, translated, evaluations_inlined, both_inlined, vectorised, HasExpandedSize, Fits}
+use Rattle.grin_opt.specs.declared.pass.PassName.TheVariants.{Translate, Eval, Apply}
+use Rattle.grin_opt.specs.Schedule.{IsTaken, shape_of, before, IsOptimised, itself, by_pass}
+use Rattle.grin_opt.proofs.Steps.{HasVectors, shaped_of_vectors}
+use Rattle.grin_stages.specs.Stage.{Analyses, IsStage, translated, evaluations_inlined, both_inlined, by_pass as next_stage, HasExpandedSize, Fits}
 use Rattle.grin_stages.specs.Analysed.{IsMade}
 
 -- the solution of a program's system
@@ -70,25 +71,43 @@ module _ (p : Program) (A : Solution) (g h : grin.Program) (is : g ≡ tr p) (le
     fits = λ _. fits;
   }
 
--- the inlined program is one that the passes behind the inlining take
+-- the inlined program is one that the passes after the inlining take
 pub taken : VectoriseTakesInlined → (p : Program) → IsValid p → (upto : PassName) (g : grin.Program) → upto ≡ Apply → IsStage p upto g → IsTaken g
 taken law p valid upto g e (both_inlined {A = A} least) = law p valid A least.solves
 taken law p valid upto g e translated = cc
 taken law p valid upto g e (evaluations_inlined least) = cc
-taken law p valid upto g e (vectorised s w k) = cc
+taken law p valid upto g e (next_stage {g = b} stage shape k) = absurd (subst (λ k. shape_of k b g) e shape)
 
--- the stages that the passes behind the inlining make
-pub made_behind : (p : Program) (upto : PassName) (g h : grin.Program) → IsBehindInlining upto → IsMade p Apply g → IsOptimised g upto h → IsMade p upto h
-made_behind p Translate g h b made e = absurd b
-made_behind p Eval g h b made e = absurd b
-made_behind p Apply g h b made e = subst (IsMade p Apply) (sym e) made
-made_behind p Vectorise g h b made (widened, keeps) =
-    let kept = keeps_again (tr p) g h made.meaning keeps in
-    record { made = vectorised made.made widened kept; formed = widened.formed; meaning = kept; fits = λ _. made.fits (λ e. cc) }
+-- the stages that the passes after the inlining make
+staged : (p : Program) (g h : grin.Program) (k : PassName) → IsStage p Apply g → Keeps (tr p) g → IsOptimised g k h → IsStage p k h
+staged p g h k stage kept itself = stage
+staged p g h k stage kept (by_pass {h = b} o shape keeps) = next_stage (staged p g b (before k) stage kept o) shape (keeps_again (tr p) g h kept keeps)
 
--- what a stage of vectorising comes from
-pub vectorised_from : (p : Program) (upto : PassName) (h : grin.Program) → upto ≡ Vectorise → IsStage p upto h → (g : grin.Program) × IsStage p Apply g × Widened g h × Keeps (tr p) h
-vectorised_from p upto h e (vectorised {g = g} s w k) = (g, s, w, k)
-vectorised_from p upto h e translated = cc
-vectorised_from p upto h e (evaluations_inlined least) = cc
-vectorised_from p upto h e (both_inlined least) = cc
+kept_by : (p : Program) (g h : grin.Program) (k : PassName) → Keeps (tr p) g → IsOptimised g k h → Keeps (tr p) h
+kept_by p g h k kept itself = kept
+kept_by p g h k kept (by_pass o shape keeps) = keeps_again (tr p) g h kept keeps
+
+formed_by : (g h : grin.Program) (k : PassName) → Formed g → IsOptimised g k h → Formed h
+formed_by g h k formed itself = formed
+formed_by g h k formed (by_pass {h = b} o shape keeps) = (shaped_of_vectors k b h shape).formed
+
+pub made_after : (p : Program) (upto : PassName) (g h : grin.Program) → IsMade p Apply g → IsOptimised g upto h → IsMade p upto h
+made_after p upto g h made o = record {
+  made = staged p g h upto made.made made.meaning o;
+  formed = formed_by g h upto made.formed o;
+  meaning = kept_by p g h upto made.meaning o;
+  fits = λ _. made.fits (λ e. cc);
+}
+
+-- what a stage of a pass comes from
+pub record FromPass (p : Program) (k : PassName) (h : grin.Program) : Type 0 where
+  pub g : grin.Program
+  pub stage : IsStage p (before k) g
+  pub shape : shape_of k g h
+  pub keeps : Keeps (tr p) h
+
+pub from_pass : (p : Program) (k : PassName) (h : grin.Program) → HasVectors k → IsStage p k h → FromPass p k h
+from_pass p k h has (next_stage {g = g} stage shape keeps) = record { g = g; stage = stage; shape = shape; keeps = keeps }
+from_pass p k h has translated = absurd has
+from_pass p k h has (evaluations_inlined least) = absurd has
+from_pass p k h has (both_inlined least) = absurd has

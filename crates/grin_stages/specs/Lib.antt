@@ -1,2 +1,3 @@
 pub mod Stage
+pub mod Inlined
 pub mod Analysed

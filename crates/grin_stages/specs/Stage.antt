@@ -10,10 +10,10 @@ use Rattle.flow_system.specs.Solution.{Solution, IsLeast}
 use Rattle.eval_inline.specs.Inlining.{eval_inlined}
 use Rattle.apply_inline.specs.Inlining.{inlined, inlined_size}
 use Rattle.apply_inline.specs.Size.{largest_procedure}
-use Rattle.vectorise.specs.Widened.{Widened}
 use Rattle.grin_translate.specs.Translation.{tr}
 use Rattle.grin_opt.specs.declared.pass.PassName.{PassName}
 use Rattle.grin_opt.specs.declared.pass.PassName.TheVariants.{Translate, Eval, Apply, Vectorise}
+use Rattle.grin_opt.specs.Schedule.{before, shape_of}
 use Rattle.grin_stages.specs.declared.refusal.CompileRefusal.{CompileRefusal}
 use Rattle.grin_stages.specs.declared.refusal.CompileRefusal.TheVariants.{ExpandedTooLarge, Memory}
 
@@ -27,7 +27,7 @@ pub data IsStage (p : Program) : PassName → grin.Program → Type 0 where
   translated : IsStage p Translate (tr p)
   evaluations_inlined : {A : Solution} → Analyses p A → IsStage p Eval (eval_inlined A (tr p))
   both_inlined : {A : Solution} → Analyses p A → IsStage p Apply (inlined A (tr p))
-  vectorised : {g h : grin.Program} → IsStage p Apply g → Widened g h → Keeps (tr p) h → IsStage p Vectorise h
+  by_pass : {k : PassName} {g h : grin.Program} → IsStage p (before k) g → shape_of k g h → Keeps (tr p) h → IsStage p k h
 
 -- the size of the program once both are inlined
 pub record HasExpandedSize (p : Program) (size : ℕ) : Type 0 where
@@ -46,7 +46,7 @@ abbrev pub IsLarge : Program → CompileRefusal → Type 0
 IsLarge p (ExpandedTooLarge size) = HasExpandedSize p size × (131072 < size)
 IsLarge p (Memory e) = Unit {0}
 
--- the stage is behind the translation, and rule 36 is broken
+-- the stage is after the translation, and rule 36 is broken
 abbrev pub IsTooLarge : Program → PassName → CompileRefusal → Type 0
 IsTooLarge p upto (ExpandedTooLarge size) = (upto ≢ Translate) × HasExpandedSize p size × (131072 < size)
 IsTooLarge p upto (Memory e) = Unit {0}
@@ -57,8 +57,10 @@ OneExpandedSize = (p : Program) (size size' : ℕ) → HasExpandedSize p size �
 
 -- the stages up to the inlining of applications, each of which is given by a function
 abbrev pub UpToInlining : PassName → Type 0
-UpToInlining Vectorise = ⊥
-UpToInlining _ = Unit {0}
+UpToInlining Translate = Unit {0}
+UpToInlining Eval = Unit {0}
+UpToInlining Apply = Unit {0}
+UpToInlining _ = ⊥
 
 -- each of these stages is one program
 abbrev pub OneStage : Type 0

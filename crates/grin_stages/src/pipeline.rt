@@ -8,7 +8,7 @@ ghost use Rattle.grin_syntax.specs.Formed.{Formed};
 ghost use Rattle.grin_meaning.specs.Keeps.{Keeps};
 ghost use Rattle.grin_translate.specs.Translation.{tr};
 ghost use Rattle.grin_opt.specs.declared.pass.PassName.TheVariants.{Translate, Eval, Apply};
-ghost use Rattle.grin_opt.specs.Schedule.{IsBehindInlining};
+ghost use Rattle.grin_opt.specs.Schedule.{IsAfterInlining};
 ghost use Rattle.grin_stages.specs.Stage.{IsStage, Fits, IsTooLarge, IsLarge};
 ghost use Rattle.grin_stages.specs.Analysed.{IsAnalysisOf, IsMade};
 
@@ -35,7 +35,7 @@ pub(crate) struct Analysis {
 }
 
 /// Translates and analyses a program. `ExpandedTooLarge` where it is over 131,072 in size once it is inlined.
-fn analyse(alloc: Global, p: &Checked) -> Result<Analysis, CompileRefusal>
+pub(crate) fn analyse(alloc: Global, p: &Checked) -> Result<Analysis, CompileRefusal>
     requires { IsValid (program p.now) }
     ensures analysed { IfOk result (IsAnalysisOf (program p.now)) }
     ensures refused { IfErr result (IsLarge (program p.now)) }
@@ -85,10 +85,10 @@ fn applied(alloc: Global, p: &Checked) -> Result<Grin, CompileRefusal>
     Ok(applied)
 }
 
-/// The translation with its evaluations and applications inlined, and the passes behind that up to and with `upto`.
+/// The translation with its evaluations and applications inlined, and the passes after that up to and with `upto`.
 fn optimised(alloc: Global, p: &Checked, upto: PassName) -> Result<Grin, CompileRefusal>
     requires valid { IsValid (program p.now) }
-    requires behind { IsBehindInlining upto }
+    requires after { IsAfterInlining upto }
     ensures made { IfOk result (λ g. IsMade (program p.now) upto (program_of g)) }
     ensures refused { IfErr result (IsLarge (program p.now)) }
 {
@@ -99,7 +99,7 @@ fn optimised(alloc: Global, p: &Checked, upto: PassName) -> Result<Grin, Compile
     Ok(optimised)
 }
 
-/// The program of a stage. `ExpandedTooLarge` exactly where `upto` is behind `Translate` and the program is over 131,072 in
+/// The program of a stage. `ExpandedTooLarge` exactly where `upto` is after `Translate` and the program is over 131,072 in
 /// size once it is inlined.
 pub fn stage(alloc: Global, p: &Checked, upto: PassName) -> Result<Grin, CompileRefusal>
     requires { IsValid (program p.now) }
@@ -112,6 +112,11 @@ pub fn stage(alloc: Global, p: &Checked, upto: PassName) -> Result<Grin, Compile
     match upto {
         PassName::Translate => translated(alloc, p),
         PassName::Eval => evaluated(alloc, p),
-        PassName::Apply | PassName::Vectorise => optimised(alloc, p, upto),
+        PassName::Apply
+        | PassName::Vectorise
+        | PassName::Simplify
+        | PassName::Fetch
+        | PassName::Copy
+        | PassName::Update => optimised(alloc, p, upto),
     }
 }

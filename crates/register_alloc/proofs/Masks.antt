@@ -22,7 +22,7 @@ bit_below : (a i : ℕ) → bit_at a i < 2
 bit_below a i = omega arith
 
 -- a bit of the one or of the other
-or_bit : (a b i : ℕ) → bit_at (bit_or a b) i ≡ 1 → (bit_at a i ≡ 1) ⊎ (bit_at b i ≡ 1)
+pub or_bit : (a b i : ℕ) → bit_at (bit_or a b) i ≡ 1 → (bit_at a i ≡ 1) ⊎ (bit_at b i ≡ 1)
 or_bit a b i h =
     let e = bit_at_or a b i in
     let x = bit_below a i in
@@ -34,10 +34,10 @@ or_bit a b i h =
     go (suc zero) y k l m = inl refl
     go (suc (suc x)) y k l m = absurd (omega arith)
 
-bit_left : (a b i : ℕ) → bit_at a i ≡ 1 → bit_at (bit_or a b) i ≡ 1
+pub bit_left : (a b i : ℕ) → bit_at a i ≡ 1 → bit_at (bit_or a b) i ≡ 1
 bit_left a b i h = let e = bit_at_or a b i in let y = bit_below b i in omega (arith, e, h, y)
 
-bit_right : (a b i : ℕ) → bit_at b i ≡ 1 → bit_at (bit_or a b) i ≡ 1
+pub bit_right : (a b i : ℕ) → bit_at b i ≡ 1 → bit_at (bit_or a b) i ≡ 1
 bit_right a b i h = let e = bit_at_or a b i in let x = bit_below a i in omega (arith, e, h, x)
 
 -- a bit of a joined mask comes from the mask, or from one that is called

@@ -44,10 +44,10 @@ module _ {A : Type 0} (has : Code → List A) where
     abbrev pub ArmsLeft : (old now : List A) → List LowArm → (k : ℕ) → Type 0
     ArmsLeft old now as' k = (c : Code) → old ++ arms_have (arms_before (map arm_of as') c) ≡ now ++ arms_have (arms_before (map arm_of (drop k as')) c)
 
-    pub arms_next : ((ts : List LowTest) (b : Code) (rest : Arms) → arms_have (arm ts b rest) ≡ has b ++ arms_have rest)
+    pub each_arm_next : (arm_has : List LowTest → Code → List A) → ((ts : List LowTest) (b : Code) (rest : Arms) → arms_have (arm ts b rest) ≡ arm_has ts b ++ arms_have rest)
         → (old now new : List A) (as' : List LowArm) (k : ℕ) (a : LowArm) → slice_get as' k ≡ Some a
-        → new ≡ now ++ has (code_of a.block) → ArmsLeft old now as' k → ArmsLeft old new as' (suc k)
-    arms_next each old now new as' k a there one left c = left c ∙ step as' k there
+        → new ≡ now ++ arm_has a.tests (code_of a.block) → ArmsLeft old now as' k → ArmsLeft old new as' (suc k)
+    each_arm_next arm_has each old now new as' k a there one left c = left c ∙ step as' k there
       where
         step : (xs : List LowArm) (j : ℕ) → slice_get xs j ≡ Some a
             → now ++ arms_have (arms_before (map arm_of (drop j xs)) c) ≡ new ++ arms_have (arms_before (map arm_of (drop (suc j) xs)) c)
@@ -58,9 +58,14 @@ module _ {A : Type 0} (has : Code → List A) where
             ap (λ y. now ++ arms_have (arm (arm_of y).0 (arm_of y).1 rest)) q
             ∙ ap (λ p. now ++ arms_have (arm p.0 p.1 rest)) (arm_of-parts a)
             ∙ ap (λ l. now ++ l) (each a.tests (code_of a.block) rest)
-            ∙ grouped now (has (code_of a.block)) (arms_have rest)
+            ∙ grouped now (arm_has a.tests (code_of a.block)) (arms_have rest)
             ∙ ap (λ l. l ++ arms_have rest) (sym one)
         step (x ∷ xs) (suc j) e = step xs j e
+
+    pub arms_next : ((ts : List LowTest) (b : Code) (rest : Arms) → arms_have (arm ts b rest) ≡ has b ++ arms_have rest)
+        → (old now new : List A) (as' : List LowArm) (k : ℕ) (a : LowArm) → slice_get as' k ≡ Some a
+        → new ≡ now ++ has (code_of a.block) → ArmsLeft old now as' k → ArmsLeft old new as' (suc k)
+    arms_next each old now new as' k a there one left = each_arm_next (λ ts b. has b) each old now new as' k a there one left
 
   pub block_whole : (old now new : List A) (ss : List LowStmt) (k : ℕ) (e : Code) → length ss ≤ k → StmtsLeft old now ss k → new ≡ now ++ has e
       → new ≡ old ++ has (all_before (map before_of ss) e)

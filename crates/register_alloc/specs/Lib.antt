@@ -4,7 +4,10 @@ pub mod Written
 pub mod Fits
 pub mod Reach
 pub mod Rounds
-pub mod Slots
+pub mod Results
 pub mod Calls
 pub mod Gathered
-pub mod Given
+pub mod Uses
+pub mod Inner
+pub mod Holders
+pub mod Point

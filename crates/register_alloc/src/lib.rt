@@ -4,15 +4,19 @@
 ghost use Rattle.std.specs.Prelude.{◌≡◌, ◌<◌, length};
 ghost use Rattle.register_alloc.specs.Assignment.{place_of, mask_of, saves_at, words_at};
 
-mod slots;
+mod assign;
+mod holders;
+mod registers;
+mod scan;
 #[cfg(test)]
 mod tests;
+mod uses;
 mod walk;
 mod written;
 
+pub use assign::allocate;
 use parallel_move::Spot;
 use seq::Seq;
-pub use slots::allocate;
 use std::marker::Model;
 pub use walk::{Call, Walk};
 

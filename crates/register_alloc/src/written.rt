@@ -7,7 +7,7 @@ ghost use Rattle.register_alloc.specs.Rounds.{mask_at, joined, Grows, AreWhole, 
 
 use seq::Seq;
 
-fn mask_at(masks: &[u32], proc: u32) -> u32
+pub(crate) fn mask_at(masks: &[u32], proc: u32) -> u32
     ensures { result ≡ mask_at masks.now proc }
 {
     match masks.get(proc as usize) {

@@ -39,7 +39,7 @@ forward_none : (addresses : List ℕ) (input : List ℕ) (s : State) (calls : Li
 unfolding Forward
 forward_none addresses input s calls = tt
 
-home_step : (lay : Layout) (items : List Item) (n : ℕ) (input : List ℕ) (p : Point) (calls : List ℕ) (t : Turn) → turn lay items p ≡ t → ReturnsHome lay items (suc n) input p calls → home_to lay items (λ i q c. ReturnsHome lay items n i q c) input p calls t
+pub home_step : (lay : Layout) (items : List Item) (n : ℕ) (input : List ℕ) (p : Point) (calls : List ℕ) (t : Turn) → turn lay items p ≡ t → ReturnsHome lay items (suc n) input p calls → home_to lay items (λ i q c. ReturnsHome lay items n i q c) input p calls t
 unfolding ReturnsHome
 home_step lay items n input p calls t e h = subst (λ t. home_to lay items (λ i q c. ReturnsHome lay items n i q c) input p calls t) e h
 
@@ -83,7 +83,7 @@ module _ (items : List Item) (words : List ℕ) (placed : Placed items words) (b
       by_turn (Ended code) et rest = let g = at_turn (Ended code) et in cc
       by_turn (Trapped k) et rest = home_step lay items n input p calls (Trapped k) et h
 
-  never : (input : List ℕ) (p : Point) (calls : List ℕ) → Home input p calls → NeverTrapsOn lay items input p
+  pub never : (input : List ℕ) (p : Point) (calls : List ℕ) → Home input p calls → NeverTrapsOn lay items input p
   never input p calls h n kind e = home_never n input p calls (h n) kind e
 
   -- ---- from the stops on nothing begins
@@ -147,7 +147,7 @@ module _ (items : List Item) (words : List ℕ) (placed : Placed items words) (b
       let at : address_of lay items l ≡ lay.address t = ap (λ o. lay.address (unwrap_or o 0)) s.1.0 ∙ ap (λ k. lay.address k) (sym item) in
       subst (λ c. is_one_of addresses c ≡ true) at (one_mapped (address_of lay items) begins l is)
 
-  begin_item : (o : Option Item) → is_begin begins o ≡ true → (l : ℕ) × ((o ≡ Some (Label l)) × (is_one_of begins l ≡ true))
+  pub begin_item : (o : Option Item) → is_begin begins o ≡ true → (l : ℕ) × ((o ≡ Some (Label l)) × (is_one_of begins l ≡ true))
   begin_item None h = absurd (true≢false (sym h))
   begin_item (Some (Label l)) h = (l, (refl, h))
   begin_item (Some (Plain i)) h = absurd (true≢false (sym h))
@@ -155,10 +155,10 @@ module _ (items : List Item) (words : List ℕ) (placed : Placed items words) (b
   begin_item (Some (Jump k l)) h = absurd (true≢false (sym h))
 
   -- on to the next item, or where its label is
-  abbrev Way : Item → (n t : ℕ) → Type 0
+  abbrev pub Way : Item → (n t : ℕ) → Type 0
   Way i n t = ((t ≡ suc n) ⊎ ((t ≤ length items) × GoesOn begins items flows.stops n t)) × (is_call (Some i) ≡ true → is_begin begins (slice_get items t) ≡ true)
 
-  abbrev WayTurn : Item → Point → Turn → Type 0
+  abbrev pub WayTurn : Item → Point → Turn → Type 0
   WayTurn i p (Next q) = returns (Some i) ≡ false → Way i p.item q.item
   WayTurn i p (Written a len bytes q) = q.item ≡ suc p.item
   WayTurn i p (Asked a) = Unit {0}
@@ -186,7 +186,7 @@ module _ (items : List Item) (words : List ℕ) (placed : Placed items words) (b
     return_way i is None regs = tt
     return_way i is (Some t) regs = λ other. absurd (true≢false (sym is ∙ other))
 
-    turn_way : (i : Item) → slice_get items p.item ≡ Some i → is_instruction (Some i) ≡ true → WayTurn i p (turn_of lay items p (Some i))
+    pub turn_way : (i : Item) → slice_get items p.item ≡ Some i → is_instruction (Some i) ≡ true → WayTurn i p (turn_of lay items p (Some i))
     turn_way (Label l) e is = absurd (true≢false (sym is))
     turn_way (Plain i) e is = by_return (is_return i) refl
       where

@@ -6,3 +6,4 @@ pub mod Moments
 pub mod Enters
 pub mod Reached
 pub mod Forward
+pub mod Pace

@@ -29,10 +29,10 @@ module _ (items : List Item) (words : List ℕ) (placed : Placed items words) wh
   abbrev lay : Layout
   lay = placed.lay
 
-  none_stands : (b : ℕ) → is_one_of [] b ≡ true → times b items ≡ 1
+  pub none_stands : (b : ℕ) → is_one_of [] b ≡ true → times b items ≡ 1
   none_stands b h = absurd (true≢false (sym h))
 
-  none_behind : (n : ℕ) → is_begin [] (slice_get items n) ≡ true → is_instruction (slice_get items (suc n)) ≡ true
+  pub none_behind : (n : ℕ) → is_begin [] (slice_get items n) ≡ true → is_instruction (slice_get items (suc n)) ≡ true
   none_behind n h = absurd (true≢false (sym h ∙ none_begins (slice_get items n)))
 
   none_fresh : (n : ℕ) → Fresh [] items n
@@ -61,7 +61,7 @@ module _ (items : List Item) (words : List ℕ) (placed : Placed items words) wh
       go false = omega arith
 
   -- what holds behind a turn, be it a label's
-  turns : (p : Point) (i : Item) → slice_get items p.item ≡ Some i → HasCode lay p → GoodTurn items lay placed.rises [] none_behind p (turn lay items p)
+  pub turns : (p : Point) (i : Item) → slice_get items p.item ≡ Some i → HasCode lay p → GoodTurn items lay placed.rises [] none_behind p (turn lay items p)
   turns p i e code = subst (λ t. GoodTurn items lay placed.rises [] none_behind p t) (sym (turn_is lay items p (Some i) e)) (by_item i e)
     where
       by_item : (i : Item) → slice_get items p.item ≡ Some i → GoodTurn items lay placed.rises [] none_behind p (turn_of lay items p (Some i))

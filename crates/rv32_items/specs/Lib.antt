@@ -3,3 +3,4 @@ pub mod Told
 pub mod Placed
 pub mod Flows
 pub mod Laws
+pub mod Pace

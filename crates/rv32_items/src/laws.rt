@@ -1,6 +1,7 @@
 // What the machine does with words that are placed for items.
 
 ghost use Rattle.rv32_items.specs.Laws.{ItemsShow, ItemsAreReached, ItemsEnter, ItemsGoForward};
+ghost use Rattle.rv32_items.specs.Pace.{ItemsKeepPace};
 
 /// Where the items never trap, the machine shows what they show, and in at most three steps an item.
 pub fn items_show()
@@ -16,4 +17,9 @@ pub fn items_enter()
 /// Where each return goes behind the last call that is open, the machine goes forward.
 pub fn items_go_forward()
     ensures { ItemsGoForward }
+{}
+
+/// There it does all items at most once at the start and once for each procedure that it enters.
+pub fn items_keep_pace()
+    ensures { ItemsKeepPace }
 {}

@@ -1,5 +1,5 @@
 -- Where items stand, in words from the first one of the code, and the ways that they go.
-use Rattle.std.specs.Prelude.{◌≡◌, ℕ, zero, suc, ◌+◌, ◌^◌, ◌<◌, ◌≤◌, List, [], ◌∷◌, ◌++◌, Option, Some, None, slice_get, unwrap_or}
+use Rattle.std.specs.Prelude.{◌≡◌, ℕ, zero, suc, ◌+◌, ◌^◌, ◌<◌, ◌≤◌, List, [], ◌∷◌, ◌++◌, Option, Some, None, IsSome, slice_get, unwrap_or}
 use Rattle.rv32_isa.specs.declared.instr.Instr.{Instr}
 use Rattle.rv32_isa.specs.Table.{instr_of}
 use Rattle.rv32_items.specs.declared.Item.{Item}
@@ -69,6 +69,10 @@ Encode [] [] = Unit {0}
 Encode [] (w ∷ ws) = ⊥
 Encode (i ∷ is) [] = ⊥
 Encode (i ∷ is) (w ∷ ws) = (instr_of w ≡ Some i) × ((w < 2 ^ 32) × Encode is ws)
+
+-- each of these words is that of an instruction
+abbrev pub AllDecode : (words : List ℕ) → Type 0
+AllDecode words = (n w : ℕ) → slice_get words n ≡ Some w → IsSome (instr_of w)
 
 -- from old words to new ones, these instructions were put at the end
 abbrev pub Puts : List Instr → (old new : List ℕ) → Type 0

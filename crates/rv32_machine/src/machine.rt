@@ -122,6 +122,7 @@ impl Machine {
 
     /// Does one instruction. Exit and Trap end the program, and a trap leaves registers, memory and the address of the
     /// instruction. After Read the instruction waits for `give`.
+    #[inline(always)]
     #[tactic(auto, unfolding(crate::specs::Steps::step))]
     pub fn step(&mut self) -> StepResult
         requires { IsRunning self.old }

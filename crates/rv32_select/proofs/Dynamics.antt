@@ -54,9 +54,9 @@ module _ (l : Program) (a : Assignment) (cells stack : ℕ) (lay : Layout) (item
       subst (λ p. Follows begins i (limited l (words_at a) cells stack i (length (procedures_at begins (course lay items k i p).passed))) (course lay items k i p)) from_is
       (follows lay items begins i from (start_world l (words_at a) i n) (starting i n) k (limited l (words_at a) cells stack i n) (whole_run l a cells stack lay items begins s z i n bytes (never i n bytes)) (counted i n))
 
-  pub selected_arrives : (i : List ℕ) → IsBytes i → (n : ℕ) → (k : ℕ) × Arrives i (limited l (words_at a) cells stack i n) (course lay items k i (start_at l.width cells stack lay))
+  pub selected_arrives : (i : List ℕ) → IsBytes i → (n : ℕ) → (k : ℕ) × Arrives begins i (limited l (words_at a) cells stack i n) (course lay items k i (start_at l.width cells stack lay))
   selected_arrives i bytes n =
-      subst (λ p. (k : ℕ) × Arrives i (limited l (words_at a) cells stack i n) (course lay items k i p)) from_is
+      subst (λ p. (k : ℕ) × Arrives begins i (limited l (words_at a) cells stack i n) (course lay items k i p)) from_is
       (arrives lay items begins i from (start_world l (words_at a) i n) (starting i n) (limited l (words_at a) cells stack i n) (whole_run l a cells stack lay items begins s z i n bytes (never i n bytes)))
 
   pub selected_home : (i : List ℕ) → IsBytes i → (k : ℕ) → ReturnsHome lay items k i (start_at l.width cells stack lay) []

@@ -90,24 +90,32 @@ module _ (lay : Layout) (items : List Item) (begins input : List ℕ) (p : Point
 
     -- ---- arriving
 
-    arrives_exit : (w : World) (code : ℕ) (e : Ends lay items begins p [] w0 w code) (x : Answer) → world_of x ≡ w → exit_of (end_of x) ≡ Some code → Arrives input x (course lay items (e.count + 0) input p)
+    arrives_exit : (w : World) (code : ℕ) (e : Ends lay items begins p [] w0 w code) (x : Answer) → world_of x ≡ w → exit_of (end_of x) ≡ Some code → Arrives begins input x (course lay items (e.count + 0) input p)
     arrives_exit w code e x is exit =
-        subst (λ c. Arrives input x c) (sym (exit_course w code e 0))
+        subst (λ c. Arrives begins input x c) (sym (exit_course w code e 0))
         (record {
+          entered = ap (procedures_at begins) (sym (nothing_more e.labels)) ∙ sym (entered_labels w e.labels e.entered) ∙ ap (λ y. y.entered) (sym is);
           output = ([], ap (λ y. y ++ []) (sym (out_bytes w e.bytes e.out) ∙ ap (λ y. y.out) (sym is)));
           ended = subst (λ o. Matches input x (after e.bytes e.labels (stands w.input (Exited code))) o) (sym exit) (refl, same_end w code e x is);
         })
 
-    pub arrives : (x : Answer) → Outcome w0 x → (k : ℕ) × Arrives input x (course lay items k input p)
+    pub arrives : (x : Answer) → Outcome w0 x → (k : ℕ) × Arrives begins input x (course lay items k input p)
     arrives (gives vs w) e = (e.count + 0, arrives_exit w 0 e (gives vs w) refl refl)
     arrives (stops no_alternative w) e = (e.count + 0, arrives_exit w 3 e (stops no_alternative w) refl refl)
     arrives (stops heap_full w) e = (e.count + 0, arrives_exit w 4 e (stops heap_full w) refl refl)
     arrives (stops stack_full w) e = (e.count + 0, arrives_exit w 5 e (stops stack_full w) refl refl)
     arrives (stops out_of_units w) h =
         let r = h.1.1.0 in
-        let c = course lay items 0 w.input h.0 in
-        let is : course lay items (r.count + 0) input p ≡ after r.bytes r.labels (course lay items 0 w.input h.0) = subst (λ i. course lay items (r.count + 0) i p ≡ after r.bytes r.labels (course lay items 0 w.input h.0)) start.input_is (r.way.by 0) in
-        (r.count + 0, subst (λ c. Arrives input (stops out_of_units w) c) (sym is) (record { output = (c.out, ap (λ x. x ++ c.out) (sym (out_bytes w r.bytes r.out))); ended = tt }))
+        let c = stands w.input (Going h.0) in
+        let along = subst (λ i. course lay items (r.count + 0) i p ≡ after r.bytes r.labels (course lay items 0 w.input h.0)) start.input_is (r.way.by 0) in
+        let is : course lay items (r.count + 0) input p ≡ after r.bytes r.labels c = along ∙ ap (after r.bytes r.labels) (course_none lay items w.input h.0) in (
+          r.count + 0,
+          subst (λ c. Arrives begins input (stops out_of_units w) c) (sym is) (record {
+            entered = ap (procedures_at begins) (sym (nothing_more r.labels)) ∙ sym (entered_labels w r.labels r.entered);
+            output = ([], ap (λ x. x ++ []) (sym (out_bytes w r.bytes r.out)));
+            ended = tt;
+          }),
+        )
     arrives (stops missing w) e = absurd e
 
     -- ---- following

@@ -26,7 +26,7 @@ pub record SelectedRuns (l : Program) (a : Assignment) (cells stack : ℕ) (item
       let c = course lay items k i (start_at l.width cells stack lay) in
       Follows begins i (limited l (words_at a) cells stack i (length (procedures_at begins c.passed))) c
   pub arrives : (lay : Layout) → Rises items lay → BelowHeap lay → (i : List ℕ) → IsBytes i → (n : ℕ) →
-      (k : ℕ) × Arrives i (limited l (words_at a) cells stack i n) (course lay items k i (start_at l.width cells stack lay))
+      (k : ℕ) × Arrives begins i (limited l (words_at a) cells stack i n) (course lay items k i (start_at l.width cells stack lay))
   pub home : (lay : Layout) → Rises items lay → BelowHeap lay → (i : List ℕ) → IsBytes i → (k : ℕ) →
       ReturnsHome lay items k i (start_at l.width cells stack lay) []
 

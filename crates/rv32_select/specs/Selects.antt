@@ -63,8 +63,9 @@ abbrev pub Matches : (input : List ℕ) → Answer → Course → Option ℕ →
 Matches input a c None = Unit {0}
 Matches input a c (Some code) = (c.end ≡ Exited code) × SameEnd input a c
 
--- a course has written what a run has, and ended where that has
-pub record Arrives (input : List ℕ) (a : Answer) (c : Course) : Type 0 where
+-- a course has passed the labels of just the procedures that a run entered, written what that has, and ended where it has
+pub record Arrives (begins input : List ℕ) (a : Answer) (c : Course) : Type 0 where
+  pub entered : procedures_at begins c.passed ≡ (world_of a).entered
   pub output : Begins (world_of a).out c.out
   pub ended : Matches input a c (exit_of (end_of a))
 
@@ -87,7 +88,7 @@ pub record Selects (l : Program) (a : Assignment) (cells stack : ℕ) (items : L
       Follows begins i (limited l (words_at a) cells stack i (length (procedures_at begins c.passed))) c
   -- for any number of units it arrives where the run does,
   pub arrives : (lay : Layout) → Rises items lay → BelowHeap lay → (i : List ℕ) → IsBytes i → (n : ℕ) →
-      (k : ℕ) × Arrives i (limited l (words_at a) cells stack i n) (course lay items k i (start_at l.width cells stack lay))
+      (k : ℕ) × Arrives begins i (limited l (words_at a) cells stack i n) (course lay items k i (start_at l.width cells stack lay))
   -- and each return goes behind the last call that is open
   pub home : (lay : Layout) → Rises items lay → BelowHeap lay → (i : List ℕ) → IsBytes i → (k : ℕ) →
       ReturnsHome lay items k i (start_at l.width cells stack lay) []

@@ -6,7 +6,7 @@ use Rattle.low_code.specs.Tree.{Procedure, Program}
 use Rattle.low_code.specs.Formed.{variables}
 use Rattle.register_alloc.specs.Assignment.{Assignment, words_at}
 use Rattle.register_alloc.specs.Fits.{Fits}
-use Rattle.register_alloc.specs.Gathered.{HaveFewResults}
+use Rattle.register_alloc.specs.Gathered.{HaveFewParameters, HaveFewResults}
 use Rattle.rv32_items.specs.declared.Item.{Item}
 use Rattle.rv32_items.specs.Placed.{size_of, AllPlain, LabelsStand}
 use Rattle.rv32_select.specs.IsSelected.{IsSelected}
@@ -30,6 +30,9 @@ behind (q ∷ qs) zero e = cc
 behind (q ∷ qs) (suc f) e = let more = behind qs f e in omega (arith, more)
 
 module _ (l : Program) (a : Assignment) (row : IsRow l) where
+  pub few_parameters : HaveFewParameters l.procs
+  few_parameters f q e = (few_at l.procs f q row.few e).0
+
   pub few_results : HaveFewResults l.procs
   few_results f q e = (few_at l.procs f q row.few e).1
 

@@ -1,9 +1,11 @@
+use Rattle.std.proofs.lemmas.Result.{err_from_is_err_and}
 use Rattle.std.proofs.Common.{◌*◌, ap, ◌∙◌, subst}
 use Rattle.arity_check.specs.Program.{program}
 use Rattle.elf32.specs.File as elf
 use Rattle.elf32.specs.Rules.{Loads}
 use Rattle.low_code.specs.Tree as low
 use Rattle.grin_compile.specs.Limits.{whole_words}
+use Rattle.grin_compile.specs.Parts.{HasLayers}
 use Rattle.grin_compile.proofs.Whole.{compilation, made_by}
 use Rattle.grin_compile.proofs.compilation.compile.Goals as goal
 
@@ -12,9 +14,15 @@ returns-clause-parts c =
     let heap = 4 * (low.program_of c.in_ok-layers.layers.low).width * c.args.options.cells in
     let stack = whole_words c.args.options.stack in
     let code = c.as_slice.ensures.value in
-    compilation c.valid_translation_does_as.ensures (program c.args.p.now) c.requires.valid c.args.options.cells stack _ c.in_ok-stages.ensures.stages c.in_ok-layers.ensures
+    compilation c.valid_translation_does_as.ensures (program c.args.p.now) c.requires.valid c.args.options.cells stack _ c.in_ok-stages.ensures.stages
+    (subst (λ g. HasLayers g c.args.options.cells stack c.in_ok-layers.layers) c.made_of.ensures c.in_ok-layers.ensures)
     (c.in_ok-image.ensures.bytes ∙ ap (λ words. elf.file_of words heap stack) code)
     (subst (λ words. Loads c.in_ok-image.image.items (elf.program words heap stack)) code c.in_ok-image.ensures.loads)
 
 pub returns-clause-made : goal.returns-clause-made
 returns-clause-made c = made_by (program c.args.p.now) c.args.options.cells (whole_words c.args.options.stack) _ (returns-clause-parts c)
+
+pub returns-in_err-image-clause-refused : goal.returns-in_err-image-clause-refused
+returns-in_err-image-clause-refused c =
+    let q = err_from_is_err_and c.from_residual-in_err-image.result c.from_residual-in_err-image.ensures.1 in
+    rw (q.1, q.2) tt

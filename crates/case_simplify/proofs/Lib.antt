@@ -1,0 +1,9 @@
+pub mod Loops
+pub mod Held
+pub mod Scoped
+pub mod Steps
+pub mod Simulated
+pub mod Cases
+pub mod Standing
+pub mod Shape
+pub mod Whole

@@ -1,0 +1,215 @@
+-- What the loops keep.
+use Rattle.std.proofs.Common.{◌≡◌, ℕ, zero, suc, ◌+◌, ◌<◌, ◌≤◌, Bool, true, false, cond, ◌&&◌, nat_eq, nat_lt, List, [], ◌∷◌, ◌++◌, map, take, drop, length, get_or, Option, Some, None, slice_get, refl, sym, ap, ◌∙◌, subst, arith}
+use Rattle.std.proofs.lemmas.List.{take_more}
+use Rattle.grin_syntax.specs.declared.program.VarId.{VarId}
+use Rattle.grin_syntax.specs.declared.program.TagId.{TagId}
+use Rattle.grin_syntax.specs.declared.program.Word as W
+use Rattle.grin_syntax.specs.declared.program.Shape.{Shape}
+use Rattle.grin_syntax.specs.declared.program.Val.{Val}
+use Rattle.grin_syntax.specs.declared.program.Alt.{Alt}
+use Rattle.grin_syntax.specs.declared.program.Stmt.{Stmt}
+use Rattle.grin_syntax.specs.declared.program.Stmt.TheVariants.{Store, Bind}
+use Rattle.grin_syntax.specs.declared.program.Block.{Block}
+use Rattle.grin_syntax.specs.declared.program.Op.TheVariants.{Case}
+use Rattle.grin_syntax.specs.Tree.{Code, end, Act, nested, fail, Arms, arm, act_of, before_of, arm_of, code_of, all_before, arms_of}
+use Rattle.grin_syntax.proofs.TreeOf.{before_of-Store, before_of-Bind, arm_of-parts, code_of-parts, act_of-Case}
+use Rattle.grin_syntax.proofs.Pieces.{all_before_push}
+use Rattle.grin_meaning.specs.Checks.{is_some_and}
+use Rattle.grin_meaning.specs.Values.{and_then}
+use Rattle.case_simplify.specs.declared.known.Fact.{Fact}
+use Rattle.case_simplify.specs.Known.{Known, Facts, facts_of, and_facts, note, noted}
+use Rattle.case_simplify.specs.Choice.{Verdict, Takes, Passes, Open, verdict, by_verdict, taken}
+use Rattle.case_simplify.specs.declared.choice.Choice.TheVariants as chosen
+use Rattle.case_simplify.specs.Chosen.{body_at}
+use Rattle.case_simplify.specs.Simple.{same_word, is_front, is_front_val, value_given, gives_val, all_give, gives_back, as_act, simple_case, simple_act, simple_code, simple_arms, simple_arm}
+
+-- ---- facts
+
+pub and_push : (fs : List Fact) (f : Fact) (facts : Facts) → and_facts facts (fs ++ f ∷ []) ≡ note f.var f.known (and_facts facts fs)
+and_push [] f facts = refl
+and_push (e ∷ fs) f facts = and_push fs f _
+
+pub facts_push : (fs more : List Fact) (f : Fact) → more ≡ fs ++ f ∷ [] → facts_of more ≡ note f.var f.known (facts_of fs)
+facts_push fs more f e = ap facts_of e ∙ and_push fs f _
+
+pub told_next : (fs : List Fact) (i : ℕ) (d : Fact) (x : VarId) (old new : Option Known) → i < length fs → new ≡ cond (nat_eq x.0 (get_or fs i d).var.0) (Some (get_or fs i d).known) old → old ≡ facts_of (take i fs) x.0 → new ≡ facts_of (take (i + 1) fs) x.0
+told_next fs i d x old new lt n o =
+    let f : Fact = get_or fs i d in
+    n ∙ ap (λ k. cond (nat_eq x.0 f.var.0) (Some f.known) k) o ∙ sym (ap (λ g. g x.0) (and_push (take i fs) f _)) ∙ ap (λ l. facts_of l x.0) (sym (take_more fs i d lt))
+
+-- ---- lists from a place on
+
+after : (P : ℕ → Type 0) (i : ℕ) → P (suc i) → P (i + 1)
+after P i h = let e : suc i ≡ i + 1 = omega arith in subst P e h
+
+drop_next : {X : Type 0} (xs : List X) (i : ℕ) (x : X) → i < length xs → x ≡ get_or xs i x → drop i xs ≡ x ∷ drop (suc i) xs
+drop_next [] i x h e = absurd (omega (arith, h))
+drop_next (y ∷ xs) zero x h e = ap (λ z. z ∷ xs) (sym e)
+drop_next (y ∷ xs) (suc i) x h e = drop_next xs i x (omega (arith, h)) e
+
+drop_get : {X : Type 0} (xs : List X) (i : ℕ) → slice_get xs i ≡ slice_get (drop i xs) 0
+drop_get [] zero = refl
+drop_get [] (suc i) = refl
+drop_get (x ∷ xs) zero = refl
+drop_get (x ∷ xs) (suc i) = drop_get xs i
+
+drop_tail : {X : Type 0} (xs : List X) (i : ℕ) → drop (suc i) xs ≡ drop 1 (drop i xs)
+drop_tail [] zero = refl
+drop_tail [] (suc i) = refl
+drop_tail (x ∷ xs) zero = refl
+drop_tail (x ∷ xs) (suc i) = drop_tail xs i
+
+pub drop_none : {X : Type 0} (xs : List X) (i : ℕ) → length xs ≤ i → drop i xs ≡ []
+drop_none [] zero h = refl
+drop_none [] (suc i) h = refl
+drop_none (x ∷ xs) zero h = absurd (omega (arith, h))
+drop_none (x ∷ xs) (suc i) h = drop_none xs i (omega (arith, h))
+
+-- ---- fronts
+
+front_step : (a : W.Word) (as' ws : List W.Word) → is_front (a ∷ as') ws ≡ is_some_and (slice_get ws 0) (same_word a) && is_front as' (drop 1 ws)
+front_step a as' [] = refl
+front_step a as' (w ∷ ws) = refl
+
+drop_more : {X : Type 0} (xs : List X) (i : ℕ) (d : X) → i < length xs → drop i xs ≡ get_or xs i d ∷ drop (suc i) xs
+drop_more [] i d h = absurd (omega (arith, h))
+drop_more (y ∷ xs) zero d h = refl
+drop_more (y ∷ xs) (suc i) d h = drop_more xs i d (omega (arith, h))
+
+front_at : (as' ws : List W.Word) (i : ℕ) (d : W.Word) → i < length as' → is_front (drop i as') (drop i ws) ≡ is_some_and (slice_get ws i) (same_word (get_or as' i d)) && is_front (drop (suc i) as') (drop (suc i) ws)
+front_at as' ws i d lt = let a : W.Word = get_or as' i d in
+    ap (λ l. is_front l (drop i ws)) (drop_more as' i d lt) ∙ front_step a (drop (suc i) as') (drop i ws)
+    ∙ (λ j. is_some_and (sym (drop_get ws i) j) (same_word a) && is_front (drop (suc i) as') (sym (drop_tail ws i) j))
+
+pub front_next : (as' ws : List W.Word) (i k : ℕ) (d : W.Word) (b : Bool) → i < length as' → k ≡ i → b ≡ is_some_and (slice_get ws k) (same_word (get_or as' i d)) → b ≡ true → is_front as' ws ≡ is_front (drop i as') (drop i ws) → is_front as' ws ≡ is_front (drop (i + 1) as') (drop (i + 1) ws)
+front_next as' ws i k d b lt p f t h = let a : W.Word = get_or as' i d in after (λ j. is_front as' ws ≡ is_front (drop j as') (drop j ws)) i
+    (h ∙ front_at as' ws i d lt ∙ ap (λ c. c && is_front (drop (suc i) as') (drop (suc i) ws)) (ap (λ j. is_some_and (slice_get ws j) (same_word a)) (sym p) ∙ sym f ∙ t))
+
+pub front_stops : (as' ws : List W.Word) (i k : ℕ) (d : W.Word) (b : Bool) → i < length as' → k ≡ i → b ≡ is_some_and (slice_get ws k) (same_word (get_or as' i d)) → b ≡ false → is_front as' ws ≡ is_front (drop i as') (drop i ws) → false ≡ is_front as' ws
+front_stops as' ws i k d b lt p f t h = let a : W.Word = get_or as' i d in
+    sym (h ∙ front_at as' ws i d lt ∙ ap (λ c. c && is_front (drop (suc i) as') (drop (suc i) ws)) (ap (λ j. is_some_and (slice_get ws j) (same_word a)) (sym p) ∙ sym f ∙ t))
+
+pub front_ends : (as' ws : List W.Word) (i : ℕ) → length as' ≤ i → is_front as' ws ≡ is_front (drop i as') (drop i ws) → true ≡ is_front as' ws
+front_ends as' ws i le h = sym (h ∙ ap (λ l. is_front l (drop i ws)) (drop_none as' i le))
+
+-- ---- alternatives
+
+abbrev pub rest_of : List Alt → ℕ → Arms
+rest_of alts i = arms_of (map arm_of (drop i alts))
+
+taken_step : (t : TagId) (second : Option Known) (a : Alt) (as' : List Alt) → taken t second (arms_of (map arm_of (a ∷ as'))) ≡ by_verdict (verdict t second a.pattern) (code_of a.body) (taken t second (arms_of (map arm_of as')))
+taken_step t second a as' = ap (λ p. by_verdict (verdict t second p.0) p.1 (taken t second (arms_of (map arm_of as')))) (arm_of-parts a)
+
+taken_at : (t : TagId) (second : Option Known) (alts : List Alt) (i : ℕ) (a : Alt) → i < length alts → a ≡ get_or alts i a → taken t second (rest_of alts i) ≡ by_verdict (verdict t second a.pattern) (code_of a.body) (taken t second (rest_of alts (suc i)))
+taken_at t second alts i a lt at = ap (λ l. taken t second (arms_of (map arm_of l))) (drop_next alts i a lt at) ∙ taken_step t second a (drop (suc i) alts)
+
+pub taken_next : (t : TagId) (second : Option Known) (alts : List Alt) (i : ℕ) (a : Alt) (v : Verdict) → i < length alts → a ≡ get_or alts i a → v ≡ verdict t second a.pattern → v ≡ Passes
+    → taken t second (arms_of (map arm_of alts)) ≡ taken t second (rest_of alts i) → taken t second (arms_of (map arm_of alts)) ≡ taken t second (rest_of alts (i + 1))
+taken_next t second alts i a v lt at e p h = after (λ j. taken t second (arms_of (map arm_of alts)) ≡ taken t second (rest_of alts j)) i
+    (h ∙ taken_at t second alts i a lt at ∙ ap (λ q. by_verdict q (code_of a.body) (taken t second (rest_of alts (suc i)))) (sym e ∙ p))
+
+get_is : {X : Type 0} (xs : List X) (i : ℕ) (x : X) → i < length xs → x ≡ get_or xs i x → slice_get xs i ≡ Some x
+get_is [] i x h e = absurd (omega (arith, h))
+get_is (y ∷ xs) zero x h e = ap Some (sym e)
+get_is (y ∷ xs) (suc i) x h e = get_is xs i x (omega (arith, h)) e
+
+pub taken_here : (t : TagId) (second : Option Known) (alts : List Alt) (i k : ℕ) (a : Alt) (v : Verdict) → i < length alts → a ≡ get_or alts i a → k ≡ i → v ≡ verdict t second a.pattern → v ≡ Takes
+    → taken t second (arms_of (map arm_of alts)) ≡ taken t second (rest_of alts i) → body_at (chosen.Takes k) alts ≡ taken t second (arms_of (map arm_of alts))
+taken_here t second alts i k a v lt at n e p h =
+    ap (λ j. and_then (slice_get alts j) (λ b. Some (code_of b.body))) n ∙ ap (λ o. and_then o (λ b. Some (code_of b.body))) (get_is alts i a lt at)
+    ∙ sym (h ∙ taken_at t second alts i a lt at ∙ ap (λ q. by_verdict q (code_of a.body) (taken t second (rest_of alts (suc i)))) (sym e ∙ p))
+
+pub taken_open : (t : TagId) (second : Option Known) (alts : List Alt) (i : ℕ) (a : Alt) (v : Verdict) → i < length alts → a ≡ get_or alts i a → v ≡ verdict t second a.pattern → v ≡ Open
+    → taken t second (arms_of (map arm_of alts)) ≡ taken t second (rest_of alts i) → None ≡ taken t second (arms_of (map arm_of alts))
+taken_open t second alts i a v lt at e p h = sym (h ∙ taken_at t second alts i a lt at ∙ ap (λ q. by_verdict q (code_of a.body) (taken t second (rest_of alts (suc i)))) (sym e ∙ p))
+
+pub taken_ends : (t : TagId) (second : Option Known) (alts : List Alt) (i : ℕ) → length alts ≤ i → taken t second (arms_of (map arm_of alts)) ≡ taken t second (rest_of alts i) → Some (end fail) ≡ taken t second (arms_of (map arm_of alts))
+taken_ends t second alts i le h = sym (h ∙ ap (λ l. taken t second (arms_of (map arm_of l))) (drop_none alts i le))
+
+all_at : (u : Val) (alts : List Alt) (i : ℕ) (a : Alt) → i < length alts → a ≡ get_or alts i a → all_give u (rest_of alts i) ≡ gives_val u (code_of a.body) && all_give u (rest_of alts (suc i))
+all_at u alts i a lt at = ap (λ l. all_give u (arms_of (map arm_of l))) (drop_next alts i a lt at) ∙ ap (λ p. gives_val u p.1 && all_give u (rest_of alts (suc i))) (arm_of-parts a)
+
+pub all_next : (u : Val) (alts : List Alt) (i : ℕ) (a : Alt) (b : Bool) → i < length alts → a ≡ get_or alts i a → b ≡ gives_val u (code_of a.body) → b ≡ true
+    → all_give u (arms_of (map arm_of alts)) ≡ all_give u (rest_of alts i) → all_give u (arms_of (map arm_of alts)) ≡ all_give u (rest_of alts (i + 1))
+all_next u alts i a b lt at e p h = after (λ j. all_give u (arms_of (map arm_of alts)) ≡ all_give u (rest_of alts j)) i
+    (h ∙ all_at u alts i a lt at ∙ ap (λ q. q && all_give u (rest_of alts (suc i))) (sym e ∙ p))
+
+pub all_stops : (u : Val) (alts : List Alt) (i : ℕ) (a : Alt) (b : Bool) → i < length alts → a ≡ get_or alts i a → b ≡ gives_val u (code_of a.body) → b ≡ false
+    → all_give u (arms_of (map arm_of alts)) ≡ all_give u (rest_of alts i) → false ≡ all_give u (arms_of (map arm_of alts))
+all_stops u alts i a b lt at e p h = sym (h ∙ all_at u alts i a lt at ∙ ap (λ q. q && all_give u (rest_of alts (suc i))) (sym e ∙ p))
+
+pub all_ends : (u : Val) (alts : List Alt) (i : ℕ) → length alts ≤ i → all_give u (arms_of (map arm_of alts)) ≡ all_give u (rest_of alts i) → true ≡ all_give u (arms_of (map arm_of alts))
+all_ends u alts i le h = sym (h ∙ ap (λ l. all_give u (arms_of (map arm_of l))) (drop_none alts i le))
+
+-- ---- blocks
+
+-- these statements are what becomes of those
+pub record Simplifies (facts : Facts) (made from : List Stmt) : Type 0 where
+  pub by : (c : Code) → all_before (map before_of made) (simple_code facts c) ≡ simple_code facts (all_before (map before_of from) c)
+
+pub none_simplify : (facts : Facts) → Simplifies facts [] []
+none_simplify facts = record { by = λ c. refl }
+
+pub one_more_simplifies : (facts : Facts) (made from : List Stmt) (m s : Stmt) → Simplifies facts made from → ((c : Code) → before_of m (simple_code facts c) ≡ simple_code facts (before_of s c)) → Simplifies facts (made ++ m ∷ []) (from ++ s ∷ [])
+one_more_simplifies facts made from m s u h = record {
+  by = λ c. all_before_push made m (simple_code facts c) ∙ ap (all_before (map before_of made)) (h c) ∙ u.by (before_of s c) ∙ ap (simple_code facts) (sym (all_before_push from s c));
+}
+
+arms_simplify : (facts : Facts) (v : Val) (as' : List (Shape × Code)) → arms_of (map (simple_arm facts v) as') ≡ simple_arms facts v (arms_of as')
+unfolding simple_act
+arms_simplify facts v [] = refl
+arms_simplify facts v (a ∷ as') = ap (arm a.0 (simple_code (noted v a.0 facts) a.1)) (arms_simplify facts v as')
+
+pub case_simplifies : (facts : Facts) (v : Val) (made alts : List Alt) (o : Act) → map arm_of made ≡ map (simple_arm facts v) (map arm_of alts) → o ≡ simple_case facts v (arms_of (map arm_of made)) → o ≡ simple_act facts (act_of (Case v alts))
+unfolding simple_act
+case_simplifies facts v made alts o e h =
+    let arms : arms_of (map arm_of made) ≡ simple_arms facts v (arms_of (map arm_of alts)) = ap arms_of e ∙ arms_simplify facts v (map arm_of alts) in
+    h ∙ ap (simple_case facts v) arms ∙ ap (simple_act facts) (sym (act_of-Case v alts))
+
+before_nested : (s : Stmt) (c : Code) → as_act (before_of s c) ≡ nested (before_of s c)
+before_nested (Store cells) c = rw before_of-Store refl
+before_nested (Bind t o) c = rw before_of-Bind refl
+
+all_nested : (ss : List Stmt) (c : Code) → (ss ≡ [] → ⊥) → as_act (all_before (map before_of ss) c) ≡ nested (all_before (map before_of ss) c)
+all_nested [] c h = absurd (h refl)
+all_nested (s ∷ ss) c h = before_nested s (all_before (map before_of ss) c)
+
+pub block_nested : (b : Block) → (b.stmts ≡ [] → ⊥) → as_act (code_of b) ≡ nested (code_of b)
+block_nested b h = rw code_of-parts (all_nested b.stmts (end (act_of b.last.value)) h)
+
+before_given : (s : Stmt) (c : Code) → value_given (before_of s c) ≡ None
+before_given (Store cells) c = rw before_of-Store refl
+before_given (Bind t o) c = rw before_of-Bind refl
+
+all_given : (ss : List Stmt) (c : Code) → (ss ≡ [] → ⊥) → value_given (all_before (map before_of ss) c) ≡ None
+all_given [] c h = absurd (h refl)
+all_given (s ∷ ss) c h = before_given s (all_before (map before_of ss) c)
+
+-- a block with statements does more than give a value
+pub none_given : (b : Block) → (b.stmts ≡ [] → ⊥) → value_given (code_of b) ≡ None
+none_given b h = rw code_of-parts (all_given b.stmts (end (act_of b.last.value)) h)
+
+-- the first alternative says whether all of them give back the value
+pub gives_first : (v : Val) (alts : List Alt) (a : Alt) → slice_get alts 0 ≡ Some a → gives_back v (arms_of (map arm_of alts)) ≡ is_some_and (value_given (code_of a.body)) (λ u. is_front_val u v && all_give u (arms_of (map arm_of alts)))
+gives_first v [] a e = no_first e
+  where
+    no_first : {A : Type 0} → ◌≡◌ {A = Option Alt} None (Some a) → A
+    no_first h = cc
+gives_first v (b ∷ alts) a e = ap (λ p. is_some_and (value_given p) (λ u. is_front_val u v && all_give u (arms_of (map arm_of (b ∷ alts))))) (ap (λ q. q.1) (arm_of-parts b) ∙ ap (λ c. code_of c.body) (first_is e))
+  where
+    first_is : ◌≡◌ {A = Option Alt} (Some b) (Some a) → b ≡ a
+    first_is h = cc
+
+pub gives_none : (v : Val) (alts : List Alt) → slice_get alts 0 ≡ None → gives_back v (arms_of (map arm_of alts)) ≡ false
+gives_none v [] e = refl
+gives_none v (a ∷ alts) e = some_first e
+  where
+    some_first : {A : Type 0} → ◌≡◌ {A = Option Alt} (Some a) None → A
+    some_first h = cc
+
+pub first_get : (alts : List Alt) (a : Alt) → true ≡ nat_lt 0 (length alts) → a ≡ get_or alts 0 a → slice_get alts 0 ≡ Some a
+first_get [] a h e = never h
+  where
+    never : {A : Type 0} → true ≡ nat_lt 0 0 → A
+    never h = cc
+first_get (b ∷ alts) a h e = ap Some (sym e)

@@ -1,0 +1,71 @@
+-- What is known of the variables at a place of a program: the tag or the number that each holds.
+use Rattle.std.specs.Prelude.{ℕ, cond, nat_eq, List, [], ◌∷◌, Option, Some, None, slice_get}
+use Rattle.grin_syntax.specs.declared.program.VarId.{VarId}
+use Rattle.grin_syntax.specs.declared.program.Word as W
+use Rattle.grin_syntax.specs.declared.program.Word.TheVariants.{Lit, Var, Global, TagWord}
+use Rattle.grin_syntax.specs.declared.program.Val as V
+use Rattle.grin_syntax.specs.declared.program.Val.TheVariants.{NodeVar, Node, Vector, One}
+use Rattle.grin_syntax.specs.declared.program.Shape.{Shape}
+use Rattle.grin_syntax.specs.declared.program.Shape.TheVariants as shape
+use Rattle.grin_syntax.specs.Tags.{tag_id}
+use Rattle.grin_meaning.specs.Values.{and_then}
+pub use Rattle.case_simplify.specs.declared.known.Known.{Known}
+pub use Rattle.case_simplify.specs.declared.known.Known.TheVariants.{Tag, Number}
+use Rattle.case_simplify.specs.declared.known.Fact.{Fact}
+
+abbrev pub Facts : Type 0
+Facts = ℕ → Option Known
+
+abbrev pub nothing_known : Facts
+nothing_known x = None
+
+-- a variable more of which something is known
+abbrev pub note : VarId → Known → Facts → Facts
+note x k facts = λ y. cond (nat_eq y x.0) (Some k) (facts y)
+
+-- what a list of facts says, where the last one counts
+abbrev pub and_facts : Facts → List Fact → Facts
+and_facts facts [] = facts
+and_facts facts (f ∷ fs) = and_facts (note f.var f.known facts) fs
+
+abbrev pub facts_of : List Fact → Facts
+facts_of fs = and_facts nothing_known fs
+
+-- what is known of a word
+abbrev pub told : Facts → W.Word → Option Known
+told facts (Lit k) = Some (Number k)
+told facts (TagWord t) = Some (Tag t)
+told facts (Var x) = facts x.0
+told facts (Global i) = None
+
+-- the word of a value that holds its tag, and the one after it
+abbrev pub first_word : V.Val → Option W.Word
+first_word (NodeVar x) = None
+first_word (Node t ws) = Some (TagWord t)
+first_word (Vector ws) = slice_get ws 0
+first_word (One w) = Some w
+
+abbrev pub second_word : V.Val → Option W.Word
+second_word (NodeVar x) = None
+second_word (Node t ws) = slice_get ws 0
+second_word (Vector ws) = slice_get ws 1
+second_word (One w) = None
+
+abbrev pub told_first : Facts → V.Val → Option Known
+told_first facts v = and_then (first_word v) (told facts)
+
+abbrev pub told_second : Facts → V.Val → Option Known
+told_second facts v = and_then (second_word v) (told facts)
+
+-- where the word is a variable
+abbrev pub note_word : Option W.Word → Known → Facts → Facts
+note_word (Some (Var x)) k facts = note x k facts
+note_word _ k facts = facts
+
+-- What is known in an alternative of a case on v: a pattern tells the tag, and that of an integer
+-- the number too.
+abbrev pub noted : V.Val → Shape → Facts → Facts
+noted v (shape.Node t xs) facts = note_word (first_word v) (Tag t) facts
+noted v (shape.Int k) facts =
+    note_word (second_word v) (Number k) (note_word (first_word v) (Tag (tag_id 0)) facts)
+noted v shape.Else facts = facts

@@ -1,0 +1,5 @@
+pub mod Known
+pub mod Choice
+pub mod Chosen
+pub mod Simple
+pub mod Simplified

@@ -1,0 +1,118 @@
+-- A program with fewer cases: one on a known tag is the alternative that it takes, and one that
+-- only gives back its value is a unit.
+use Rattle.std.specs.Prelude.{Bool, true, false, cond, nat_eq, ◌&&◌, List, [], ◌∷◌, Option, Some, None}
+use Rattle.grin_syntax.specs.declared.program.Word as W
+use Rattle.grin_syntax.specs.declared.program.Word.TheVariants.{Lit, Var, Global, TagWord}
+use Rattle.grin_syntax.specs.declared.program.Val as V
+use Rattle.grin_syntax.specs.declared.program.Val.TheVariants.{NodeVar, Node, Vector, One}
+use Rattle.grin_syntax.specs.declared.program.Shape.{Shape}
+use Rattle.grin_syntax.specs.Tree.{Code, end, store, bind, Act, unit, fetch, fetch_word, update, eval, apply, call, prim, read, write, case, nested, fail, Arms, no_arm, arm, Program}
+use Rattle.grin_meaning.specs.Checks.{is_some_and}
+use Rattle.grin_meaning.specs.Rewritten.{rewritten}
+use Rattle.numbers.specs.Numbers.{same_number}
+use Rattle.case_simplify.specs.Known.{Facts, nothing_known, noted}
+use Rattle.case_simplify.specs.Choice.{taken_of}
+
+-- ---- what a case gives back
+
+abbrev pub same_word : W.Word → W.Word → Bool
+same_word (Lit a) (Lit b) = same_number a b
+same_word (Var x) (Var y) = nat_eq x.0 y.0
+same_word (Global i) (Global j) = nat_eq i j
+same_word (TagWord t) (TagWord u) = nat_eq t.0 u.0
+same_word _ _ = false
+
+-- the first words are the front of the second ones
+abbrev pub is_front : List W.Word → List W.Word → Bool
+is_front [] ws = true
+is_front (a ∷ as') [] = false
+is_front (a ∷ as') (w ∷ ws) = same_word a w && is_front as' ws
+
+abbrev pub same_words : List W.Word → List W.Word → Bool
+same_words ws us = is_front ws us && is_front us ws
+
+abbrev pub same_val : V.Val → V.Val → Bool
+same_val (NodeVar x) (NodeVar y) = nat_eq x.0 y.0
+same_val (Node t ws) (Node u us) = nat_eq t.0 u.0 && same_words ws us
+same_val (Vector ws) (Vector us) = same_words ws us
+same_val (One a) (One b) = same_word a b
+same_val _ _ = false
+
+-- a value, or of a vector the first words
+abbrev pub is_front_val : V.Val → V.Val → Bool
+is_front_val (Vector us) (Vector ws) = is_front us ws
+is_front_val u v = same_val u v
+
+-- the value that a block only gives
+abbrev pub value_given : Code → Option V.Val
+value_given (end (unit u)) = Some u
+value_given _ = None
+
+abbrev pub gives_val : V.Val → Code → Bool
+gives_val u b = is_some_and (value_given b) (same_val u)
+
+abbrev pub all_give : V.Val → Arms → Bool
+all_give u no_arm = true
+all_give u (arm s b as') = gives_val u b && all_give u as'
+
+-- whether all alternatives of a case on v only give v back, or the same first words of it
+abbrev pub gives_back : V.Val → Arms → Bool
+gives_back v no_arm = false
+gives_back v (arm s b as') =
+    is_some_and (value_given b) (λ u. is_front_val u v && all_give u (arm s b as'))
+
+-- ---- the pass
+
+-- the operation that does what a block does
+abbrev pub as_act : Code → Act
+as_act (end o) = o
+as_act (store cs b) = nested (store cs b)
+as_act (bind t o b) = nested (bind t o b)
+
+abbrev pub first_act : Arms → Act
+first_act no_arm = fail
+first_act (arm s b as') = as_act b
+
+abbrev pub unit_or_case : V.Val → Arms → Act
+unit_or_case v as' = cond (gives_back v as') (first_act as') (case v as')
+
+abbrev pub block_or_case : V.Val → Arms → Option Code → Act
+block_or_case v as' (Some b) = as_act b
+block_or_case v as' None = unit_or_case v as'
+
+-- what a case becomes, whose alternatives are simple
+abbrev pub simple_case : Facts → V.Val → Arms → Act
+simple_case facts v as' = block_or_case v as' (taken_of facts v as')
+
+unfoldable mutual
+  pub simple_act : Facts → Act → Act
+  simple_act facts (unit v) = unit v
+  simple_act facts (fetch a) = fetch a
+  simple_act facts (fetch_word a i) = fetch_word a i
+  simple_act facts (update a v) = update a v
+  simple_act facts (eval a) = eval a
+  simple_act facts (apply v a) = apply v a
+  simple_act facts (call f ws) = call f ws
+  simple_act facts (prim p a b) = prim p a b
+  simple_act facts read = read
+  simple_act facts (write a) = write a
+  simple_act facts (case v as') = simple_case facts v (simple_arms facts v as')
+  simple_act facts (nested b) = nested (simple_code facts b)
+  simple_act facts fail = fail
+
+  pub simple_code : Facts → Code → Code
+  simple_code facts (end o) = end (simple_act facts o)
+  simple_code facts (store cs b) = store cs (simple_code facts b)
+  simple_code facts (bind t o b) = bind t (simple_act facts o) (simple_code facts b)
+
+  -- the alternatives of a case on v
+  pub simple_arms : Facts → V.Val → Arms → Arms
+  simple_arms facts v no_arm = no_arm
+  simple_arms facts v (arm s b as') =
+      arm s (simple_code (noted v s facts) b) (simple_arms facts v as')
+
+abbrev pub simple_arm : Facts → V.Val → Shape × Code → Shape × Code
+simple_arm facts v a = (a.0, simple_code (noted v a.0 facts) a.1)
+
+abbrev pub simplified : Program → Program
+simplified g = rewritten (simple_code nothing_known) g

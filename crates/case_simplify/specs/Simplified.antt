@@ -1,0 +1,69 @@
+-- The shape of a simplified program: no case on a known tag is left but an open one, and none that
+-- only gives back its value.
+use Rattle.std.specs.Prelude.{◌≡◌, List, ◌++◌, Option, Some}
+use Rattle.grin_syntax.specs.declared.program.TagId.{TagId}
+use Rattle.grin_syntax.specs.declared.program.Word as W
+use Rattle.grin_syntax.specs.declared.program.Val as V
+use Rattle.grin_syntax.specs.declared.program.Val.TheVariants.{Vector}
+use Rattle.grin_syntax.specs.Tree.{Code, end, store, bind, Act, unit, case, nested, Arms, no_arm, arm, Program}
+use Rattle.grin_syntax.specs.Formed.{AllOf}
+use Rattle.pass_ground.specs.Vectors.{StaysOfVectors}
+use Rattle.case_simplify.specs.Known.{Known, Tag, Facts, nothing_known, told_first, told_second, noted}
+use Rattle.case_simplify.specs.Choice.{Verdict, Takes, Passes, Open, verdict}
+
+-- ---- cases on a known tag
+
+-- An integer pattern leaves open which alternative is taken, by a number that is not known.
+abbrev pub OpenAt : Verdict → Type 0 → Type 0
+OpenAt Takes later = ⊥
+OpenAt Passes later = later
+OpenAt Open later = Unit {0}
+
+abbrev pub IsOpen : TagId → Option Known → Arms → Type 0
+IsOpen t second no_arm = ⊥
+IsOpen t second (arm s b as') = OpenAt (verdict t second s) (IsOpen t second as')
+
+-- where the tag of a case is known, the case is open
+abbrev pub OpenIfKnown : Facts → V.Val → Arms → Type 0
+OpenIfKnown facts v as' =
+    (t : TagId) → told_first facts v ≡ Some (Tag t) → IsOpen t (told_second facts v) as'
+
+-- ---- cases that give back their value
+
+-- a value, or of a vector the first words
+abbrev pub FrontOf : V.Val → V.Val → Type 0
+FrontOf (Vector us) (Vector ws) = (rest : List W.Word) × (ws ≡ us ++ rest)
+FrontOf u v = u ≡ v
+
+abbrev pub EachGives : V.Val → Arms → Type 0
+EachGives u no_arm = Unit {0}
+EachGives u (arm s b as') = (b ≡ end (unit u)) × EachGives u as'
+
+-- there is an alternative, and each one gives back v or the same first words of it
+abbrev pub IsIdentity : V.Val → Arms → Type 0
+IsIdentity v no_arm = ⊥
+IsIdentity v (arm s b as') = (u : V.Val) × FrontOf u v × EachGives u (arm s b as')
+
+-- ---- the shape
+
+unfoldable mutual
+  pub SimpleAct : Facts → Act → Type 0
+  SimpleAct facts (case v as') =
+      OpenIfKnown facts v as' × (IsIdentity v as' → ⊥) × SimpleArms facts v as'
+  SimpleAct facts (nested b) = SimpleCode facts b
+  SimpleAct facts _ = Unit {0}
+
+  pub SimpleCode : Facts → Code → Type 0
+  SimpleCode facts (end o) = SimpleAct facts o
+  SimpleCode facts (store cs b) = SimpleCode facts b
+  SimpleCode facts (bind t o b) = SimpleAct facts o × SimpleCode facts b
+
+  -- in the alternatives of a case on v more is known
+  pub SimpleArms : Facts → V.Val → Arms → Type 0
+  SimpleArms facts v no_arm = Unit {0}
+  SimpleArms facts v (arm s b as') = SimpleCode (noted v s facts) b × SimpleArms facts v as'
+
+-- what simplifying makes of g
+pub record Simplified (g h : Program) : Type 0 where
+  pub stays : StaysOfVectors g h
+  pub simple : AllOf (λ q. SimpleCode nothing_known q.body) h.procs

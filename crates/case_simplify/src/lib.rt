@@ -1,0 +1,14 @@
+//! A pass over programs of vectors: a case on a known tag becomes the alternative that it takes, and a case that only gives
+//! back its vector a unit.
+#![tactic(auto)]
+
+mod blocks;
+mod choice;
+mod known;
+mod pass;
+mod words;
+
+pub use pass::Simplify;
+
+#[cfg(test)]
+mod tests;

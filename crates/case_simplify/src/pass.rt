@@ -1,0 +1,50 @@
+// The pass.
+#![tactic(auto)]
+
+ghost use Rattle.std.specs.Prelude.{◌≡◌, IfOk};
+ghost use Rattle.grin_syntax.specs.Tree.{program_of};
+ghost use Rattle.pass_ground.specs.Vectors.{OfVectors};
+ghost use Rattle.case_simplify.specs.Simple.{simplified};
+ghost use Rattle.case_simplify.specs.Simplified.{Simplified};
+
+use crate::blocks::simple_block;
+use grin_meaning::Pass;
+use grin_syntax::{Grin, Proc};
+use seq::Seq;
+use std::alloc::{AllocError, Global};
+
+/// Where the text tells which tag a case meets, by a literal or by an alternative around it on the same vector, the case
+/// becomes the alternative that it takes, unless an integer pattern tests a number that is not told so. A case each of
+/// whose alternatives only gives its vector back becomes a unit. It takes programs of vectors.
+pub struct Simplify;
+
+impl Pass for Simplify {
+    ghost takes = { λ g. OfVectors (program_of g) };
+
+    ghost gives = { λ g h. Simplified (program_of g) (program_of h) };
+
+    fn apply(&self, alloc: Global, g: Grin) -> Result<Grin, AllocError> {
+        let h = with_fewer_cases(alloc, g)?;
+        Ok(h)
+    }
+}
+
+pub(crate) fn with_fewer_cases(alloc: Global, g: Grin) -> Result<Grin, AllocError>
+    ensures { IfOk result (λ h. program_of h ≡ simplified (program_of g)) }
+{
+    let mut procs = Seq::new(alloc);
+    for proc in g.procs.into_vec() {
+        procs.push(Proc {
+            name: proc.name,
+            params: proc.params,
+            body: simple_block(alloc, &[], proc.body)?,
+        })?;
+    }
+    Ok(Grin {
+        tags: g.tags,
+        globals: g.globals,
+        procs,
+        start: g.start,
+        argument: g.argument,
+    })
+}

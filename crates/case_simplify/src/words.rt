@@ -1,0 +1,117 @@
+// Values that are the same, or the front of each other.
+
+ghost use Rattle.std.specs.Prelude.{◌≡◌, slice_get};
+ghost use Rattle.grin_meaning.specs.Checks.{is_some_and};
+ghost use Rattle.case_simplify.specs.Simple.{same_word, is_front, same_words, same_val, is_front_val};
+
+use grin_syntax::{Val, Word};
+
+fn same_word(a: Word, b: Word) -> bool
+    ensures { result ≡ same_word a b }
+{
+    match a {
+        Word::Lit(i) => match b {
+            Word::Lit(j) => i == j,
+            Word::Var(_) => false,
+            Word::Global(_) => false,
+            Word::TagWord(_) => false,
+        },
+        Word::Var(x) => match b {
+            Word::Lit(_) => false,
+            Word::Var(y) => x.0 == y.0,
+            Word::Global(_) => false,
+            Word::TagWord(_) => false,
+        },
+        Word::Global(i) => match b {
+            Word::Lit(_) => false,
+            Word::Var(_) => false,
+            Word::Global(j) => i == j,
+            Word::TagWord(_) => false,
+        },
+        Word::TagWord(t) => match b {
+            Word::Lit(_) => false,
+            Word::Var(_) => false,
+            Word::Global(_) => false,
+            Word::TagWord(u) => t.0 == u.0,
+        },
+    }
+}
+
+// Whether this word stands there.
+fn stands_at(word: &Word, words: &[Word], at: usize) -> bool
+    ensures { result ≡ is_some_and (slice_get words.now at) (same_word word.now) }
+{
+    match words.get(at) {
+        Some(other) => same_word(*word, *other),
+        None => false,
+    }
+}
+
+// Whether the first words are the front of the second ones.
+fn is_front(front: &[Word], words: &[Word]) -> bool
+    ensures { result ≡ is_front front.now words.now }
+{
+    let mut at = 0;
+    'front: for word in front {
+        if !stands_at(word, words, at) {
+            return false;
+        }
+        at += 1;
+    }
+    true
+}
+
+fn same_words(a: &[Word], b: &[Word]) -> bool
+    ensures { result ≡ same_words a.now b.now }
+{
+    is_front(a, b) && is_front(b, a)
+}
+
+/// Whether two values are written alike.
+pub(crate) fn same_val(a: &Val, b: &Val) -> bool
+    ensures { result ≡ same_val a.now b.now }
+{
+    match a {
+        Val::NodeVar(x) => match b {
+            Val::NodeVar(y) => x.0 == y.0,
+            Val::Node(_, _) => false,
+            Val::Vector(_) => false,
+            Val::One(_) => false,
+        },
+        Val::Node(t, ws) => match b {
+            Val::NodeVar(_) => false,
+            Val::Node(u, us) => t.0 == u.0 && same_words(ws.as_slice(), us.as_slice()),
+            Val::Vector(_) => false,
+            Val::One(_) => false,
+        },
+        Val::Vector(ws) => match b {
+            Val::NodeVar(_) => false,
+            Val::Node(_, _) => false,
+            Val::Vector(us) => same_words(ws.as_slice(), us.as_slice()),
+            Val::One(_) => false,
+        },
+        Val::One(x) => match b {
+            Val::NodeVar(_) => false,
+            Val::Node(_, _) => false,
+            Val::Vector(_) => false,
+            Val::One(y) => same_word(*x, *y),
+        },
+    }
+}
+
+/// Whether `u` is `v`, or the first words of a vector `v`.
+pub(crate) fn is_front_val(u: &Val, v: &Val) -> bool
+    ensures { result ≡ is_front_val u.now v.now }
+{
+    match u {
+        Val::Vector(us) => match v {
+            Val::Vector(ws) => is_front(us.as_slice(), ws.as_slice()),
+            Val::NodeVar(_) => false,
+            Val::Node(_, _) => false,
+            Val::One(_) => false,
+        },
+        Val::NodeVar(_) => same_val(u, v),
+        Val::Node(_, _) => same_val(u, v),
+        Val::One(_) => same_val(u, v),
+    }
+}

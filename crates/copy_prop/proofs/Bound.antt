@@ -1,0 +1,102 @@
+-- Which variables are bound, and which stay.
+use Rattle.std.proofs.Common.{◌≡◌, ℕ, suc, Bool, true, false, cond, ◌||◌, nat_eq, List, [], ◌∷◌, map, length, Option, Some, None, refl, sym, ap, ◌∙◌}
+use Rattle.grin_syntax.specs.declared.program.VarId.{VarId}
+use Rattle.grin_syntax.specs.declared.program.Cell.{Cell}
+use Rattle.grin_syntax.specs.declared.program.Target.{Target}
+use Rattle.grin_syntax.specs.declared.program.Target.TheVariants as to
+use Rattle.grin_syntax.specs.declared.program.Shape.{Shape}
+use Rattle.grin_syntax.specs.declared.program.Shape.TheVariants as shape
+use Rattle.grin_syntax.specs.Tree.{Program}
+use Rattle.grin_syntax.specs.Binders.{numbers_of, target_vars, shape_vars, cell_vars}
+use Rattle.grin_meaning.specs.Values.{Datum, number, tag, cell, Node, Value, node, words, Env, and_then, Binding, with_vars, one_each, padded, fits, fits_not, fields_fit, node_fit, number_fit, int_fit, fit_of, as_node, bindings_of}
+use Rattle.grin_meaning.specs.Run.{places}
+use Rattle.copy_prop.specs.Lean.{stands}
+use Rattle.copy_prop.proofs.Used.{neither_left, neither_right}
+
+abbrev pub names : List Binding → List ℕ
+names bs = map (λ b. b.0) bs
+
+pub others_stay : (bs : List Binding) (env : Env) (x : ℕ) → stands x (names bs) ≡ false → with_vars bs env x ≡ env x
+others_stay [] env x h = refl
+others_stay (b ∷ bs) env x h = others_stay bs _ x (neither_right (nat_eq x b.0) (stands x (names bs)) h) ∙ ap (λ t. cond t (Some b.1) (env x)) (neither_left (nat_eq x b.0) (stands x (names bs)) h)
+
+pub bound_alike : (bs : List Binding) (env env' : Env) (x : ℕ) → stands x (names bs) ≡ true → with_vars bs env x ≡ with_vars bs env' x
+bound_alike [] env env' x h = cc
+bound_alike (b ∷ bs) env env' x h = go (stands x (names bs)) refl h (bound_alike bs _ _ x)
+  where
+    go : (t : Bool) → stands x (names bs) ≡ t → (nat_eq x b.0 || t) ≡ true → (stands x (names bs) ≡ true → with_vars (b ∷ bs) env x ≡ with_vars (b ∷ bs) env' x) → with_vars (b ∷ bs) env x ≡ with_vars (b ∷ bs) env' x
+    go true q h k = k q
+    go false q h k = others_stay bs _ x q ∙ ap (λ t. cond t (Some b.1) (env x)) (here (nat_eq x b.0) h) ∙ sym (others_stay bs _ x q ∙ ap (λ t. cond t (Some b.1) (env' x)) (here (nat_eq x b.0) h))
+      where
+        here : (t : Bool) → (t || false) ≡ true → t ≡ true
+        here true h = refl
+        here false h = h
+
+some_is : {A : Type 0} {a b : A} → ◌≡◌ {A = Option A} (Some a) (Some b) → a ≡ b
+some_is h = cc
+
+pub names_each : (xs : List VarId) (ds : List Datum) (bs : List Binding) → one_each xs ds ≡ Some bs → names bs ≡ numbers_of xs
+names_each [] [] bs e = ap names (sym (some_is e))
+names_each [] (d ∷ ds) bs e = cc
+names_each (x ∷ xs) [] bs e = cc
+names_each (x ∷ xs) (d ∷ ds) bs e = go (one_each xs ds) refl e (names_each xs ds)
+  where
+    go : (o : Option (List Binding)) → one_each xs ds ≡ o → and_then o (λ cs. Some ((x.0, words (d ∷ [])) ∷ cs)) ≡ Some bs → ((cs : List Binding) → one_each xs ds ≡ Some cs → names cs ≡ numbers_of xs) → names bs ≡ numbers_of (x ∷ xs)
+    go None q e k = cc
+    go (Some cs) q e k = ap names (sym (some_is e)) ∙ ap (λ l. x.0 ∷ l) (k cs q)
+
+pub names_places : (a : ℕ) (cs : List Cell) → names (places a cs) ≡ cell_vars cs
+names_places a [] = refl
+names_places a (c ∷ cs) = ap (λ l. c.var.0 ∷ l) (names_places (suc a) cs)
+
+pub names_target : (g : Program) (t : Target) (v : Value) (bs : List Binding) → bindings_of g t v ≡ Some bs → names bs ≡ target_vars t
+names_target g to.Nothing (words []) bs e = ap names (sym (some_is e))
+names_target g to.Nothing (words (d ∷ ds)) bs e = cc
+names_target g to.Nothing (node n) bs e = cc
+names_target g (to.Node x) v bs e = go (as_node g v) e
+  where
+    go : (o : Option Node) → and_then o (λ n. Some ((x.0, node n) ∷ [])) ≡ Some bs → names bs ≡ x.0 ∷ []
+    go None e = cc
+    go (Some n) e = ap names (sym (some_is e))
+names_target g (to.One x) (words []) bs e = cc
+names_target g (to.One x) (words (d ∷ [])) bs e = ap names (sym (some_is e))
+names_target g (to.One x) (words (d ∷ (d' ∷ ds))) bs e = cc
+names_target g (to.One x) (node n) bs e = cc
+names_target g (to.Vector xs) (words ds) bs e = names_each xs ds bs e
+names_target g (to.Vector xs) (node n) bs e = names_each xs (padded (length xs) (tag n.tag ∷ n.fields)) bs e
+
+-- a pattern without variables binds nothing
+fits_is : {bs cs : List Binding} → fits bs ≡ fits cs → bs ≡ cs
+fits_is h = cc
+
+pub binds_nothing : (g : Program) (s : Shape) (v : Value) (bs : List Binding) → shape_vars s ≡ [] → fit_of g s v ≡ fits bs → bs ≡ []
+binds_nothing g (shape.Node t []) v bs h e = go (as_node g v) e
+  where
+    go : (o : Option Node) → node_fit t.0 [] o ≡ fits bs → bs ≡ []
+    go None e = cc
+    go (Some n) e = at (nat_eq n.tag t.0) e
+      where
+        at : (b : Bool) → cond b (fields_fit [] n.fields) fits_not ≡ fits bs → bs ≡ []
+        at true e = sym (fits_is e)
+        at false e = cc
+binds_nothing g (shape.Node t (x ∷ xs)) v bs h e = cc
+binds_nothing g (shape.Int k) v bs h e = go (as_node g v) e
+  where
+    of_number : (ds : List Datum) → number_fit k ds ≡ fits bs → bs ≡ []
+    of_number [] e = cc
+    of_number (number i ∷ ds) e = at (Rattle.numbers.specs.Numbers.same_number k i) e
+      where
+        at : (b : Bool) → cond b (fits []) fits_not ≡ fits bs → bs ≡ []
+        at true e = sym (fits_is e)
+        at false e = cc
+    of_number (tag t ∷ ds) e = cc
+    of_number (cell a ∷ ds) e = cc
+
+    go : (o : Option Node) → int_fit k o ≡ fits bs → bs ≡ []
+    go None e = cc
+    go (Some n) e = at (nat_eq n.tag 0) e
+      where
+        at : (b : Bool) → cond b (number_fit k n.fields) fits_not ≡ fits bs → bs ≡ []
+        at true e = of_number n.fields e
+        at false e = cc
+binds_nothing g shape.Else v bs h e = sym (fits_is e)

@@ -1,0 +1,501 @@
+-- A program without idle statements is well formed, has what every pass keeps, and has no idle statement.
+use Rattle.std.proofs.Common.{◌≡◌, ◌≢◌, ℕ, zero, suc, ◌+◌, ◌≤◌, Bool, true, false, not, ◌&&◌, ◌||◌, nat_eq, List, [], ◌∷◌, ◌++◌, map, length, refl, sym, ap, ◌∙◌, subst, arith}
+use Rattle.std.proofs.lemmas.List.{length-map}
+use Rattle.std.proofs.lemmas.Option.{slice_get-map}
+use Rattle.std.specs.Option.{option_map}
+use Rattle.grin_syntax.specs.declared.program.Cell.{Cell}
+use Rattle.grin_syntax.specs.declared.program.Target.{Target}
+use Rattle.grin_syntax.specs.declared.program.Target.TheVariants as to
+use Rattle.grin_syntax.specs.declared.program.Word as W
+use Rattle.grin_syntax.specs.declared.program.Word.TheVariants.{Lit, Var, Global, TagWord}
+use Rattle.grin_syntax.specs.declared.program.Val as V
+use Rattle.grin_syntax.specs.declared.program.Val.TheVariants.{NodeVar, Node, Vector, One}
+use Rattle.grin_syntax.specs.Tree.{Code, end, store, bind, Act, unit, fetch, fetch_word, update, eval, apply, call, prim, read, write, case, nested, fail, Arms, no_arm, arm, Procedure, Program}
+use Rattle.grin_syntax.specs.Binders.{times, numbers_of, target_vars, shape_vars, cell_vars, act_vars, code_vars, arms_vars, procs_vars, act_sites, code_sites, arms_sites, procs_sites}
+use Rattle.grin_syntax.specs.Formed.{AllOf, Scope, InScope, with_words, with_target, params_scope, WordFormed, ValFormed, CellFormed, ActFormed, CodeFormed, ArmsFormed, ProcedureFormed, Formed}
+use Rattle.grin_syntax.specs.SameOutside.{names_of, SameOutside}
+use Rattle.grin_syntax.proofs.Counted.{times_append}
+use Rattle.grin_syntax.proofs.Scopes.{with_procs, known_again, shape_stays, same_sites, formed_with}
+use Rattle.grin_meaning.specs.Names.{WordOk, WordsOk, ValOk, CellsOk, ActOk, CodeOk, ArmsOk}
+use Rattle.grin_meaning.specs.Ready.{Any, Inlined, ByWords, NoNodeTarget, NoNodeVar, BindsNothing, EachAct, EachCode, EachArms, NarrowAct, NarrowCode, NarrowArms}
+use Rattle.grin_meaning.specs.Rewritten.{rewritten_procedure}
+use Rattle.copy_prop.specs.Lean.{word_uses, words_uses, val_uses, cells_uses, act_uses, code_uses, arms_uses, stands, none_stands, is_still, is_idle, unless, lean_act, lean_code, lean_arms, lean}
+use Rattle.copy_prop.specs.Copied.{IsCopy, IsStill, Unused, IsNeeded, BoundAct, BoundCode, BoundArms}
+use Rattle.copy_prop.proofs.Used.{same_number, true_or_false, or_left, and_left, and_right, stands_append, equal_to_itself, in_stands, none_absent}
+use Rattle.copy_prop.proofs.Held.{as_scope, target_scope}
+use Rattle.copy_prop.proofs.LeanSame.{Covers, covers_left, covers_right}
+use Rattle.copy_prop.proofs.ResolvedFormed.{NoCopy, more}
+
+-- ---- what a piece has of its kind
+
+module _ (OpOk : Act → Type 0) (TargetOk : Target → Type 0) (ValOk : V.Val → Type 0) (ShapeOk : List ℕ → Type 0) (op_stays : (o : Act) → OpOk o → OpOk (lean_act o)) where
+  bind_stays : (t : Target) (o' : Act) (c : Code) (q : Bool) → TargetOk t → EachAct OpOk TargetOk ValOk ShapeOk o' → EachCode OpOk TargetOk ValOk ShapeOk c → EachCode OpOk TargetOk ValOk ShapeOk (unless q (bind t o') c)
+  unfolding EachAct
+  bind_stays t o' c false h k l = (h, k, l)
+  bind_stays t o' c true h k l = l
+
+  mutual
+    unfolding lean_act EachAct
+
+    act_each : (o : Act) → EachAct OpOk TargetOk ValOk ShapeOk o → EachAct OpOk TargetOk ValOk ShapeOk (lean_act o)
+    act_each (case v as') h = (op_stays (case v as') h.0, h.1, arms_each as' h.2)
+    act_each (nested b) h = (op_stays (nested b) h.0, code_each b h.1)
+    act_each (unit v) h = h
+    act_each (update a v) h = h
+    act_each (apply v a) h = h
+    act_each (fetch a) h = h
+    act_each (fetch_word a i) h = h
+    act_each (eval a) h = h
+    act_each (call f ws) h = h
+    act_each (prim p a b) h = h
+    act_each read h = h
+    act_each (write a) h = h
+    act_each fail h = h
+
+    code_each : (b : Code) → EachCode OpOk TargetOk ValOk ShapeOk b → EachCode OpOk TargetOk ValOk ShapeOk (lean_code b)
+    code_each (end o) h = act_each o h
+    code_each (store cs b) h = (h.0, code_each b h.1)
+    code_each (bind t o b) h = bind_stays t (lean_act o) (lean_code b) (is_idle t o (code_uses (lean_code b))) h.0 (act_each o h.1) (code_each b h.2)
+
+    arms_each : (as' : Arms) → EachArms OpOk TargetOk ValOk ShapeOk as' → EachArms OpOk TargetOk ValOk ShapeOk (lean_arms as')
+    arms_each no_arm h = tt
+    arms_each (arm s b as') h = (h.0, code_each b h.1, arms_each as' h.2)
+
+  pub procs_each : (qs : List Procedure) → AllOf (λ q. EachCode OpOk TargetOk ValOk ShapeOk q.body) qs → AllOf (λ q. EachCode OpOk TargetOk ValOk ShapeOk q.body) (map (rewritten_procedure lean_code) qs)
+  procs_each [] h = tt
+  procs_each (q ∷ qs) h = (code_each q.body h.0, procs_each qs h.1)
+
+pub inlined_stays : (o : Act) → Inlined o → Inlined (lean_act o)
+unfolding lean_act
+inlined_stays (eval a) h = h
+inlined_stays (apply v a) h = h
+inlined_stays (unit v) h = tt
+inlined_stays (fetch a) h = tt
+inlined_stays (fetch_word a i) h = tt
+inlined_stays (update a v) h = tt
+inlined_stays (call f ws) h = tt
+inlined_stays (prim p a b) h = tt
+inlined_stays read h = tt
+inlined_stays (write a) h = tt
+inlined_stays (case v as') h = tt
+inlined_stays (nested b) h = tt
+inlined_stays fail h = tt
+
+pub by_words_stays : (o : Act) → ByWords o → ByWords (lean_act o)
+unfolding lean_act
+by_words_stays (fetch a) h = h
+by_words_stays (unit v) h = tt
+by_words_stays (fetch_word a i) h = tt
+by_words_stays (update a v) h = tt
+by_words_stays (eval a) h = tt
+by_words_stays (apply v a) h = tt
+by_words_stays (call f ws) h = tt
+by_words_stays (prim p a b) h = tt
+by_words_stays read h = tt
+by_words_stays (write a) h = tt
+by_words_stays (case v as') h = tt
+by_words_stays (nested b) h = tt
+by_words_stays fail h = tt
+
+module _ (w most : ℕ) where
+  bind_narrow : (t : Target) (o' : Act) (c : Code) (q : Bool) → NarrowCode w most c → NarrowCode w most (unless q (bind t o') c)
+  unfolding NarrowAct
+  bind_narrow t o' c false h = h
+  bind_narrow t o' c true h = h
+
+  mutual
+    unfolding lean_act NarrowAct
+
+    act_narrow : (o : Act) → NarrowAct w most o → NarrowAct w most (lean_act o)
+    act_narrow (case v as') h = arms_narrow as' h
+    act_narrow (nested b) h = code_narrow b h
+    act_narrow (unit v) h = h
+    act_narrow (fetch a) h = h
+    act_narrow (fetch_word a i) h = h
+    act_narrow (update a v) h = h
+    act_narrow (eval a) h = h
+    act_narrow (apply v a) h = h
+    act_narrow (call f ws) h = h
+    act_narrow (prim p a b) h = h
+    act_narrow read h = h
+    act_narrow (write a) h = h
+    act_narrow fail h = h
+
+    code_narrow : (b : Code) → NarrowCode w most b → NarrowCode w most (lean_code b)
+    code_narrow (end o) h = act_narrow o h
+    code_narrow (store cs b) h = code_narrow b h
+    code_narrow (bind t o b) h = bind_narrow t (lean_act o) (lean_code b) (is_idle t o (code_uses (lean_code b))) (code_narrow b h)
+
+    arms_narrow : (as' : Arms) → NarrowArms w most as' → NarrowArms w most (lean_arms as')
+    arms_narrow no_arm h = tt
+    arms_narrow (arm s b as') h = (code_narrow b h.0, arms_narrow as' h.1)
+
+  pub procs_narrow : (qs : List Procedure) → AllOf (λ q. NarrowCode w most q.body) qs → AllOf (λ q. NarrowCode w most q.body) (map (rewritten_procedure lean_code) qs)
+  procs_narrow [] h = tt
+  procs_narrow (q ∷ qs) h = (code_narrow q.body h.0, procs_narrow qs h.1)
+
+pub procs_params : (most : ℕ) (qs : List Procedure) → AllOf (λ q. length q.params ≤ most) qs → AllOf (λ q. length q.params ≤ most) (map (rewritten_procedure lean_code) qs)
+procs_params most [] h = tt
+procs_params most (q ∷ qs) h = (h.0, procs_params most qs h.1)
+
+-- ---- no statement is idle
+
+-- where a piece doesn't name x, x is not among its uses
+absent_both : (x : ℕ) (xs ys : List ℕ) → stands x xs ≡ false → stands x ys ≡ false → stands x (xs ++ ys) ≡ false
+absent_both x xs ys h k = stands_append x xs ys ∙ (λ i. h i || k i)
+
+other_number : (x y : ℕ) → y ≢ x → stands x (y ∷ []) ≡ false
+other_number x y h = go (nat_eq x y) refl
+  where
+    go : (b : Bool) → nat_eq x y ≡ b → (b || false) ≡ false
+    go true q = absurd (h (sym (same_number x y q)))
+    go false q = refl
+
+module _ (x : ℕ) where
+  abbrev Other : ℕ → Type 0
+  Other y = y ≢ x
+
+  word_absent : (a : W.Word) → WordOk Other a → stands x (word_uses a) ≡ false
+  word_absent (Var y) h = other_number x y.0 h
+  word_absent (Lit k) h = refl
+  word_absent (Global i) h = refl
+  word_absent (TagWord t) h = refl
+
+  words_absent : (ws : List W.Word) → WordsOk Other ws → stands x (words_uses ws) ≡ false
+  words_absent [] h = refl
+  words_absent (a ∷ ws) h = absent_both x (word_uses a) (words_uses ws) (word_absent a h.0) (words_absent ws h.1)
+
+  val_absent : (v : V.Val) → ValOk Other v → stands x (val_uses v) ≡ false
+  val_absent (NodeVar y) h = other_number x y.0 h
+  val_absent (Node t ws) h = words_absent ws h
+  val_absent (Vector ws) h = words_absent ws h
+  val_absent (One a) h = word_absent a h
+
+  cells_absent : (cs : List Cell) → CellsOk Other cs → stands x (cells_uses cs) ≡ false
+  cells_absent [] h = refl
+  cells_absent (c ∷ cs) h = absent_both x (val_uses c.val) (cells_uses cs) (val_absent c.val h.0) (cells_absent cs h.1)
+
+  mutual
+    unfolding act_uses ActOk
+
+    act_absent : (o : Act) → ActOk Other o → stands x (act_uses o) ≡ false
+    act_absent (unit v) h = val_absent v h
+    act_absent (fetch a) h = word_absent a h
+    act_absent (fetch_word a i) h = word_absent a h
+    act_absent (update a v) h = absent_both x (word_uses a) (val_uses v) (word_absent a h.0) (val_absent v h.1)
+    act_absent (eval a) h = word_absent a h
+    act_absent (apply v a) h = absent_both x (val_uses v) (word_uses a) (val_absent v h.0) (word_absent a h.1)
+    act_absent (call f ws) h = words_absent ws h
+    act_absent (prim p a b) h = absent_both x (word_uses a) (word_uses b) (word_absent a h.0) (word_absent b h.1)
+    act_absent read h = refl
+    act_absent (write a) h = word_absent a h
+    act_absent (case v as') h = absent_both x (val_uses v) (arms_uses as') (val_absent v h.0) (arms_absent as' h.1)
+    act_absent (nested b) h = code_absent b h
+    act_absent fail h = refl
+
+    pub code_absent : (b : Code) → CodeOk Other b → stands x (code_uses b) ≡ false
+    code_absent (end o) h = act_absent o h
+    code_absent (store cs b) h = absent_both x (code_uses b) (cells_uses cs) (code_absent b h.1) (cells_absent cs h.0)
+    code_absent (bind t o b) h = absent_both x (code_uses b) (act_uses o) (code_absent b h.1) (act_absent o h.0)
+
+    arms_absent : (as' : Arms) → ArmsOk Other as' → stands x (arms_uses as') ≡ false
+    arms_absent no_arm h = refl
+    arms_absent (arm s b as') h = absent_both x (code_uses b) (arms_uses as') (code_absent b h.0) (arms_absent as' h.1)
+
+none_used : (b : Code) (xs : List ℕ) → AllOf (Unused b) xs → none_stands xs (code_uses b) ≡ true
+none_used b [] h = refl
+none_used b (x ∷ xs) h = λ i. not (code_absent x b h.0 i) && none_used b xs h.1 i
+
+was_copy : (t : Target) (o : Act) → IsCopy t (lean_act o) → IsCopy t o
+unfolding lean_act
+was_copy t (unit v) h = h
+was_copy to.Nothing o h = absurd h
+was_copy (to.Node x) o h = absurd h
+was_copy (to.Vector xs) o h = absurd h
+was_copy (to.One x) (fetch a) h = absurd h
+was_copy (to.One x) (fetch_word a i) h = absurd h
+was_copy (to.One x) (update a v) h = absurd h
+was_copy (to.One x) (eval a) h = absurd h
+was_copy (to.One x) (apply v a) h = absurd h
+was_copy (to.One x) (call f ws) h = absurd h
+was_copy (to.One x) (prim p a b) h = absurd h
+was_copy (to.One x) read h = absurd h
+was_copy (to.One x) (write a) h = absurd h
+was_copy (to.One x) (case v as') h = absurd h
+was_copy (to.One x) (nested b) h = absurd h
+was_copy (to.One x) fail h = absurd h
+
+was_still : (o : Act) → IsStill (lean_act o) → is_still o ≡ true
+unfolding lean_act
+was_still (unit v) h = refl
+was_still (fetch a) h = refl
+was_still (fetch_word a i) h = refl
+was_still (prim p a b) h = refl
+was_still (update a v) h = absurd h
+was_still (eval a) h = absurd h
+was_still (apply v a) h = absurd h
+was_still (call f ws) h = absurd h
+was_still read h = absurd h
+was_still (write a) h = absurd h
+was_still (case v as') h = absurd h
+was_still (nested b) h = absurd h
+was_still fail h = absurd h
+
+bind_needed : (t : Target) (o : Act) (c : Code) (q : Bool) → is_idle t o (code_uses c) ≡ q → (IsCopy t o → ⊥) → BoundAct IsNeeded (lean_act o) → BoundCode IsNeeded c → BoundCode IsNeeded (unless q (bind t (lean_act o)) c)
+unfolding BoundAct
+bind_needed t o c true e n f h = h
+bind_needed t o c false e n f h = (
+  record {
+    no_copy = λ i. n (was_copy t o i);
+    not_idle = λ s u. true_or_false (is_idle t o (code_uses c)) ((λ i. was_still o s i && none_used c (target_vars t) u i)) e;
+  },
+  f,
+  h,
+)
+
+mutual
+  unfolding lean_act BoundAct
+
+  act_needed : (o : Act) → BoundAct NoCopy o → BoundAct IsNeeded (lean_act o)
+  act_needed (case v as') h = arms_needed as' h
+  act_needed (nested b) h = code_needed b h
+  act_needed (unit v) h = tt
+  act_needed (fetch a) h = tt
+  act_needed (fetch_word a i) h = tt
+  act_needed (update a v) h = tt
+  act_needed (eval a) h = tt
+  act_needed (apply v a) h = tt
+  act_needed (call f ws) h = tt
+  act_needed (prim p a b) h = tt
+  act_needed read h = tt
+  act_needed (write a) h = tt
+  act_needed fail h = tt
+
+  code_needed : (b : Code) → BoundCode NoCopy b → BoundCode IsNeeded (lean_code b)
+  code_needed (end o) h = act_needed o h
+  code_needed (store cs b) h = code_needed b h
+  code_needed (bind t o b) h = bind_needed t o (lean_code b) (is_idle t o (code_uses (lean_code b))) refl h.0 (act_needed o h.1) (code_needed b h.2)
+
+  arms_needed : (as' : Arms) → BoundArms NoCopy as' → BoundArms IsNeeded (lean_arms as')
+  arms_needed no_arm h = tt
+  arms_needed (arm s b as') h = (code_needed b h.0, arms_needed as' h.1)
+
+pub procs_needed : (qs : List Procedure) → AllOf (λ q. BoundCode NoCopy q.body) qs → AllOf (λ q. BoundCode IsNeeded q.body) (map (rewritten_procedure lean_code) qs)
+procs_needed [] h = tt
+procs_needed (q ∷ qs) h = (code_needed q.body h.0, procs_needed qs h.1)
+
+-- ---- variables and sites
+
+bind_counts : (y : ℕ) (t : Target) (o o' : Act) (b c : Code) (q : Bool) → times y (act_vars o') ≤ times y (act_vars o) → times y (code_vars c) ≤ times y (code_vars b) → times y (code_vars (unless q (bind t o') c)) ≤ times y (code_vars (bind t o b))
+unfolding act_vars
+bind_counts y t o o' b c false h k = more y (target_vars t) (act_vars o' ++ code_vars c) (target_vars t) (act_vars o ++ code_vars b) (omega arith) (more y (act_vars o') (code_vars c) (act_vars o) (code_vars b) h k)
+bind_counts y t o o' b c true h k = more y [] (code_vars c) (target_vars t) (act_vars o ++ code_vars b) (omega arith) (more y [] (code_vars c) (act_vars o) (code_vars b) (omega arith) k)
+
+mutual
+  unfolding lean_act act_vars
+
+  act_counts : (y : ℕ) (o : Act) → times y (act_vars (lean_act o)) ≤ times y (act_vars o)
+  act_counts y (case v as') = arms_counts y as'
+  act_counts y (nested b) = code_counts y b
+  act_counts y (unit v) = omega arith
+  act_counts y (fetch a) = omega arith
+  act_counts y (fetch_word a i) = omega arith
+  act_counts y (update a v) = omega arith
+  act_counts y (eval a) = omega arith
+  act_counts y (apply v a) = omega arith
+  act_counts y (call f ws) = omega arith
+  act_counts y (prim p a b) = omega arith
+  act_counts y read = omega arith
+  act_counts y (write a) = omega arith
+  act_counts y fail = omega arith
+
+  code_counts : (y : ℕ) (b : Code) → times y (code_vars (lean_code b)) ≤ times y (code_vars b)
+  code_counts y (end o) = act_counts y o
+  code_counts y (store cs b) = more y (cell_vars cs) (code_vars (lean_code b)) (cell_vars cs) (code_vars b) (omega arith) (code_counts y b)
+  code_counts y (bind t o b) = bind_counts y t o (lean_act o) b (lean_code b) (is_idle t o (code_uses (lean_code b))) (act_counts y o) (code_counts y b)
+
+  arms_counts : (y : ℕ) (as' : Arms) → times y (arms_vars (lean_arms as')) ≤ times y (arms_vars as')
+  arms_counts y no_arm = omega arith
+  arms_counts y (arm s b as') = more y (shape_vars s) (code_vars (lean_code b) ++ arms_vars (lean_arms as')) (shape_vars s) (code_vars b ++ arms_vars as') (omega arith)
+      (more y (code_vars (lean_code b)) (arms_vars (lean_arms as')) (code_vars b) (arms_vars as') (code_counts y b) (arms_counts y as'))
+
+procs_counts : (y : ℕ) (qs : List Procedure) → times y (procs_vars (map (rewritten_procedure lean_code) qs)) ≤ times y (procs_vars qs)
+procs_counts y [] = omega arith
+procs_counts y (q ∷ qs) = more y (numbers_of q.params ++ code_vars (lean_code q.body)) (procs_vars (map (rewritten_procedure lean_code) qs)) (numbers_of q.params ++ code_vars q.body) (procs_vars qs)
+    (more y (numbers_of q.params) (code_vars (lean_code q.body)) (numbers_of q.params) (code_vars q.body) (omega arith) (code_counts y q.body)) (procs_counts y qs)
+
+still_sites : (o : Act) → is_still o ≡ true → act_sites o ≡ []
+unfolding act_sites
+still_sites (unit v) h = refl
+still_sites (fetch a) h = refl
+still_sites (fetch_word a i) h = refl
+still_sites (prim p a b) h = refl
+still_sites (update a v) h = refl
+still_sites (eval a) h = refl
+still_sites (apply v a) h = refl
+still_sites (call f ws) h = refl
+still_sites read h = refl
+still_sites (write a) h = refl
+still_sites (case v as') h = cc
+still_sites (nested b) h = cc
+still_sites fail h = refl
+
+bind_sites : (t : Target) (o o' : Act) (b c : Code) (used : List ℕ) (q : Bool) → is_idle t o used ≡ q → act_sites o' ≡ act_sites o → code_sites c ≡ code_sites b → code_sites (unless q (bind t o') c) ≡ code_sites (bind t o b)
+unfolding act_sites
+bind_sites t o o' b c used false e h k = λ i. h i ++ k i
+bind_sites t o o' b c used true e h k = k ∙ ap (λ l. l ++ code_sites b) (sym (still_sites o (and_left (is_still o) (none_stands (target_vars t) used) e)))
+
+mutual
+  unfolding lean_act act_sites
+
+  act_sites_stay : (o : Act) → act_sites (lean_act o) ≡ act_sites o
+  act_sites_stay (case v as') = arms_sites_stay as'
+  act_sites_stay (nested b) = code_sites_stay b
+  act_sites_stay (unit v) = refl
+  act_sites_stay (fetch a) = refl
+  act_sites_stay (fetch_word a i) = refl
+  act_sites_stay (update a v) = refl
+  act_sites_stay (eval a) = refl
+  act_sites_stay (apply v a) = refl
+  act_sites_stay (call f ws) = refl
+  act_sites_stay (prim p a b) = refl
+  act_sites_stay read = refl
+  act_sites_stay (write a) = refl
+  act_sites_stay fail = refl
+
+  code_sites_stay : (b : Code) → code_sites (lean_code b) ≡ code_sites b
+  code_sites_stay (end o) = act_sites_stay o
+  code_sites_stay (store cs b) = ap (λ l. map (λ c. c.site.0) cs ++ l) (code_sites_stay b)
+  code_sites_stay (bind t o b) = bind_sites t o (lean_act o) b (lean_code b) (code_uses (lean_code b)) (is_idle t o (code_uses (lean_code b))) refl (act_sites_stay o) (code_sites_stay b)
+
+  arms_sites_stay : (as' : Arms) → arms_sites (lean_arms as') ≡ arms_sites as'
+  arms_sites_stay no_arm = refl
+  arms_sites_stay (arm s b as') = λ i. code_sites_stay b i ++ arms_sites_stay as' i
+
+sites_stay : (qs : List Procedure) → procs_sites (map (rewritten_procedure lean_code) qs) ≡ procs_sites qs
+sites_stay [] = refl
+sites_stay (q ∷ qs) = λ i. code_sites_stay q.body i ++ sites_stay qs i
+
+names_stay : (qs : List Procedure) → names_of (map (rewritten_procedure lean_code) qs) ≡ names_of qs
+names_stay [] = refl
+names_stay (q ∷ qs) = ap (λ ns. q.name ∷ ns) (names_stay qs)
+
+pub lean_outside : (g : Program) → SameOutside g (lean g)
+lean_outside g = record { same_tags = refl; same_globals = refl; same_start = refl; same_argument = refl; same_names = names_stay g.procs }
+
+-- ---- scopes
+
+-- of the variables in scope in the first, those that are used are in scope in the second
+abbrev Carried : Scope → List ℕ → ℕ → Type 0
+Carried scope scope' x = InScope scope.words x → InScope scope' x
+
+carried_more : (ts : List ℕ) (scope : Scope) (scope' : List ℕ) (x : ℕ) → Carried scope scope' x → Carried (with_words ts scope) (ts ++ scope') x
+carried_more ts scope scope' x c i = go (times x ts) refl
+  where
+    go : (n : ℕ) → times x ts ≡ n → InScope (ts ++ scope') x
+    go zero e =
+        let a : times x (ts ++ scope.words) ≡ times x ts + times x scope.words = times_append x ts scope.words in
+        let j : InScope scope' x = c (omega (arith, i, e, a)) in
+        let b : times x (ts ++ scope') ≡ times x ts + times x scope' = times_append x ts scope' in
+        omega (arith, j, b)
+    go (suc n) e = let b : times x (ts ++ scope') ≡ times x ts + times x scope' = times_append x ts scope' in omega (arith, e, b)
+
+-- what is left out is not used
+carried_past : (ts used : List ℕ) (scope : Scope) (scope' : List ℕ) → none_stands ts used ≡ true → Covers (Carried scope scope') used → Covers (Carried (with_words ts scope) scope') used
+carried_past ts used scope scope' none cov x h i = go (times x ts) refl
+  where
+    go : (n : ℕ) → times x ts ≡ n → InScope scope' x
+    go zero e = let a : times x (ts ++ scope.words) ≡ times x ts + times x scope.words = times_append x ts scope.words in cov x h (omega (arith, i, e, a))
+    go (suc n) e = absurd (true_or_false (stands x used) h (none_absent x ts used none (in_stands x ts (omega (arith, e)))))
+
+first_stands : (x : ℕ) (xs : List ℕ) → stands x (x ∷ xs) ≡ true
+first_stands x xs = or_left _ (stands x xs) (equal_to_itself x)
+
+module _ (g : Program) (procs : List Procedure) (same_count : length procs ≡ length g.procs) where
+  abbrev there : Program
+  there = with_procs g procs same_count
+
+  module _ (scope : Scope) (scope' : List ℕ) where
+    abbrev Carries : List ℕ → Type 0
+    Carries = Covers (Carried scope scope')
+
+    word_formed : (a : W.Word) → Carries (word_uses a) → WordFormed g scope a → WordFormed there (as_scope scope') a
+    word_formed (Var x) c f = c x.0 (first_stands x.0 []) f
+    word_formed (Lit k) c f = f
+    word_formed (Global i) c f = f
+    word_formed (TagWord t) c f = f
+
+    words_formed : (ws : List W.Word) → Carries (words_uses ws) → AllOf (WordFormed g scope) ws → AllOf (WordFormed there (as_scope scope')) ws
+    words_formed [] c f = tt
+    words_formed (a ∷ ws) c f = (word_formed a (covers_left (Carried scope scope') (word_uses a) (words_uses ws) c) f.0, words_formed ws (covers_right (Carried scope scope') (word_uses a) (words_uses ws) c) f.1)
+
+    val_formed : (v : V.Val) → NoNodeVar v → Carries (val_uses v) → ValFormed g scope v → ValFormed there (as_scope scope') v
+    val_formed (NodeVar x) n c f = absurd n
+    val_formed (Node t ws) n c f = (f.0, words_formed ws c f.1)
+    val_formed (Vector ws) n c f = words_formed ws c f
+    val_formed (One a) n c f = word_formed a c f
+
+    cells_formed : (cs : List Cell) → AllOf (λ c. NoNodeVar c.val) cs → Carries (cells_uses cs) → AllOf (CellFormed g scope) cs → AllOf (CellFormed there (as_scope scope')) cs
+    cells_formed [] n c f = tt
+    cells_formed (x ∷ cs) n c f = (val_formed x.val n.0 (covers_left (Carried scope scope') (val_uses x.val) (cells_uses cs) c) f.0, cells_formed cs n.1 (covers_right (Carried scope scope') (val_uses x.val) (cells_uses cs) c) f.1)
+
+  bind_formed : (scope : Scope) (scope' : List ℕ) (t : Target) (o : Act) (b : Code) → NoNodeTarget t → CodeFormed g (with_target t scope) b
+      → (Covers (Carried scope scope') (act_uses (lean_act o)) → ActFormed there (as_scope scope') (lean_act o))
+      → ((s : Scope) (s' : List ℕ) → Covers (Carried s s') (code_uses (lean_code b)) → CodeFormed g s b → CodeFormed there (as_scope s') (lean_code b))
+      → (q : Bool) → is_idle t o (code_uses (lean_code b)) ≡ q → Covers (Carried scope scope') (code_uses (unless q (bind t (lean_act o)) (lean_code b))) → CodeFormed there (as_scope scope') (unless q (bind t (lean_act o)) (lean_code b))
+  unfolding act_uses ActFormed
+  bind_formed scope scope' t o b nt fb f kk false e cov = (
+    f (covers_right (Carried scope scope') (code_uses (lean_code b)) (act_uses (lean_act o)) cov),
+    subst (λ s. CodeFormed there s (lean_code b)) (sym (target_scope t (as_scope scope') nt))
+        (kk (with_words (target_vars t) scope) (target_vars t ++ scope') (λ x h. carried_more (target_vars t) scope scope' x (covers_left (Carried scope scope') (code_uses (lean_code b)) (act_uses (lean_act o)) cov x h)) (subst (λ s. CodeFormed g s b) (target_scope t scope nt) fb)),
+  )
+  bind_formed scope scope' t o b nt fb f kk true e cov =
+      kk (with_words (target_vars t) scope) scope' (carried_past (target_vars t) (code_uses (lean_code b)) scope scope' (and_right (is_still o) (none_stands (target_vars t) (code_uses (lean_code b))) e) cov) (subst (λ s. CodeFormed g s b) (target_scope t scope nt) fb)
+
+  mutual
+    unfolding lean_act act_uses ActFormed EachAct
+
+    act_formed : (o : Act) (scope : Scope) (scope' : List ℕ) → Covers (Carried scope scope') (act_uses (lean_act o)) → ActFormed g scope o → EachAct Any NoNodeTarget NoNodeVar BindsNothing o → ActFormed there (as_scope scope') (lean_act o)
+    act_formed (case v as') scope scope' c f n = (val_formed scope scope' v n.1 (covers_left (Carried scope scope') (val_uses v) (arms_uses (lean_arms as')) c) f.0, arms_formed as' scope scope' (covers_right (Carried scope scope') (val_uses v) (arms_uses (lean_arms as')) c) f.1 n.2)
+    act_formed (nested b) scope scope' c f n = code_formed b scope scope' c f n.1
+    act_formed (unit v) scope scope' c f n = val_formed scope scope' v n.1 c f
+    act_formed (fetch a) scope scope' c f n = word_formed scope scope' a c f
+    act_formed (fetch_word a i) scope scope' c f n = word_formed scope scope' a c f
+    act_formed (update a v) scope scope' c f n = (word_formed scope scope' a (covers_left (Carried scope scope') (word_uses a) (val_uses v) c) f.0, val_formed scope scope' v n.1 (covers_right (Carried scope scope') (word_uses a) (val_uses v) c) f.1)
+    act_formed (eval a) scope scope' c f n = word_formed scope scope' a c f
+    act_formed (apply v a) scope scope' c f n = (val_formed scope scope' v n.1 (covers_left (Carried scope scope') (val_uses v) (word_uses a) c) f.0, word_formed scope scope' a (covers_right (Carried scope scope') (val_uses v) (word_uses a) c) f.1)
+    act_formed (call p ws) scope scope' c f n = (known_again g procs same_count p f.0, words_formed scope scope' ws c f.1)
+    act_formed (prim p a b) scope scope' c f n = (word_formed scope scope' a (covers_left (Carried scope scope') (word_uses a) (word_uses b) c) f.0, word_formed scope scope' b (covers_right (Carried scope scope') (word_uses a) (word_uses b) c) f.1)
+    act_formed read scope scope' c f n = tt
+    act_formed (write a) scope scope' c f n = word_formed scope scope' a c f
+    act_formed fail scope scope' c f n = tt
+
+    code_formed : (b : Code) (scope : Scope) (scope' : List ℕ) → Covers (Carried scope scope') (code_uses (lean_code b)) → CodeFormed g scope b → EachCode Any NoNodeTarget NoNodeVar BindsNothing b → CodeFormed there (as_scope scope') (lean_code b)
+    code_formed (end o) scope scope' c f n = act_formed o scope scope' c f n
+    code_formed (store cs b) scope scope' c f n = (
+      cells_formed (with_words (cell_vars cs) scope) (cell_vars cs ++ scope') cs n.0 (λ x h. carried_more (cell_vars cs) scope scope' x (covers_right (Carried scope scope') (code_uses (lean_code b)) (cells_uses cs) c x h)) f.0,
+      code_formed b (with_words (cell_vars cs) scope) (cell_vars cs ++ scope') (λ x h. carried_more (cell_vars cs) scope scope' x (covers_left (Carried scope scope') (code_uses (lean_code b)) (cells_uses cs) c x h)) f.1 n.1,
+    )
+    code_formed (bind t o b) scope scope' c f n = bind_formed scope scope' t o b n.0 f.1 (λ d. act_formed o scope scope' d f.0 n.1) (λ s s' d fb. code_formed b s s' d fb n.2) (is_idle t o (code_uses (lean_code b))) refl c
+
+    arms_formed : (as' : Arms) (scope : Scope) (scope' : List ℕ) → Covers (Carried scope scope') (arms_uses (lean_arms as')) → ArmsFormed g scope as' → EachArms Any NoNodeTarget NoNodeVar BindsNothing as' → ArmsFormed there (as_scope scope') (lean_arms as')
+    arms_formed no_arm scope scope' c f n = tt
+    arms_formed (arm s b as') scope scope' c f n = (
+      shape_stays g procs same_count s f.0,
+      code_formed b (with_words (shape_vars s) scope) (shape_vars s ++ scope') (λ x h. carried_more (shape_vars s) scope scope' x (covers_left (Carried scope scope') (code_uses (lean_code b)) (arms_uses (lean_arms as')) c x h)) f.1 n.1,
+      arms_formed as' scope scope' (covers_right (Carried scope scope') (code_uses (lean_code b)) (arms_uses (lean_arms as')) c) f.2 n.2,
+    )
+
+  bodies_formed : (qs : List Procedure) → AllOf (ProcedureFormed g) qs → AllOf (λ q. EachCode Any NoNodeTarget NoNodeVar BindsNothing q.body) qs → AllOf (ProcedureFormed there) (map (rewritten_procedure lean_code) qs)
+  bodies_formed [] f n = tt
+  bodies_formed (q ∷ qs) f n = (code_formed q.body (params_scope q) (numbers_of q.params) (λ x h i. i) f.0 n.0, bodies_formed qs f.1 n.1)
+
+pub lean_formed : (g : Program) → Formed g → AllOf (λ q. EachCode Any NoNodeTarget NoNodeVar BindsNothing q.body) g.procs → Formed (lean g)
+lean_formed g f n =
+    let procs : List Procedure = map (rewritten_procedure lean_code) g.procs in
+    let many : length procs ≡ length g.procs = length-map g.procs (rewritten_procedure lean_code) in
+    formed_with g procs many f (λ y. (let c : times y (procs_vars procs) ≤ times y (procs_vars g.procs) = procs_counts y g.procs in let o : times y (procs_vars g.procs) ≤ 1 = f.variables_once y in omega (arith, c, o)))
+    (same_sites g procs many (sites_stay g.procs) f.sites_once) (bodies_formed g procs many g.procs f.procedures n) (
+      rewritten_procedure lean_code f.start.0,
+      (slice_get-map (rewritten_procedure lean_code) g.procs g.start.0 ∙ ap (option_map (rewritten_procedure lean_code)) f.start.1, f.start.2),
+    )

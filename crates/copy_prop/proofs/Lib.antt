@@ -1,0 +1,11 @@
+pub mod Used
+pub mod Bound
+pub mod LeanSame
+pub mod Held
+pub mod Via
+pub mod ResolvedSame
+pub mod ResolvedFormed
+pub mod LeanFormed
+pub mod Whole
+pub mod Loops
+pub mod Backward

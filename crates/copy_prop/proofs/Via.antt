@@ -1,0 +1,143 @@
+-- What the second program has of the first one's variables, where copies are looked up in the table.
+use Rattle.std.proofs.Common.{◌≡◌, ℕ, ◌+◌, ◌≤◌, Bool, true, false, ◌&&◌, List, [], ◌∷◌, ◌++◌, Option, Some, None, refl, sym, ap, ◌∙◌, subst, arith}
+use Rattle.grin_syntax.specs.declared.program.Cell.{Cell}
+use Rattle.grin_syntax.specs.declared.program.Word as W
+use Rattle.grin_syntax.specs.declared.program.Word.TheVariants.{Lit, Var, Global, TagWord}
+use Rattle.grin_syntax.specs.declared.program.Val as V
+use Rattle.grin_syntax.specs.declared.program.Val.TheVariants.{NodeVar, Node, Vector, One}
+use Rattle.grin_syntax.specs.Tree.{Program}
+use Rattle.grin_syntax.specs.Binders.{times}
+use Rattle.grin_syntax.specs.Formed.{AllOf, Scope, InScope, with_words, WordFormed, ValFormed, CellFormed}
+use Rattle.grin_syntax.proofs.Counted.{times_append}
+use Rattle.grin_meaning.specs.Values as value
+use Rattle.grin_meaning.specs.Values.{Datum, Value, words, Env, HeapCell, and_then, only_word, Binding, with_vars, made_node, as_node, word_of, words_of, value_of, node_of}
+use Rattle.grin_meaning.specs.Run.{cells_of}
+use Rattle.grin_meaning.specs.Checks.{is_none_or, is_filled, fills, all_fill}
+use Rattle.grin_meaning.specs.Names.{WordOk, WordsOk, ValOk, CellsOk}
+use Rattle.grin_meaning.specs.Ready.{NoNodeVar}
+use Rattle.grin_meaning.proofs.Plain.{Has}
+use Rattle.copy_prop.specs.Lean.{stands}
+use Rattle.copy_prop.specs.Resolved.{Table, entry, word_for, as_word, as_words, as_val, as_cells}
+use Rattle.copy_prop.proofs.Used.{stands_in, absent_out}
+use Rattle.copy_prop.proofs.Bound.{names, others_stay, bound_alike}
+use Rattle.copy_prop.proofs.Held.{as_scope, Held}
+
+-- ---- what a formed piece names is in scope
+
+module _ (g : Program) (scope : Scope) where
+  pub word_ok : (a : W.Word) → WordFormed g scope a → WordOk (InScope scope.words) a
+  word_ok (Var x) f = f
+  word_ok (Lit k) f = tt
+  word_ok (Global i) f = tt
+  word_ok (TagWord t) f = tt
+
+  pub words_ok : (ws : List W.Word) → AllOf (WordFormed g scope) ws → WordsOk (InScope scope.words) ws
+  words_ok [] f = tt
+  words_ok (a ∷ ws) f = (word_ok a f.0, words_ok ws f.1)
+
+  pub val_ok : (v : V.Val) → NoNodeVar v → ValFormed g scope v → ValOk (InScope scope.words) v
+  val_ok (NodeVar x) n f = absurd n
+  val_ok (Node t ws) n f = words_ok ws f.1
+  val_ok (Vector ws) n f = words_ok ws f
+  val_ok (One a) n f = word_ok a f
+
+  pub cells_ok : (cs : List Cell) → AllOf (λ c. NoNodeVar c.val) cs → AllOf (CellFormed g scope) cs → CellsOk (InScope scope.words) cs
+  cells_ok [] n f = tt
+  cells_ok (c ∷ cs) n f = (val_ok c.val n.0 f.0, cells_ok cs n.1 f.1)
+
+-- ---- looked up
+
+module _ (g : Program) (k : Table) (env' : Env) where
+  abbrev pub looked_up : Option W.Word → ℕ → Option Value
+  looked_up None x = env' x
+  looked_up (Some w) x = and_then (word_of g env' w) (λ d. Some (words (d ∷ [])))
+
+  -- each variable by what stands for it
+  abbrev pub via : Env
+  via = λ x. looked_up (entry k x) x
+
+  one_word : (o : Option Datum) → o ≡ and_then (and_then o (λ d. Some (words (d ∷ [])))) only_word
+  one_word None = refl
+  one_word (Some d) = refl
+
+  pub word_via : (a : W.Word) → word_of g env' (as_word k a) ≡ word_of g via a
+  word_via (Var x) = go (entry k x.0)
+    where
+      go : (o : Option W.Word) → word_of g env' (word_for x o) ≡ and_then (looked_up o x.0) only_word
+      go None = refl
+      go (Some w) = one_word (word_of g env' w)
+  word_via (Lit i) = refl
+  word_via (Global i) = refl
+  word_via (TagWord t) = refl
+
+  pub words_via : (ws : List W.Word) → words_of g env' (as_words k ws) ≡ words_of g via ws
+  words_via [] = refl
+  words_via (a ∷ ws) = λ i. and_then (word_via a i) (λ b. and_then (words_via ws i) (λ bs. Some (b ∷ bs)))
+
+  pub value_via : (v : V.Val) → NoNodeVar v → value_of g env' (as_val k v) ≡ value_of g via v
+  value_via (NodeVar x) n = absurd n
+  value_via (Node t ws) n = ap (λ o. and_then o (λ ds. and_then (made_node g t.0 ds) (λ m. Some (value.node m)))) (words_via ws)
+  value_via (Vector ws) n = ap (λ o. and_then o (λ ds. Some (words ds))) (words_via ws)
+  value_via (One a) n = ap (λ o. and_then o (λ d. Some (words (d ∷ [])))) (word_via a)
+
+  pub node_via : (v : V.Val) → NoNodeVar v → node_of g env' (as_val k v) ≡ node_of g via v
+  node_via v n = ap (λ o. and_then o (as_node g)) (value_via v n)
+
+  pub cells_via : (cs : List Cell) → AllOf (λ c. NoNodeVar c.val) cs → cells_of g env' (as_cells k cs) ≡ cells_of g via cs
+  cells_via [] n = refl
+  cells_via (c ∷ cs) n = λ i. and_then (and_then (node_via c.val n.0 i) (λ m. Some (record { site = c.site.0; node = m }))) (λ b. and_then (cells_via cs n.1 i) (λ bs. Some (b ∷ bs)))
+
+  pub fills_via : (v : V.Val) → NoNodeVar v → fills g env' (as_val k v) ≡ fills g via v
+  fills_via (NodeVar x) n = absurd n
+  fills_via (Node t ws) n = refl
+  fills_via (Vector ws) n = ap (λ o. is_none_or o (is_filled g)) (words_via ws)
+  fills_via (One a) n = refl
+
+  pub all_fill_via : (cs : List Cell) → AllOf (λ c. NoNodeVar c.val) cs → all_fill g env' (as_cells k cs) ≡ all_fill g via cs
+  all_fill_via [] n = refl
+  all_fill_via (c ∷ cs) n = λ i. fills_via c.val n.0 i && all_fill_via cs n.1 i
+
+-- ---- what the variables in scope have
+
+module _ (g : Program) where
+  -- the second environment has what the first has
+  abbrev pub St : Table → Scope → Env → Env → Type 0
+  St k scope env env' = Has (InScope scope.words) env (via g k env')
+
+  pub st_entries : (k k' : Table) (scope : Scope) (env env' : Env) → ((x : ℕ) → InScope scope.words x → entry k' x ≡ entry k x) → St k scope env env' → St k' scope env env'
+  st_entries k k' scope env env' same st x v i h = ap (λ o. looked_up g k env' o x) (same x i) ∙ st x v i h
+
+  -- a word without these variables
+  word_stays : (bs : List Binding) (env' : Env) (scope' : List ℕ) (w : W.Word) → ((y : ℕ) → InScope scope' y → stands y (names bs) ≡ false) → WordFormed g (as_scope scope') w → word_of g (with_vars bs env') w ≡ word_of g env' w
+  word_stays bs env' scope' (Var x) out f = ap (λ o. and_then o only_word) (others_stay bs env' x.0 (out x.0 f))
+  word_stays bs env' scope' (Lit i) out f = refl
+  word_stays bs env' scope' (Global i) out f = refl
+  word_stays bs env' scope' (TagWord t) out f = refl
+
+  -- both bind the same new variables
+  pub st_more : (k : Table) (scope : Scope) (scope' ts ys : List ℕ) (bs : List Binding) (env env' : Env) → Held g k scope scope' (ts ++ ys) → names bs ≡ ts → St k scope env env' → St k (with_words ts scope) (with_vars bs env) (with_vars bs env')
+  st_more k scope scope' ts ys bs env env' h n st x v i e = go (stands x (names bs)) refl
+    where
+      new : (y : ℕ) → InScope scope' y → (b : Bool) → stands y (names bs) ≡ b → b ≡ false
+      new y j false q = refl
+      new y j true q =
+          let t : InScope ts y = subst (λ l. InScope l y) n (stands_in y (names bs) q) in
+          let b : times y scope' ≤ times y scope.words = h.below y in
+          let o : times y scope.words + times y (ts ++ ys) ≤ 1 = h.once y in
+          let a : times y (ts ++ ys) ≡ times y ts + times y ys = times_append y ts ys in
+          absurd (omega (arith, j, t, b, o, a))
+
+      entry_by : (o : Option W.Word) → entry k x ≡ o → stands x (names bs) ≡ false → InScope scope.words x → looked_up g k (with_vars bs env') o x ≡ looked_up g k env' o x
+      entry_by None q s j = others_stay bs env' x s
+      entry_by (Some w) q s j = ap (λ o. and_then o (λ d. Some (words (d ∷ [])))) (word_stays bs env' scope' w (λ y l. new y l (stands y (names bs)) refl)
+          (subst (λ o. WordFormed g (as_scope scope') (word_for (record { 0 = x }) o)) q (h.range (record { 0 = x }) j)))
+
+      go : (b : Bool) → stands x (names bs) ≡ b → via g k (with_vars bs env') x ≡ Some v
+      go true q =
+          let t : InScope ts x = subst (λ l. InScope l x) n (stands_in x (names bs) q) in
+          let none : entry k x ≡ None = h.fresh x (let a : times x (ts ++ ys) ≡ times x ts + times x ys = times_append x ts ys in omega (arith, t, a)) in
+          ap (λ o. looked_up g k (with_vars bs env') o x) none ∙ sym (bound_alike bs env env' x q) ∙ e
+      go false q =
+          let z : times x ts ≡ 0 = subst (λ l. times x l ≡ 0) n (absent_out x (names bs) q) in
+          let j : InScope scope.words x = (let a : times x (ts ++ scope.words) ≡ times x ts + times x scope.words = times_append x ts scope.words in omega (arith, i, z, a)) in
+          entry_by (entry k x) refl q j ∙ st x v j (sym (others_stay bs env x q) ∙ e)

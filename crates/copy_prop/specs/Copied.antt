@@ -1,0 +1,54 @@
+-- The shape of a program without copies and idle statements.
+use Rattle.std.specs.Prelude.{ℕ, ◌≢◌}
+use Rattle.grin_syntax.specs.declared.program.Val.TheVariants.{One}
+use Rattle.grin_syntax.specs.declared.program.Target.{Target}
+use Rattle.grin_syntax.specs.declared.program.Target.TheVariants as to
+use Rattle.grin_syntax.specs.Binders.{target_vars}
+use Rattle.grin_syntax.specs.Tree.{Code, end, store, bind, Act, unit, fetch, fetch_word, prim, case, nested, Arms, no_arm, arm, Program}
+use Rattle.grin_syntax.specs.Formed.{AllOf}
+use Rattle.grin_meaning.specs.Names.{CodeOk}
+use Rattle.pass_ground.specs.Vectors.{StaysOfVectors}
+
+-- one variable is given one word
+abbrev pub IsCopy : Target → Act → Type 0
+IsCopy (to.One x) (unit (One w)) = Unit {0}
+IsCopy _ _ = ⊥
+
+-- an operation that changes nothing
+abbrev pub IsStill : Act → Type 0
+IsStill (unit v) = Unit {0}
+IsStill (fetch a) = Unit {0}
+IsStill (fetch_word a i) = Unit {0}
+IsStill (prim p a b) = Unit {0}
+IsStill _ = ⊥
+
+-- no word, node or vector of a block names x
+abbrev pub Unused : Code → ℕ → Type 0
+Unused b x = CodeOk (λ y. y ≢ x) b
+
+-- a statement before a block: it is no copy, and where it changes nothing the block uses what it binds
+pub record IsNeeded (t : Target) (o : Act) (b : Code) : Type 0 where
+  pub no_copy : IsCopy t o → ⊥
+  pub not_idle : IsStill o → AllOf (Unused b) (target_vars t) → ⊥
+
+-- each bound operation of a piece, with its target and the block after it, is of some kind
+module _ (Ok : Target → Act → Code → Type 0) where
+  unfoldable mutual
+    pub BoundAct : Act → Type 0
+    BoundAct (case v as') = BoundArms as'
+    BoundAct (nested b) = BoundCode b
+    BoundAct _ = Unit {0}
+
+    pub BoundCode : Code → Type 0
+    BoundCode (end o) = BoundAct o
+    BoundCode (store cs b) = BoundCode b
+    BoundCode (bind t o b) = Ok t o b × BoundAct o × BoundCode b
+
+    pub BoundArms : Arms → Type 0
+    BoundArms no_arm = Unit {0}
+    BoundArms (arm s b as') = BoundCode b × BoundArms as'
+
+-- each statement of h is needed, and h is as good an input for a pass as g
+pub record Copied (g h : Program) : Type 0 where
+  pub stays : StaysOfVectors g h
+  pub needed : AllOf (λ q. BoundCode IsNeeded q.body) h.procs

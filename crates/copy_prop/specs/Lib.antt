@@ -1,0 +1,4 @@
+pub mod Resolved
+pub mod Lean
+pub mod Latest
+pub mod Copied

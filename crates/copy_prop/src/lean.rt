@@ -1,0 +1,169 @@
+// Blocks without idle statements.
+#![tactic(auto, using(grin_syntax::proofs::TreeOf::tree_of), unfolding(crate::specs::Lean::lean_act, crate::specs::Lean::act_uses))]
+
+ghost use Rattle.std.specs.Prelude.{◌≡◌, ◌++◌, List, length, drop, ℕ, IfOk, OnOk};
+ghost use Rattle.grin_syntax.specs.Tree.{Code, act_of, before_of, arm_of, code_of};
+ghost use Rattle.copy_prop.specs.Resolved.{kept};
+ghost use Rattle.copy_prop.specs.Lean.{act_uses, code_uses, is_still, is_idle, lean_act, lean_code};
+
+use crate::uses::Uses;
+use grin_syntax::{Alt, Block, Op, Stmt, Target};
+use seq::Seq;
+use std::alloc::{AllocError, Global};
+
+#[cycle(thin)]
+#[tactic(auto, using(grin_syntax::proofs::TreeOf::tree_of, crate::proofs::Backward::case_leans, crate::proofs::Backward::case_used, crate::proofs::Used::append_again, crate::proofs::Used::append_none), unfolding(crate::specs::Lean::lean_act, crate::specs::Lean::act_uses))]
+fn thin_op(uses: &mut Uses, alloc: Global, op: Op) -> Result<Op, AllocError>
+    ensures tree { IfOk result (λ o. act_of o ≡ lean_act (act_of op)) }
+    ensures uses { OnOk result (uses.new ≡ uses.old ++ act_uses (lean_act (act_of op))) }
+{
+    match op {
+        Op::Unit(v) => {
+            uses.note_val(&v)?;
+            Ok(Op::Unit(v))
+        }
+        Op::Fetch(w) => {
+            uses.note_word(w)?;
+            Ok(Op::Fetch(w))
+        }
+        Op::FetchWord(w, i) => {
+            uses.note_word(w)?;
+            Ok(Op::FetchWord(w, i))
+        }
+        Op::Update(w, v) => {
+            uses.note_word(w)?;
+            uses.note_val(&v)?;
+            Ok(Op::Update(w, v))
+        }
+        Op::Eval(w) => {
+            uses.note_word(w)?;
+            Ok(Op::Eval(w))
+        }
+        Op::Apply(v, w) => {
+            uses.note_val(&v)?;
+            uses.note_word(w)?;
+            Ok(Op::Apply(v, w))
+        }
+        Op::Call(f, words) => {
+            uses.note_words(words.as_slice())?;
+            Ok(Op::Call(f, words))
+        }
+        Op::Prim(p, a, b) => {
+            uses.note_word(a)?;
+            uses.note_word(b)?;
+            Ok(Op::Prim(p, a, b))
+        }
+        Op::Read => Ok(Op::Read),
+        Op::Write(w) => {
+            uses.note_word(w)?;
+            Ok(Op::Write(w))
+        }
+        Op::Case(v, alts) => {
+            uses.note_val(&v)?;
+            let mut made = Seq::new(alloc);
+            for alt in alts.into_vec() {
+                made.push(thin_alt(uses, alloc, alt)?)?;
+            }
+            Ok(Op::Case(v, made))
+        }
+        Op::Nested(block) => {
+            let block = thin_block(uses, alloc, Box::into_inner(block))?;
+            Ok(Op::Nested(Box::new(alloc, block)?))
+        }
+        Op::Fail => Ok(Op::Fail),
+    }
+}
+
+#[cycle(thin)]
+fn thin_alt(uses: &mut Uses, alloc: Global, alt: Alt) -> Result<Alt, AllocError>
+    ensures tree { IfOk result (λ a. arm_of a ≡ ((arm_of alt).0, lean_code (arm_of alt).1)) }
+    ensures uses { OnOk result (uses.new ≡ uses.old ++ code_uses (lean_code (arm_of alt).1)) }
+{
+    Ok(Alt {
+        pattern: alt.pattern,
+        body: thin_block(uses, alloc, alt.body)?,
+    })
+}
+
+// A statement, or none where it is idle. What comes after it was used after the first `from` uses.
+#[cycle(thin)]
+#[tactic(auto, using(grin_syntax::proofs::TreeOf::tree_of, crate::proofs::Backward::stored_used), unfolding(crate::specs::Lean::lean_act, crate::specs::Lean::act_uses))]
+fn thin_stmt(
+    uses: &mut Uses,
+    alloc: Global,
+    from: u64,
+    stmt: Stmt,
+) -> Result<Option<Stmt>, AllocError>
+    ensures tree { IfOk result (λ s. (c : Code) (m : List ℕ) → length m ≡ from → uses.old ≡ m ++ code_uses (lean_code c) → kept s (lean_code c) ≡ lean_code (before_of stmt c)) }
+    ensures uses { IfOk result (λ s. (c : Code) (m : List ℕ) → uses.old ≡ m ++ code_uses c → uses.new ≡ m ++ code_uses (kept s c)) }
+{
+    match stmt {
+        Stmt::Store(cells) => {
+            uses.note_cells(cells.as_slice())?;
+            Ok(Some(Stmt::Store(cells)))
+        }
+        Stmt::Bind(target, op) => {
+            if idle(uses, from, &target, &op) {
+                Ok(None)
+            } else {
+                Ok(Some(Stmt::Bind(target, thin_op(uses, alloc, op)?)))
+            }
+        }
+    }
+}
+
+/// A block without its idle statements. It is walked from its end, so that what comes after a statement is known.
+#[cycle(thin)]
+pub(crate) fn thin_block(uses: &mut Uses, alloc: Global, block: Block) -> Result<Block, AllocError>
+    ensures tree { IfOk result (λ b. code_of b ≡ lean_code (code_of block)) }
+    ensures uses { OnOk result (uses.new ≡ uses.old ++ code_uses (lean_code (code_of block))) }
+{
+    let from = uses.count();
+    let last = thin_op(uses, alloc, Box::into_inner(block.last))?;
+    let mut stmts = block.stmts.into_vec();
+    stmts.reverse();
+    let mut made = Vec::new(alloc);
+    for stmt in stmts {
+        match thin_stmt(uses, alloc, from, stmt)? {
+            Some(stmt) => made.push(stmt)?,
+            None => {}
+        }
+    }
+    made.reverse();
+    Ok(Block {
+        stmts: Seq::from_vec(made),
+        last: Box::new(alloc, last)?,
+    })
+}
+
+// Whether a bound operation changes nothing, and none of its target's variables was used after the first `from` uses.
+fn idle(uses: &Uses, from: u64, target: &Target, op: &Op) -> bool
+    ensures { result ≡ is_idle target.now (act_of op.now) (drop from uses.now) }
+{
+    if still(op) {
+        uses.spare(from, target)
+    } else {
+        false
+    }
+}
+
+// Whether an operation changes nothing.
+fn still(op: &Op) -> bool
+    ensures { result ≡ is_still (act_of op.now) }
+{
+    match op {
+        Op::Unit(_) => true,
+        Op::Fetch(_) => true,
+        Op::FetchWord(_, _) => true,
+        Op::Prim(_, _, _) => true,
+        Op::Update(_, _) => false,
+        Op::Eval(_) => false,
+        Op::Apply(_, _) => false,
+        Op::Call(_, _) => false,
+        Op::Read => false,
+        Op::Write(_) => false,
+        Op::Case(_, _) => false,
+        Op::Nested(_) => false,
+        Op::Fail => false,
+    }
+}

@@ -1,0 +1,12 @@
+//! A pass: copies of words are replaced by the words, and statements that change nothing and bind what nobody uses go.
+#![tactic(auto)]
+
+mod lean;
+mod pass;
+mod resolve;
+mod uses;
+
+pub use pass::Copies;
+
+#[cfg(test)]
+mod tests;

@@ -1,0 +1,76 @@
+// The pass.
+#![tactic(auto)]
+
+ghost use Rattle.std.specs.Prelude.{◌≡◌, map, IfOk};
+ghost use Rattle.grin_syntax.specs.Tree.{program_of};
+ghost use Rattle.pass_ground.specs.Vectors.{OfVectors};
+ghost use Rattle.copy_prop.specs.Resolved.{resolved};
+ghost use Rattle.copy_prop.specs.Lean.{lean};
+ghost use Rattle.copy_prop.specs.Copied.{Copied};
+
+use crate::lean::thin_block;
+use crate::resolve::Aliases;
+use crate::uses::Uses;
+use grin_meaning::Pass;
+use grin_syntax::{Grin, Proc};
+use seq::Seq;
+use std::alloc::{AllocError, Global};
+
+/// Copies go: where `x <- unit W` gives one variable one word, the word stands for the variable from there on. So do units,
+/// fetches and primitives that bind what nobody uses. Stores, calls, reads, writes and updates stay. It takes well-formed
+/// programs whose nodes stand in vectors.
+pub struct Copies;
+
+impl Pass for Copies {
+    ghost takes = { λ g. OfVectors (program_of g) };
+
+    ghost gives = { λ g h. Copied (program_of g) (program_of h) };
+
+    fn apply(&self, alloc: Global, g: Grin) -> Result<Grin, AllocError> {
+        let h = without_copies(alloc, g)?;
+        let k = without_idle(alloc, h)?;
+        Ok(k)
+    }
+}
+
+pub(crate) fn without_copies(alloc: Global, g: Grin) -> Result<Grin, AllocError>
+    ensures { IfOk result (λ h. program_of h ≡ resolved (program_of g)) }
+{
+    let mut aliases = Aliases::new(alloc);
+    let mut procs = Seq::new(alloc);
+    for proc in g.procs.into_vec() {
+        procs.push(Proc {
+            name: proc.name,
+            params: proc.params,
+            body: aliases.block(alloc, proc.body)?,
+        })?;
+    }
+    Ok(Grin {
+        tags: g.tags,
+        globals: g.globals,
+        procs,
+        start: g.start,
+        argument: g.argument,
+    })
+}
+
+pub(crate) fn without_idle(alloc: Global, g: Grin) -> Result<Grin, AllocError>
+    ensures { IfOk result (λ h. program_of h ≡ lean (program_of g)) }
+{
+    let mut uses = Uses::new(alloc);
+    let mut procs = Seq::new(alloc);
+    for proc in g.procs.into_vec() {
+        procs.push(Proc {
+            name: proc.name,
+            params: proc.params,
+            body: thin_block(&mut uses, alloc, proc.body)?,
+        })?;
+    }
+    Ok(Grin {
+        tags: g.tags,
+        globals: g.globals,
+        procs,
+        start: g.start,
+        argument: g.argument,
+    })
+}

@@ -1,0 +1,115 @@
+//! Texts whose images are put, and whose code is listed.
+
+use crate::outside::{Ended, LISTS, Object, Outside};
+use crate::texts::QUEENS;
+use std::alloc::{AllocError, Global};
+use std::fmt::Write;
+use std::test::Fail;
+
+/// A program that prints two bytes.
+const GREETS: &str = "data Nil 0; data Cons 2; main = Cons 72 (Cons 105 Nil);";
+
+/// The words that build an image with the default heap and stack.
+const BUILD: [&str; 3] = ["grinc", "build", "a"];
+
+/// What these words answer where the file holds this text.
+fn built(alloc: Global, text: &str, words: &[&str]) -> Result<Ended, AllocError> {
+    Outside::of(text.as_bytes()).run(alloc, words)
+}
+
+/// What `exec` of an image answers.
+fn executed(alloc: Global, image: &[u8]) -> Result<Ended, AllocError> {
+    Outside::of(image).run(alloc, &["grinc", "exec", "a"])
+}
+
+#[test]
+fn images_that_are_executed(rt: HostRuntime) -> Result<(), Fail> {
+    let rows: [(&str, &[&str], u8, &str, &str); 5] = [
+        ("main = Nil;", &BUILD, 0, "", ""),
+        ("main = Cons 72 (Cons 105 Nil);", &BUILD, 0, "Hi", ""),
+        ("main = Cons 65 1;", &BUILD, 7, "A", "grinc: exited 3\n"),
+        (
+            "main = Cons 72 (Cons 105 Nil);",
+            &["grinc", "build", "a", "--heap", "1"],
+            7,
+            "",
+            "grinc: exited 4\n",
+        ),
+        ("main = main;", &BUILD, 7, "", "grinc: exited 5\n"),
+    ];
+    for (text, words, code, out, err) in rows {
+        let text = format!(in rt.alloc(); "{LISTS}{text}")?;
+        let image = built(rt.alloc(), text.as_str(), words)?;
+        assert!(rt; image.took(0, image.bytes().len()), "{text}");
+        let shown = executed(rt.alloc(), image.bytes())?;
+        assert!(rt; shown.is(code, out, err), "{text}");
+    }
+    Ok(())
+}
+
+#[test]
+fn parts_of_an_image(rt: HostRuntime) -> Result<(), Fail> {
+    let words = ["grinc", "build", "a", "--heap", "7", "--stack", "1027"];
+    let image = built(rt.alloc(), GREETS, &words)?;
+    // The second and the third program header: a heap of 7 cells of three words each, and the stack
+    // rounded down to whole words, which ends at 0x78000000.
+    let rows: [(usize, &[u8]); 6] = [
+        (0, &[0x7F, b'E', b'L', b'F', 1, 1, 1, 0]),
+        (16, &[2, 0, 0xF3, 0, 1, 0, 0, 0, 0, 0, 1, 0, 52, 0, 0, 0]),
+        (92, &[0, 0, 0, 0x50]),
+        (104, &[84, 0, 0, 0, 6, 0, 0, 0]),
+        (124, &[0, 0xFC, 0xFF, 0x77]),
+        (136, &[0, 4, 0, 0, 6, 0, 0, 0]),
+    ];
+    for (at, bytes) in rows {
+        let part = image.bytes().get(at..).ok_or("a short image")?;
+        assert!(rt; part.starts_with(bytes), "{at}");
+    }
+    // Each put takes 4,096 bytes or what is left.
+    for (call, bytes) in [(0, 0), (1, 4096)] {
+        let outside = Outside {
+            file: GREETS.as_bytes(),
+            input: b"",
+            failing: Some((Object::Out, call)),
+        };
+        let shown = outside.run(rt.alloc(), &words)?;
+        let front = image.bytes().get(..bytes).ok_or("a short image")?;
+        assert!(rt; shown.is_bytes(10, front, "grinc: write fault\n"), "{call}");
+    }
+    Ok(())
+}
+
+/// The front of the line of a word, of which these are the bytes.
+fn front(alloc: Global, address: u32, word: &[u8]) -> Result<String, AllocError> {
+    let mut front = String::new(alloc);
+    write!(front, "{address:08x} ")?;
+    for byte in word.iter().rev() {
+        write!(front, "{byte:02x}")?;
+    }
+    front.push_str(" ")?;
+    Ok(front)
+}
+
+#[test]
+fn code_of_the_default_image(rt: HostRuntime) -> Result<(), Fail> {
+    for text in [GREETS, QUEENS] {
+        let image = built(rt.alloc(), text, &BUILD)?;
+        let words = ["grinc", "list", "a", "--after", "code"];
+        let listing = Outside::of(text.as_bytes()).run(rt.alloc(), &words)?;
+        assert!(rt; listing.took(0, listing.bytes().len()));
+        let mut lines = listing.bytes().split(|byte| *byte == b'\n');
+        let code = image.bytes().get(4096..).ok_or("an image without code")?;
+        let mut address: u32 = 0x0001_0000;
+        for word in code.chunks(4) {
+            let front = front(rt.alloc(), address, word)?;
+            let line = lines.next().ok_or("a word without a line")?;
+            assert!(rt; line.starts_with(front.as_bytes()), "{front}");
+            // The word's instruction stands after it.
+            assert!(rt; line.len() > front.len(), "{front}");
+            address = address.wrapping_add(4);
+        }
+        assert_eq!(rt; lines.next(), Some(&b""[..]));
+        assert!(rt; lines.next().is_none());
+    }
+    Ok(())
+}

@@ -1,0 +1,44 @@
+//! Generated texts: their summaries, and that they are in canonical form.
+
+use crate::outside::Outside;
+use generator::generated;
+use std::test::Fail;
+
+#[test]
+fn summaries_of_generated_texts(rt: HostRuntime) -> Result<(), Fail> {
+    // The numbers but those of the second row were worked out by a script that makes the texts and
+    // evaluates them.
+    let rows = [
+        ("1", "1", "text 149 functions 5 size 34 output 1 sum 103\n"),
+        ("1", "2", "text 202 functions 7 size 48 output 2 sum 103\n"),
+        (
+            "1",
+            "200",
+            "text 13930 functions 403 size 3126 output 200 sum 25022\n",
+        ),
+        (
+            "2147483647",
+            "2",
+            "text 170 functions 7 size 42 output 2 sum 167\n",
+        ),
+    ];
+    for (seed, size, summary) in rows {
+        let words = ["grinc", "gen", "--seed", seed, "--size", size];
+        for _ in 0..2 {
+            let shown = Outside::of(b"").run(rt.alloc(), &words)?;
+            assert!(rt; shown.is(0, summary, ""), "{seed} {size}");
+        }
+    }
+    Ok(())
+}
+
+#[test]
+fn canonical_form_of_generated_texts(rt: HostRuntime) -> Result<(), Fail> {
+    for (seed, size) in [(1, 1), (1, 2), (2, 20)] {
+        let text = generated(rt.alloc(), seed, size)?;
+        let words = ["grinc", "list", "a", "--after", "read"];
+        let shown = Outside::of(text.as_slice()).run(rt.alloc(), &words)?;
+        assert!(rt; shown.is_bytes(0, text.as_slice(), ""), "{seed} {size}");
+    }
+    Ok(())
+}

@@ -1,0 +1,115 @@
+-- A program with its fetches split keeps the program.
+use Rattle.std.proofs.Common.{◌≡◌, ℕ, zero, suc, pos, ◌+◌, ◌<◌, ◌≤◌, Bool, true, false, max, List, [], ◌∷◌, ◌++◌, map, length, Option, Some, None, slice_get, refl, sym, ap, ◌∙◌, subst, arith}
+use Rattle.grin_syntax.specs.declared.program.VarId.{VarId}
+use Rattle.grin_syntax.specs.declared.program.Word.TheVariants.{Lit}
+use Rattle.grin_syntax.specs.Tree.{Procedure, Program}
+use Rattle.grin_syntax.specs.Binders.{times, numbers_of, code_vars, procs_vars}
+use Rattle.grin_syntax.specs.Formed.{AllOf, InScope, params_scope, ProcedureFormed, Formed}
+use Rattle.grin_syntax.specs.Fresh.{past_vars, past_code, past_procs}
+use Rattle.grin_syntax.proofs.Counted.{times_append}
+use Rattle.grin_syntax.proofs.Unbound.{past_vars_none, past_code_none}
+use Rattle.grin_meaning.specs.Values.{Datum, Value, HeapCell, Binding, with_vars, one_each}
+use Rattle.grin_meaning.specs.Run.{Calls}
+use Rattle.grin_meaning.specs.Checks.{is_given}
+use Rattle.grin_meaning.specs.Ready.{Any, Inlined, NoNodeTarget, NoNodeVar, BindsNothing, EachCode, IsVectorised}
+use Rattle.grin_meaning.specs.Keeps.{Keeps}
+use Rattle.grin_meaning.specs.Looking.{look, NeverMissed}
+use Rattle.grin_meaning.specs.Follows.{Same, same}
+use Rattle.grin_meaning.specs.Full.{FullState}
+use Rattle.grin_meaning.proofs.Back.{CallsBack}
+use Rattle.grin_meaning.proofs.Fullness.{nodes_full}
+use Rattle.grin_meaning.proofs.Beside.{no_deeper, Likewise, Seen}
+use Rattle.grin_meaning.proofs.Rules.{CallsFollow}
+use Rattle.grin_meaning.proofs.Procedures.{nothing, BodyFollows, BodiesFollow, no_more, one_more, side_by_side, run_follows}
+use Rattle.grin_meaning.proofs.KeptBy.{likewise_kept, looking_kept}
+use Rattle.fetch_passes.specs.Uses.{code_uses}
+use Rattle.fetch_passes.specs.Windows.{outside}
+use Rattle.fetch_passes.specs.Split.{made_code, split_code, split_procs, split}
+use Rattle.fetch_passes.proofs.Near.{itself, Near}
+use Rattle.fetch_passes.proofs.Fetching.{plan_of, it}
+use Rattle.fetch_passes.proofs.Simulated.{code_goes}
+
+pub split_count : (g : Program) (n : ℕ) (qs : List Procedure) → length (split_procs g.tags n qs) ≡ length qs
+split_count g n [] = refl
+split_count g n (q ∷ qs) = ap suc (split_count g (n + made_code g.tags [] q.body) qs)
+
+-- what a piece binds is below the first variable that is past it
+pub below : (p : ℕ) (xs : List ℕ) → ((y : ℕ) → p ≤ y → times y xs ≡ 0) → (y : ℕ) → InScope xs y → y < p
+below p xs f y i = go (times y xs) refl (f y)
+  where
+    go : (m : ℕ) → times y xs ≡ m → (p ≤ y → times y xs ≡ 0) → y < p
+    go zero q k = absurd (omega (arith, q, i))
+    go (suc m) q k = less (λ l. omega (arith, q, k l))
+      where
+        less : (p ≤ y → ⊥) → y < p
+        less n = omega (arith, n)
+
+module _ (g : Program) (formed : Formed g) (never : NeverMissed g) (inlined : AllOf (λ q. EachCode Inlined Any Any Any q.body) g.procs) (bare : IsVectorised g) where
+  abbrev base : ℕ
+  base = past_procs g.procs
+
+  abbrev procs : List Procedure
+  procs = split_procs g.tags base g.procs
+
+  same_count : length procs ≡ length g.procs
+  same_count = split_count g base g.procs
+
+  module _ (c c' : Calls) (cb : CallsBack (FullState g) c) (cf : CallsFollow (plan_of g procs) c c') where
+    enters_too : (q : Procedure) (cells : List HeapCell) {xs xs' : List Datum} (bs : List Binding) → Same xs xs' → one_each q.params xs ≡ Some bs → (bs' : List Binding) × (one_each q.params xs' ≡ Some bs') × Near g (numbers_of q.params) [] [] (Lit (pos 0)) [] cells (with_vars bs nothing) (with_vars bs' nothing)
+    enters_too q cells bs (same {a = xs}) e = (bs, e, record { named = λ z d i l v w. w; waits = tt })
+
+    given_too : {v v' : Value} → Same v v' → Seen true (is_given g v) → Seen true (is_given g v') × Same v v'
+    given_too (same {a = v}) s = (s, same)
+
+    body_goes : (f n : ℕ) (q : Procedure) → base ≤ n → ProcedureFormed g q → EachCode Inlined Any Any Any q.body → EachCode Any NoNodeTarget NoNodeVar BindsNothing q.body → ((y : ℕ) → times y (numbers_of q.params) + times y (code_vars q.body) ≤ 1) → past_vars q.params ≤ base → past_code q.body ≤ base
+        → BodyFollows (it g procs c c' cb cf) f q (record q { body = split_code g.tags [] (Lit (pos 0)) [] n q.body })
+    body_goes f n q le fq iq bq once pq pb = record {
+      R = λ cells. Near g (numbers_of q.params) [] [] (Lit (pos 0)) [] cells;
+      V = Same;
+      enters = λ cells xs xs' bs a e known. enters_too q cells bs a e;
+      body = code_goes g base procs same_count c c' cb cf q.body (params_scope q) [] (Lit (pos 0)) [] n 0
+          (record {
+            low = λ y i. (let l : y < past_vars q.params = below (past_vars q.params) (numbers_of q.params) (λ y h. past_vars_none y q.params h) y i in omega (arith, l, pq));
+            sound = λ z. itself refl;
+            from = le;
+            held = λ y e. cc;
+            waiting = tt;
+          })
+          (record {
+            formed = fq;
+            inlined = iq;
+            bare = bq;
+            once = once;
+            below = λ y i. (let l : y < past_code q.body = below (past_code q.body) (code_vars q.body) (λ y h. past_code_none y q.body h) y i in omega (arith, l, pb));
+          })
+          (record { hidden = λ z e. cc; waits = λ z e. cc; tagged = λ z e. cc });
+      given = λ v v' u seen. given_too u seen;
+    }
+
+    bodies_go : (f n : ℕ) (qs : List Procedure) → base ≤ n → AllOf (ProcedureFormed g) qs → AllOf (λ q. EachCode Inlined Any Any Any q.body) qs → AllOf (λ q. EachCode Any NoNodeTarget NoNodeVar BindsNothing q.body) qs → ((y : ℕ) → times y (procs_vars qs) ≤ 1) → past_procs qs ≤ base
+        → BodiesFollow (it g procs c c' cb cf) f qs (split_procs g.tags n qs)
+    bodies_go f n [] le fq iq bq once past = no_more
+    bodies_go f n (q ∷ qs) le fq iq bq once past = one_more {f = f} {q = q} {r = record q { body = split_code g.tags [] (Lit (pos 0)) [] n q.body }} (body_goes f n q le fq.0 iq.0 bq.0 here (omega (arith, past)) (omega (arith, past)))
+        (bodies_go (suc f) (n + made_code g.tags [] q.body) qs (omega (arith, le)) fq.1 iq.1 bq.1 later (omega (arith, past)))
+      where
+        here : (y : ℕ) → times y (numbers_of q.params) + times y (code_vars q.body) ≤ 1
+        here y =
+            let o : times y ((numbers_of q.params ++ code_vars q.body) ++ procs_vars qs) ≤ 1 = once y in
+            let e : times y ((numbers_of q.params ++ code_vars q.body) ++ procs_vars qs) ≡ times y (numbers_of q.params ++ code_vars q.body) + times y (procs_vars qs) = times_append y (numbers_of q.params ++ code_vars q.body) (procs_vars qs) in
+            let f : times y (numbers_of q.params ++ code_vars q.body) ≡ times y (numbers_of q.params) + times y (code_vars q.body) = times_append y (numbers_of q.params) (code_vars q.body) in
+            omega (arith, o, e, f)
+
+        later : (y : ℕ) → times y (procs_vars qs) ≤ 1
+        later y =
+            let o : times y ((numbers_of q.params ++ code_vars q.body) ++ procs_vars qs) ≤ 1 = once y in
+            let e : times y ((numbers_of q.params ++ code_vars q.body) ++ procs_vars qs) ≡ times y (numbers_of q.params ++ code_vars q.body) + times y (procs_vars qs) = times_append y (numbers_of q.params ++ code_vars q.body) (procs_vars qs) in
+            omega (arith, o, e)
+
+  -- ---- the whole program
+
+  goes_likewise : (i : List ℕ) (n : ℕ) → Likewise no_deeper Same (look g i n) (look (split g) i n)
+  goes_likewise i n = run_follows (plan_of g procs) (λ c c' cb cf. bodies_go c c' cb cf 0 base g.procs (omega arith) formed.procedures inlined bare formed.variables_once (omega arith)) i n
+      same same (nodes_full g formed true i n).passed
+
+  pub split_kept : NeverMissed (split g) × Keeps g (split g)
+  split_kept = looking_kept g (split g) never (λ i n. likewise_kept no_deeper Same (look g i n) (look (split g) i n) (goes_likewise i n))

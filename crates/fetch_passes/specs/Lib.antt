@@ -1,0 +1,6 @@
+pub mod Uses
+pub mod Windows
+pub mod Names
+pub mod Split
+pub mod Fetched
+pub mod Placed

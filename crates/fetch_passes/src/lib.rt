@@ -1,0 +1,15 @@
+//! A pass: each fetch of a whole node becomes a fetch of its tag and fetches of the words that are used.
+#![tactic(auto)]
+
+mod ending;
+mod names;
+mod nodes;
+mod pass;
+mod split;
+mod uses;
+mod windows;
+
+pub use pass::Fetches;
+
+#[cfg(test)]
+mod tests;

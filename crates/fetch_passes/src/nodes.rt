@@ -1,0 +1,151 @@
+// The words of a node that is fetched: those that are fetched directly after its tag, and those that wait for the
+// alternatives of its case.
+#![tactic(auto, using(grin_syntax::proofs::TreeOf::tree_of))]
+
+ghost use Rattle.std.specs.Prelude.{◌≡◌, ◌++◌, [], ◌∷◌, cond, ◌+◌, suc, length, map, IfOk, OnOk};
+ghost use Rattle.grin_syntax.specs.declared.program.Word.TheVariants.{Lit};
+ghost use Rattle.grin_syntax.specs.Tree.{Code, end, act_of, before_of, code_of, all_before};
+ghost use Rattle.grin_syntax.specs.Fresh.{variable};
+ghost use Rattle.fetch_passes.specs.Uses.{code_uses};
+ghost use Rattle.fetch_passes.specs.Windows.{outside};
+ghost use Rattle.fetch_passes.specs.Names.{hiding, named_if};
+ghost use Rattle.fetch_passes.specs.Split.{fetched_if, word_fetches, waits_of, front, front_names};
+
+use crate::names::{Standing, Wait};
+use crate::uses::block_uses;
+use crate::windows::outside;
+use grin_syntax::fresh::Fresh;
+use grin_syntax::{Block, Op, Stmt, Target, VarId, Word};
+use seq::Seq;
+use std::alloc::{AllocError, Global};
+
+// A fetch of a word, where it is wanted.
+fn fetched_if(
+    wanted: bool,
+    var: VarId,
+    cell: Word,
+    place: u32,
+    made: &mut Seq<Stmt>,
+) -> Result<(), AllocError>
+    ensures { OnOk result ((c : Code) → all_before (map before_of made.new) c ≡ all_before (map before_of made.old) (fetched_if wanted var cell place c)) }
+{
+    if wanted {
+        made.push(Stmt::Bind(Target::One(var), Op::FetchWord(cell, place)))?;
+    }
+    Ok(())
+}
+
+fn named_if(used: bool, var: VarId, by: VarId, names: &mut Seq<Standing>) -> Result<(), AllocError>
+    ensures { OnOk result (names.new ≡ named_if used var by.0 names.old) }
+{
+    if used {
+        names.push(Standing {
+            var,
+            word: Word::Var(by),
+        })?;
+    }
+    Ok(())
+}
+
+fn wait_unless(kept: bool, var: VarId, place: u32, waits: &mut Seq<Wait>) -> Result<(), AllocError>
+    ensures { OnOk result (waits.new ≡ waits.old ++ cond kept [] (record { var = var; place = place } ∷ [])) }
+{
+    if !kept {
+        waits.push(Wait { var, place })?;
+    }
+    Ok(())
+}
+
+// A word at the front of an alternative: it is fetched into a new variable where the alternative uses it.
+fn front_word(
+    fresh: &mut Fresh,
+    names: &mut Seq<Standing>,
+    cell: Word,
+    wait: Wait,
+    body: &Block,
+    made: &mut Seq<Stmt>,
+) -> Result<(), AllocError>
+    ensures stmts { OnOk result ((c : Code) → all_before (map before_of made.new) c ≡ all_before (map before_of made.old) (fetched_if (code_uses wait.var.0 (code_of body.now)) (variable fresh.old.next) cell wait.place c)) }
+    ensures names { OnOk result (names.new ≡ named_if (code_uses wait.var.0 (code_of body.now)) wait.var fresh.old.next names.old) }
+    ensures next { OnOk result (fresh.new.next ≡ suc fresh.old.next) }
+{
+    let var = fresh.variable()?;
+    let used = block_uses(wait.var, body);
+    fetched_if(used, var, cell, wait.place, made)?;
+    named_if(used, wait.var, var, names)?;
+    Ok(())
+}
+
+/// The fetches at the front of an alternative, of the words that wait and that it uses.
+pub(crate) fn front(
+    alloc: Global,
+    fresh: &mut Fresh,
+    names: &mut Seq<Standing>,
+    cell: Word,
+    waits: &[Wait],
+    body: &Block,
+) -> Result<Seq<Stmt>, AllocError>
+    ensures stmts { IfOk result (λ ss. (c : Code) → all_before (map before_of ss) c ≡ front cell fresh.old.next waits.now (code_of body.now) c) }
+    ensures names { OnOk result (names.new ≡ front_names fresh.old.next waits.now (code_of body.now) names.old) }
+    ensures next { OnOk result (fresh.new.next ≡ fresh.old.next + length waits.now) }
+{
+    let mut made = Seq::new(alloc);
+    for wait in waits {
+        front_word(fresh, names, cell, *wait, body, &mut made)?;
+    }
+    Ok(made)
+}
+
+// A word of a node: it is fetched directly after the tag where it is used outside the alternatives of the tag's case.
+fn node_word(
+    kept: bool,
+    cell: Word,
+    var: VarId,
+    at: usize,
+    made: &mut Seq<Stmt>,
+    waits: &mut Seq<Wait>,
+) -> Result<(), AllocError>
+    ensures stmts { OnOk result ((c : Code) → all_before (map before_of made.new) c ≡ all_before (map before_of made.old) (fetched_if kept var cell at c)) }
+    ensures waits { OnOk result (waits.new ≡ waits.old ++ cond kept [] (record { var = var; place = at } ∷ [])) }
+{
+    let Ok(place) = u32::try_from(at) else {
+        return Err(AllocError);
+    };
+    fetched_if(kept, var, cell, place, made)?;
+    wait_unless(kept, var, place, waits)?;
+    Ok(())
+}
+
+/// The fetches directly after the tag `tag`, of the words that these variables stand for; the words that wait are the answer.
+pub(crate) fn words(
+    alloc: Global,
+    tag: VarId,
+    cell: Word,
+    vars: &[VarId],
+    rest: &[Stmt],
+    last: &Op,
+    made: &mut Seq<Stmt>,
+) -> Result<Seq<Wait>, AllocError>
+    ensures stmts { OnOk result ((c : Code) → all_before (map before_of made.new) c ≡ all_before (map before_of made.old) (word_fetches tag.0 (all_before (map before_of rest.now) (end (act_of last.now))) cell 1 vars.now c)) }
+    ensures waits { IfOk result (λ ws. ws ≡ waits_of tag.0 (all_before (map before_of rest.now) (end (act_of last.now))) 1 vars.now) }
+{
+    let mut waits = Seq::new(alloc);
+    for at in 0..vars.len() {
+        let kept = outside(tag, vars[at], rest, last);
+        node_word(kept, cell, vars[at], at + 1, made, &mut waits)?;
+    }
+    Ok(waits)
+}
+
+/// Hides what waits: 0 stands for it.
+pub(crate) fn hide(names: &mut Seq<Standing>, waits: &[Wait]) -> Result<(), AllocError>
+    ensures { OnOk result (names.new ≡ hiding waits.now names.old) }
+{
+    for wait in waits {
+        names.push(Standing {
+            var: wait.var,
+            word: Word::Lit(0),
+        })?;
+    }
+    Ok(())
+}

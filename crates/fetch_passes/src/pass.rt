@@ -1,0 +1,64 @@
+// The pass.
+#![tactic(auto)]
+
+ghost use Rattle.std.specs.Prelude.{◌≡◌, map, IfOk};
+ghost use Rattle.grin_syntax.specs.Tree.{program_of, procedure_of};
+ghost use Rattle.grin_syntax.specs.Fresh.{past_procs};
+ghost use Rattle.pass_ground.specs.Vectors.{OfVectors};
+ghost use Rattle.fetch_passes.specs.Split.{split, split_procs};
+ghost use Rattle.fetch_passes.specs.Fetched.{Fetched};
+
+use crate::split::Splitting;
+use grin_meaning::Pass;
+use grin_syntax::fresh::Fresh;
+use grin_syntax::{Grin, Proc, Tag, Word};
+use seq::Seq;
+use std::alloc::{AllocError, Global};
+
+/// Each fetch of a whole node is split into a fetch of its tag and fetches of the words that are used. Where the case on the
+/// tag comes next, fetches aside, a word that its alternatives alone use is fetched at the front of each that uses it.
+pub struct Fetches;
+
+impl Pass for Fetches {
+    ghost takes = { λ g. OfVectors (program_of g) };
+
+    ghost gives = { λ g h. Fetched (program_of g) (program_of h) };
+
+    fn apply(&self, alloc: Global, g: Grin) -> Result<Grin, AllocError> {
+        let h = with_words(alloc, g)?;
+        Ok(h)
+    }
+}
+
+// The procedures of a program with these tags.
+fn split_procs(alloc: Global, tags: &Seq<Tag>, procs: &[Proc]) -> Result<Seq<Proc>, AllocError>
+    ensures { IfOk result (λ made. map procedure_of made ≡ split_procs tags.now (past_procs (map procedure_of procs.now)) (map procedure_of procs.now)) }
+{
+    let mut fresh = Fresh::past(procs);
+    let splitting = Splitting { tags };
+    let mut made = Seq::new(alloc);
+    for proc in procs {
+        let none = Seq::new(alloc);
+        let before = Seq::new(alloc);
+        let body = splitting.block(alloc, &mut fresh, &proc.body, none, Word::Lit(0), before)?;
+        made.push(Proc {
+            name: Seq::from_slice(alloc, proc.name.as_slice())?,
+            params: Seq::from_slice(alloc, proc.params.as_slice())?,
+            body,
+        })?;
+    }
+    Ok(made)
+}
+
+pub(crate) fn with_words(alloc: Global, g: Grin) -> Result<Grin, AllocError>
+    ensures { IfOk result (λ h. program_of h ≡ split (program_of g)) }
+{
+    let procs = split_procs(alloc, &g.tags, g.procs.as_slice())?;
+    Ok(Grin {
+        tags: g.tags,
+        globals: g.globals,
+        procs,
+        start: g.start,
+        argument: g.argument,
+    })
+}

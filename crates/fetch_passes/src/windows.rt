@@ -1,0 +1,221 @@
+// The case on a node's tag that comes next after its fetch, other fetches aside.
+#![tactic(auto, using(grin_syntax::proofs::TreeOf::tree_of), unfolding(crate::specs::Windows::owns, crate::specs::Windows::outside, crate::specs::Uses::act_uses))]
+
+ghost use Rattle.std.specs.Prelude.{◌≡◌, ◌||◌, ◌&&◌, cond, map, slice_get};
+ghost use Rattle.grin_syntax.specs.declared.program.Val.TheVariants.{Vector};
+ghost use Rattle.grin_syntax.specs.Tree.{Code, act_of, before_of, arms_of, arm_of, all_before, end};
+ghost use Rattle.fetch_passes.specs.Uses.{act_uses, code_uses};
+ghost use Rattle.fetch_passes.specs.Windows.{begins_with, is_int, tests_number, vector_uses, act_owns, is_passed, owns, act_outside, outside};
+
+use crate::uses::{both, cells_use, either, op_uses, val_uses, word_is};
+use grin_syntax::{Alt, Op, Shape, Stmt, Val, VarId, Word};
+
+fn word_at(words: &[Word], at: usize) -> Option<Word>
+    ensures { result ≡ slice_get words.now at }
+{
+    match words.get(at) {
+        Some(word) => Some(*word),
+        None => None,
+    }
+}
+
+#[tactic(auto, using(crate::proofs::Firsts::begins_some, crate::proofs::Firsts::begins_none))]
+fn vector_begins(t: VarId, v: &Val, words: &[Word]) -> bool
+    requires { v.now ≡ Vector words.now }
+    ensures { result ≡ begins_with t.0 v.now }
+{
+    match word_at(words, 0) {
+        Some(word) => word_is(t, word),
+        None => false,
+    }
+}
+
+// The value is a vector with this variable first.
+fn begins_with(t: VarId, v: &Val) -> bool
+    ensures { result ≡ begins_with t.0 v.now }
+{
+    match v {
+        Val::Vector(words) => vector_begins(t, v, words.as_slice()),
+        Val::NodeVar(_) => false,
+        Val::Node(_, _) => false,
+        Val::One(_) => false,
+    }
+}
+
+fn is_int(pattern: &Shape) -> bool
+    ensures { result ≡ is_int pattern.now }
+{
+    match pattern {
+        Shape::Int(_) => true,
+        Shape::Node(_, _) => false,
+        Shape::Else => false,
+    }
+}
+
+fn tests_number(alts: &[Alt]) -> bool
+    ensures { result ≡ tests_number (arms_of (map arm_of alts.now)) }
+{
+    let mut tests = false;
+    for alt in alts {
+        tests = either(tests, is_int(&alt.pattern));
+    }
+    tests
+}
+
+#[tactic(auto, using(crate::proofs::Firsts::pair_uses, crate::proofs::Firsts::short_uses, crate::proofs::Firsts::pair_has))]
+fn words_decide(tests: bool, x: VarId, v: &Val, words: &[Word]) -> bool
+    requires { v.now ≡ Vector words.now }
+    ensures { result ≡ vector_uses tests x.0 v.now }
+{
+    match word_at(words, 1) {
+        Some(second) => match word_at(words, 0) {
+            Some(first) => either(word_is(x, first), both(tests, word_is(x, second))),
+            None => false,
+        },
+        None => val_uses(x, v),
+    }
+}
+
+// The variable is one of the words of a case's vector that decide which alternative is taken.
+fn vector_uses(tests: bool, x: VarId, v: &Val) -> bool
+    ensures { result ≡ vector_uses tests x.0 v.now }
+{
+    match v {
+        Val::Vector(words) => words_decide(tests, x, v, words.as_slice()),
+        Val::NodeVar(_) => val_uses(x, v),
+        Val::Node(_, _) => val_uses(x, v),
+        Val::One(_) => val_uses(x, v),
+    }
+}
+
+fn op_owns(t: VarId, op: &Op) -> bool
+    ensures { result ≡ act_owns t.0 (act_of op.now) }
+{
+    match op {
+        Op::Case(v, _) => begins_with(t, v),
+        Op::Unit(_) => false,
+        Op::Fetch(_) => false,
+        Op::FetchWord(_, _) => false,
+        Op::Update(_, _) => false,
+        Op::Eval(_) => false,
+        Op::Apply(_, _) => false,
+        Op::Call(_, _) => false,
+        Op::Prim(_, _, _) => false,
+        Op::Read => false,
+        Op::Write(_) => false,
+        Op::Nested(_) => false,
+        Op::Fail => false,
+    }
+}
+
+fn is_passed(op: &Op) -> bool
+    ensures { result ≡ is_passed (act_of op.now) }
+{
+    match op {
+        Op::Fetch(_) => true,
+        Op::FetchWord(_, _) => true,
+        Op::Case(_, _) => false,
+        Op::Unit(_) => false,
+        Op::Update(_, _) => false, // the cell may have another node then
+        Op::Eval(_) => false,
+        Op::Apply(_, _) => false,
+        Op::Call(_, _) => false,
+        Op::Prim(_, _, _) => false,
+        Op::Read => false,
+        Op::Write(_) => false,
+        Op::Nested(_) => false,
+        Op::Fail => false,
+    }
+}
+
+fn if_else(test: bool, yes: bool, no: bool) -> bool
+    ensures { result ≡ cond test yes no }
+{
+    if test { yes } else { no }
+}
+
+fn op_outside(t: VarId, x: VarId, op: &Op) -> bool
+    ensures { result ≡ act_outside t.0 x.0 (act_of op.now) }
+{
+    match op {
+        Op::Case(v, alts) => {
+            let decides = vector_uses(tests_number(alts.as_slice()), x, v);
+            if_else(begins_with(t, v), decides, op_uses(x, op))
+        }
+        Op::Unit(_) => op_uses(x, op),
+        Op::Fetch(_) => op_uses(x, op),
+        Op::FetchWord(_, _) => op_uses(x, op),
+        Op::Update(_, _) => op_uses(x, op),
+        Op::Eval(_) => op_uses(x, op),
+        Op::Apply(_, _) => op_uses(x, op),
+        Op::Call(_, _) => op_uses(x, op),
+        Op::Prim(_, _, _) => op_uses(x, op),
+        Op::Read => op_uses(x, op),
+        Op::Write(_) => op_uses(x, op),
+        Op::Nested(_) => op_uses(x, op),
+        Op::Fail => op_uses(x, op),
+    }
+}
+
+#[tactic(auto, using(grin_syntax::proofs::TreeOf::tree_of, crate::proofs::Firsts::bind_owns), unfolding(crate::specs::Windows::owns))]
+fn stmt_owns(t: VarId, stmt: &Stmt, later: bool) -> bool
+    ensures { (c : Code) → owns t.0 c ≡ later → owns t.0 (before_of stmt.now c) ≡ result }
+{
+    match stmt {
+        Stmt::Store(_) => false,
+        Stmt::Bind(_, op) => if_else(is_passed(op), later, op_owns(t, op)),
+    }
+}
+
+/// The case on the vector of `t` comes next in these statements and the operation at their end, fetches aside.
+pub(crate) fn owns(t: VarId, stmts: &[Stmt], last: &Op) -> bool
+    ensures { result ≡ owns t.0 (all_before (map before_of stmts.now) (end (act_of last.now))) }
+{
+    let mut owned = op_owns(t, last);
+    let mut at = stmts.len();
+    while at > 0 {
+        at -= 1;
+        owned = stmt_owns(t, &stmts[at], owned);
+    }
+    owned
+}
+
+#[tactic(auto, using(grin_syntax::proofs::TreeOf::tree_of, crate::proofs::Firsts::bind_uses, crate::proofs::Firsts::store_uses))]
+fn stmt_uses_too(x: VarId, stmt: &Stmt, later: bool) -> bool
+    ensures { (c : Code) → code_uses x.0 c ≡ later → code_uses x.0 (before_of stmt.now c) ≡ result }
+{
+    match stmt {
+        Stmt::Store(cells) => either(cells_use(x, cells.as_slice()), later),
+        Stmt::Bind(_, op) => either(op_uses(x, op), later),
+    }
+}
+
+#[tactic(auto, using(grin_syntax::proofs::TreeOf::tree_of, crate::proofs::Firsts::bind_outside, crate::proofs::Firsts::store_outside))]
+fn stmt_outside(t: VarId, x: VarId, stmt: &Stmt, later: bool, used: bool) -> bool
+    ensures { (c : Code) → outside t.0 x.0 c ≡ later → code_uses x.0 c ≡ used → outside t.0 x.0 (before_of stmt.now c) ≡ result }
+{
+    match stmt {
+        Stmt::Store(cells) => either(cells_use(x, cells.as_slice()), used),
+        Stmt::Bind(_, op) => {
+            let passed = either(op_uses(x, op), later);
+            let other = either(op_outside(t, x, op), used);
+            if_else(is_passed(op), passed, other)
+        }
+    }
+}
+
+/// The variable `x` is used in these statements and the operation at their end, outside the alternatives of the case on the
+/// vector of `t` where that comes next.
+pub(crate) fn outside(t: VarId, x: VarId, stmts: &[Stmt], last: &Op) -> bool
+    ensures { result ≡ outside t.0 x.0 (all_before (map before_of stmts.now) (end (act_of last.now))) }
+{
+    let mut found = op_outside(t, x, last);
+    let mut used = op_uses(x, last);
+    let mut at = stmts.len();
+    while at > 0 {
+        at -= 1;
+        found = stmt_outside(t, x, &stmts[at], found, used);
+        used = stmt_uses_too(x, &stmts[at], used);
+    }
+    found
+}

@@ -1,0 +1,37 @@
+-- What the passes after the inlining make of a program.
+use Rattle.std.specs.Prelude.{ℕ, List, [], ◌∷◌}
+use Rattle.grin_syntax.specs.Tree.{Program, program_of}
+use Rattle.grin_meaning.specs.Keeps.{Keeps}
+use Rattle.grin_meaning.specs.Slim.{Slim}
+use Rattle.grin_measure.specs.declared.measure.Sizes.{Sizes}
+use Rattle.grin_opt.specs.declared.pass.PassName.{PassName}
+use Rattle.grin_opt.specs.declared.pass.PassName.TheVariants.{Translate, Eval, Apply, Vectorise, Simplify, Fetch, Copy, Update}
+use Rattle.grin_opt.specs.Schedule.{shape_of}
+use Rattle.grin_compile.specs.declared.later.Later.{Later}
+
+-- what one pass makes of g: it has the pass's shape, and keeps what g does
+pub record IsPassedBy (k : PassName) (g h : Program) : Type 0 where
+  pub shape : shape_of k g h
+  pub keeps : Keeps g h
+
+-- what passes make of g, one after another
+abbrev pub ArePassed : List PassName → Program → List Program → Type 0
+ArePassed [] g [] = Unit {0}
+ArePassed (k ∷ ks) g (h ∷ hs) = IsPassedBy k g h × ArePassed ks h hs
+ArePassed _ g _ = ⊥
+
+-- the program after a pass; before the first one there is none, and this is the first one's
+abbrev pub later_after : Later → PassName → Program
+later_after l Simplify = program_of l.simplified
+later_after l Fetch = program_of l.fetched
+later_after l Copy = program_of l.copied
+later_after l Update = program_of l.updated
+later_after l _ = program_of l.vectorised
+
+abbrev pub programs_of : Later → List Program
+programs_of l = program_of l.vectorised ∷ program_of l.simplified ∷ program_of l.fetched
+    ∷ program_of l.copied ∷ program_of l.updated ∷ []
+
+-- slim beside a program of these sizes
+abbrev pub SlimBeside : Sizes → Program → Type 0
+SlimBeside s g = Slim s.program s.largest g

@@ -1,0 +1,65 @@
+-- The code of a text's image, and its listing.
+use Rattle.std.proofs.Common.{◌≡◌, ℕ, ◌<◌, List, length, refl, sym, ap, ◌∙◌, subst}
+use Rattle.core_reader.specs.Tree as tree
+use Rattle.arity_check.specs.Program.{Program}
+use Rattle.grin_stages.specs.Stage.{Fits}
+use Rattle.rv32_layout.specs.Places.{AllDecode}
+use Rattle.grin_io.specs.Changes.{SinkChange}
+use Rattle.grin_compile.specs.declared.compilation.Compiled.{Compiled}
+use Rattle.grin_compile.specs.Limits.{whole_words}
+use Rattle.grin_compile.specs.Stages.{passes, AreStages}
+use Rattle.grin_compile.specs.Made.{Made}
+use Rattle.grin_compile.specs.Compilation.{IsCompilation, later}
+use Rattle.grin_driver.specs.declared.status.Status.{Status}
+use Rattle.grin_driver.specs.declared.status.Status.TheVariants.{Done, Refused, OutOfMemory, WriteFault}
+use Rattle.grin_driver.specs.Text.{IsAccepted}
+use Rattle.grin_driver.specs.CodeListing.{code_listing, IsCodeOf, IsCodeListing, ListsCode}
+use Rattle.grin_driver.specs.Building.{Builds}
+use Rattle.grin_driver.proofs.Texts.{accepted_short}
+use Rattle.grin_driver.proofs.Outcomes.{not_run_long}
+
+-- the words of a compiled program are the code of an image that is made of it
+made_of : (p : Program) (cells stack : ℕ) (c : Compiled) → IsCompilation p cells stack c → Made p cells stack c.image.items
+made_of p cells stack c parts = record {
+  solution = parts.solution;
+  least = parts.least;
+  stages = later c;
+  stages_are = subst (λ g. AreStages p passes g (later c)) parts.applied parts.stages;
+  g = parts.g;
+  last = parts.last;
+  code = c.code.items;
+  addresses = parts.addresses;
+  image = parts.image;
+}
+
+pub code_of : (text : List ℕ) (cells stack : ℕ) (source : tree.Program) (p : Program) → IsAccepted text source p → Fits p
+    → (c : Compiled) → IsCompilation p cells (whole_words stack) c → IsCodeOf text cells stack c.code.items
+unfolding made_of
+code_of text cells stack source p accepted fits c parts = record {
+  file = c.image.items;
+  from = record { source = source; program = p; accepted = accepted; fits = fits; made = made_of p cells (whole_words stack) c parts };
+  is_code = refl;
+  decode = parts.decode;
+}
+
+-- the listing of such words
+pub listing_of : (text : List ℕ) (cells stack : ℕ) (code bytes : List ℕ) → IsCodeOf text cells stack code → bytes ≡ code_listing code
+    → IsCodeListing text cells stack bytes
+listing_of text cells stack code bytes of is = record { file = of.file; from = of.from; decode = subst AllDecode (sym of.is_code) of.decode; is_listing = is ∙ ap code_listing (sym of.is_code) }
+
+-- ---- texts that are too long
+
+module _ {K : Type 0} (o : SinkChange K) (front text : List ℕ) (cells stack : ℕ) (short : 1048576 < length front) (long : 1048576 < length text) where
+  pub lists_code_long : (status : Status) → ListsCode o front cells stack status → ListsCode o text cells stack status
+  lists_code_long (Refused k at) h = (not_run_long front text short long k at h.0, h.1)
+  lists_code_long OutOfMemory h = h
+  lists_code_long Done h = accepted_short front h.1.from.source h.1.from.program short h.1.from.accepted
+  lists_code_long WriteFault h = accepted_short front h.1.from.source h.1.from.program short h.1.from.accepted
+  lists_code_long _ h = absurd h
+
+  pub builds_long : (status : Status) → Builds o front cells stack status → Builds o text cells stack status
+  builds_long (Refused k at) h = (not_run_long front text short long k at h.0, h.1)
+  builds_long OutOfMemory h = h
+  builds_long Done h = accepted_short front h.1.source h.1.program short h.1.accepted
+  builds_long WriteFault h = accepted_short front h.1.source h.1.program short h.1.accepted
+  builds_long _ h = absurd h

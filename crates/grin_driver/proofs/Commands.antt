@@ -1,0 +1,78 @@
+-- What a command line gives where nothing failed, and what it leaves where memory is wanting.
+use Rattle.std.proofs.Common.{◌≡◌, ℕ, List, Option, Some, None, refl}
+use mathlib.Core.Logic.{◌⊎◌, inl, inr}
+use Rattle.command_line.specs.Commands.{CommandLine, RunFile, CheckFile, ListFile, BuildFile, ExecImage, GenRun}
+use Rattle.command_line.specs.declared.command.Listing.{Listing}
+use Rattle.command_line.specs.declared.command.Listing.TheVariants as listing
+use Rattle.generator.specs.Generated.{generated}
+use Rattle.grin_io.specs.Changes.{ShelfChange, SourceChange, SinkChange}
+use Rattle.grin_driver.specs.declared.status.Status.{Status}
+use Rattle.grin_driver.specs.declared.status.Status.TheVariants.{OutOfMemory, ReadFault}
+use Rattle.grin_driver.specs.Reading.{IsUnread}
+use Rattle.grin_driver.specs.Answer.{OfOperand, Answers, most_of_text, most_of_image}
+use Rattle.grin_driver.specs.After.{ListsAfter}
+use Rattle.grin_driver.specs.Building.{Builds}
+use Rattle.grin_driver.specs.Checking.{Checks}
+use Rattle.grin_driver.specs.Execution.{IsUntouched, Execution}
+use Rattle.grin_driver.specs.Outcome.{Outcome}
+use Rattle.grin_driver.specs.Completeness.{OneAccepted, Or, NothingFailed, Gives}
+use Rattle.grin_driver.proofs.Complete.{check_gives, list_gives, build_gives, generation_gives, exec_gives, run_gives}
+
+module _ {F I K : Type 0} (f : ShelfChange F) (i : SourceChange I) (o : SinkChange K) where
+  module _ (n : NothingFailed f i o) where
+    unread : (status : Status) → IsUnread f status → status ≡ OutOfMemory
+    unread OutOfMemory h = refl
+    unread ReadFault h = absurd (n.shelf h.0)
+    unread _ h = absurd h
+
+    -- what is given for the bytes of a file is given for the file
+    of_bytes : (most : ℕ) (untouched : Type 0) (file : List ℕ) (outcome : List ℕ → Status → Type 0) (status : Status) (Answer : List ℕ → Type 0)
+        → ((bytes : List ℕ) → outcome bytes status → (status ≡ OutOfMemory) ⊎ Answer bytes)
+        → OfOperand f most untouched file outcome status → Or f most file status Answer
+    of_bytes most untouched file outcome status Answer gives (inl h) = inl (unread status h.0)
+    of_bytes most untouched file outcome status Answer gives (inr (bytes, taken, h)) = of_answer (gives bytes h) where
+      of_answer : (status ≡ OutOfMemory) ⊎ Answer bytes → Or f most file status Answer
+      of_answer (inl memory) = inl memory
+      of_answer (inr answer) = inr (bytes, taken, answer)
+
+    pub command_gives : OneAccepted → (command : Option CommandLine) (status : Status) → Answers f i o command status → Gives f i command status
+    command_gives one None status h = h.0
+    command_gives one (Some (RunFile file cells stack steps)) status h =
+        of_bytes most_of_text (IsUntouched i o) file (λ text status. Outcome i o text cells stack steps status) status _ (λ text. run_gives i o n.input n.out one text cells stack steps status) h
+    command_gives one (Some (CheckFile file)) status h =
+        of_bytes most_of_text (o.new ≡ o.old) file (λ text status. Checks o text status) status _ (λ text. check_gives o n.out text status) h.0
+    command_gives one (Some (ListFile file after)) status h =
+        of_bytes most_of_text (o.new ≡ o.old) file (λ text status. ListsAfter o text after status) status _ (λ text. list_gives o n.out text one after status) h.0
+    command_gives one (Some (BuildFile file cells stack)) status h =
+        of_bytes most_of_text (o.new ≡ o.old) file (λ text status. Builds o text cells stack status) status _ (λ text. build_gives o n.out text one cells stack status) h.0
+    command_gives one (Some (ExecImage image steps)) status h =
+        of_bytes most_of_image (IsUntouched i o) image (λ bytes status. Execution i o bytes steps status) status _ (λ bytes. exec_gives i o n.input n.out bytes steps status) h
+    command_gives one (Some (GenRun seed size)) status h = generation_gives o n.out (generated seed size) one status h.0
+
+  -- ---- want of memory
+
+  pub memory_untouched : (command : Option CommandLine) → Answers f i o command OutOfMemory → o.new ≡ o.old
+  memory_untouched None h = h.3
+  memory_untouched (Some (RunFile file cells stack steps)) (inl h) = h.1.1
+  memory_untouched (Some (RunFile file cells stack steps)) (inr h) = h.2.1
+  memory_untouched (Some (CheckFile file)) (inl h, same) = h.1
+  memory_untouched (Some (CheckFile file)) (inr h, same) = h.2
+  memory_untouched (Some (ListFile file after)) h = listed after h.0
+    where
+      listed : (after : Listing) → OfOperand f most_of_text (o.new ≡ o.old) file (λ text status. ListsAfter o text after status) OutOfMemory → o.new ≡ o.old
+      listed after (inl h) = h.1
+      listed listing.Read (inr h) = h.2
+      listed listing.Translate (inr h) = h.2
+      listed listing.Eval (inr h) = h.2
+      listed listing.Apply (inr h) = h.2
+      listed listing.Vectorise (inr h) = h.2
+      listed listing.Simplify (inr h) = h.2
+      listed listing.Fetch (inr h) = h.2
+      listed listing.Copy (inr h) = h.2
+      listed listing.Update (inr h) = h.2
+      listed listing.Code (inr h) = h.2
+  memory_untouched (Some (BuildFile file cells stack)) (inl h, same) = h.1
+  memory_untouched (Some (BuildFile file cells stack)) (inr h, same) = h.2
+  memory_untouched (Some (ExecImage image steps)) (inl h) = h.1.1
+  memory_untouched (Some (ExecImage image steps)) (inr h) = h.2.1
+  memory_untouched (Some (GenRun seed size)) h = h.0.1

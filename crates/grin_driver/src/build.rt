@@ -1,0 +1,34 @@
+//! The image of a text, put out.
+
+ghost use Rattle.std.specs.Prelude.{◌≤◌};
+ghost use Rattle.grin_io.specs.Changes.{of_sink};
+ghost use Rattle.grin_compile.specs.Limits.{InRange};
+ghost use Rattle.grin_driver.specs.Building.{Builds};
+
+use crate::image::compiled;
+use crate::pieces::put_pieces;
+use crate::status::Status;
+use grin_compile::Options;
+use grin_io::Sink;
+use std::alloc::Global;
+
+/// Compiles a text to an image with so many cells and bytes of stack, and puts the image in pieces of 4,096 bytes. The stack is
+/// rounded down to a multiple of four. All memory is had before the first put.
+pub(crate) fn build_text<K: Sink>(
+    alloc: Global,
+    text: &[u8],
+    options: Options,
+    out: &mut K,
+) -> Status
+    requires { InRange options.cells options.stack }
+    ensures builds { Builds (of_sink K.put_gives K.taken K.faults out.old out.new) text.now options.cells options.stack result }
+    ensures later { K.faults out.old ≤ K.faults out.new }
+{
+    match compiled(alloc, text, options) {
+        Ok(compiled) => match put_pieces(compiled.image(), out) {
+            Ok(()) => Status::Done,
+            Err(_) => Status::WriteFault,
+        },
+        Err(status) => status,
+    }
+}

@@ -1,0 +1,3 @@
+pub mod Sums
+mod Loops
+mod Procs

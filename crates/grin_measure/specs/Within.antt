@@ -1,0 +1,16 @@
+-- How the counts of a program stand to the bounds of a slim one.
+use Rattle.std.specs.Prelude.{◌≡◌, ℕ, ◌*◌, ◌≤◌}
+use Rattle.grin_syntax.specs.Tree.{Program}
+use Rattle.apply_inline.specs.Size.{size, largest_procedure}
+use Rattle.grin_measure.specs.declared.counts.Counts.{Counts}
+use Rattle.grin_measure.specs.declared.measure.Sizes.{Sizes}
+use Rattle.grin_measure.specs.Counts.{capped}
+
+pub record HasSizes (g : Program) (s : Sizes) : Type 0 where
+  pub program : s.program ≡ capped (size g)
+  pub largest : s.largest ≡ capped (largest_procedure g)
+
+pub record Within (all own : Counts) (s : Sizes) : Type 0 where
+  pub weight : all.weight ≤ 48 * s.program
+  pub calls : all.calls ≤ s.program
+  pub words : own.words ≤ 20 * s.largest

@@ -1,0 +1,184 @@
+-- The points after calls, and what is live after each site.
+use Rattle.std.proofs.Common.{◌≡◌, ◌⊎◌, ℕ, zero, suc, ◌+◌, true, false, List, [], ◌∷◌, ◌++◌, length, Some, slice_get, inl, inr, refl, sym, ap, ◌∙◌, subst, arith}
+use Rattle.low_code.specs.Tree.{Code, set, prim, load, save, take, put, get, call, join, give, tail, choose, fail, Arms, otherwise, arm}
+use Rattle.low_code.specs.Formed.{uses, calls_in, arms_calls, Site}
+use Rattle.register_alloc.specs.Live.{IsLive, LiveAfter, ArmsLiveAfter, EachBinding, EachBindingOfArms}
+use Rattle.register_alloc.specs.Point.{After, points, arms_points}
+use Rattle.register_alloc.proofs.Lists.{got_before}
+
+-- ---- the calls of the points
+
+abbrev pub sites_of_points : List After → List Site
+sites_of_points [] = []
+sites_of_points (p ∷ ps) = (p.site, p.proc) ∷ sites_of_points ps
+
+both : (ps qs : List After) → sites_of_points (ps ++ qs) ≡ sites_of_points ps ++ sites_of_points qs
+both [] qs = refl
+both (p ∷ ps) qs = ap (λ l. (p.site, p.proc) ∷ l) (both ps qs)
+
+mutual
+  pub points_calls : (scope : List ℕ) (c : Code) (later : List ℕ) → sites_of_points (points scope c later) ≡ calls_in c
+  points_calls scope (set x a c) later = points_calls (x ∷ scope) c later
+  points_calls scope (prim f x a b c) later = points_calls (x ∷ scope) c later
+  points_calls scope (load x a k c) later = points_calls (x ∷ scope) c later
+  points_calls scope (save a k b c) later = points_calls scope c later
+  points_calls scope (take xs c) later = points_calls (xs ++ scope) c later
+  points_calls scope (put a c) later = points_calls scope c later
+  points_calls scope (get x c) later = points_calls (x ∷ scope) c later
+  points_calls scope (call f site ops xs c) later = ap (λ l. (site, f) ∷ l) (points_calls (xs ++ scope) c later)
+  points_calls scope (join xs b c) later =
+      both (points scope b (uses c ++ later)) (points (xs ++ scope) c later) ∙ ap (λ l. l ++ sites_of_points (points (xs ++ scope) c later)) (points_calls scope b (uses c ++ later))
+      ∙ ap (λ l. calls_in b ++ l) (points_calls (xs ++ scope) c later)
+  points_calls scope (give ops) later = refl
+  points_calls scope (tail f site ops) later = refl
+  points_calls scope (choose as') later = arms_points_calls scope as' later
+  points_calls scope fail later = refl
+
+  arms_points_calls : (scope : List ℕ) (as' : Arms) (later : List ℕ) → sites_of_points (arms_points scope as' later) ≡ arms_calls as'
+  arms_points_calls scope (otherwise c) later = points_calls scope c later
+  arms_points_calls scope (arm ts c as') later =
+      both (points scope c later) (arms_points scope as' later) ∙ ap (λ l. l ++ sites_of_points (arms_points scope as' later)) (points_calls scope c later)
+      ∙ ap (λ l. calls_in c ++ l) (arms_points_calls scope as' later)
+
+-- ---- live after a site
+
+-- y is live at one of these points, which is that of the site
+pub record LiveAt (site y : ℕ) (ps : List After) : Type 0 where
+  pub place : ℕ
+  pub point : After
+  pub there : slice_get ps place ≡ Some point
+  pub site_is : point.site ≡ site
+  pub live : IsLive point.scope point.rest point.later y
+
+pub got_second : {A : Type 0} (xs ys : List A) (i : ℕ) (y : A) → slice_get ys i ≡ Some y → slice_get (xs ++ ys) (length xs + i) ≡ Some y
+got_second [] ys i y e = let z : 0 + i ≡ i = omega arith in ap (slice_get ys) z ∙ e
+got_second (x ∷ xs) ys i y e = let z : suc (length xs) + i ≡ suc (length xs + i) = omega arith in ap (slice_get (x ∷ (xs ++ ys))) z ∙ got_second xs ys i y e
+
+pub got_split : {A : Type 0} (xs ys : List A) (i : ℕ) (y : A) → slice_get (xs ++ ys) i ≡ Some y → (slice_get xs i ≡ Some y) ⊎ ((j : ℕ) × (slice_get ys j ≡ Some y))
+got_split [] ys i y e = inr (i, e)
+got_split (x ∷ xs) ys zero y e = inl e
+got_split (x ∷ xs) ys (suc i) y e = got_split xs ys i y e
+
+at_first : (site y : ℕ) (ps qs : List After) → LiveAt site y ps → LiveAt site y (ps ++ qs)
+at_first site y ps qs l = record { place = l.place; point = l.point; there = got_before ps qs l.place l.point l.there; site_is = l.site_is; live = l.live }
+
+at_second : (site y : ℕ) (ps qs : List After) → LiveAt site y qs → LiveAt site y (ps ++ qs)
+at_second site y ps qs l = record { place = length ps + l.place; point = l.point; there = got_second ps qs l.place l.point l.there; site_is = l.site_is; live = l.live }
+
+at_either : (site y : ℕ) (ps qs : List After) → LiveAt site y (ps ++ qs) → LiveAt site y ps ⊎ LiveAt site y qs
+at_either site y ps qs l = elim (got_split ps qs l.place l.point l.there) [
+  | inl e ↦ inl (record { place = l.place; point = l.point; there = e; site_is = l.site_is; live = l.live })
+  | inr e ↦ inr (record { place = e.0; point = l.point; there = e.1; site_is = l.site_is; live = l.live })
+]
+
+none_at : (site y : ℕ) → LiveAt site y [] → ⊥
+none_at site y l = let e = l.there in cc
+
+mutual
+  pub to_point : (s : ℕ) (scope : List ℕ) (c : Code) (later : List ℕ) (y : ℕ) → LiveAfter s scope c later y → LiveAt s y (points scope c later)
+  to_point s scope (set x a c) later y l = to_point s (x ∷ scope) c later y l
+  to_point s scope (prim f x a b c) later y l = to_point s (x ∷ scope) c later y l
+  to_point s scope (load x a k c) later y l = to_point s (x ∷ scope) c later y l
+  to_point s scope (save a k b c) later y l = to_point s scope c later y l
+  to_point s scope (take xs c) later y l = to_point s (xs ++ scope) c later y l
+  to_point s scope (put a c) later y l = to_point s scope c later y l
+  to_point s scope (get x c) later y l = to_point s (x ∷ scope) c later y l
+  to_point s scope (call f site ops xs c) later y (inl h) =
+      record { place = 0; point = record { site = site; proc = f; scope = scope; rest = c; later = later }; there = refl; site_is = sym h.0; live = h.1 }
+  to_point s scope (call f site ops xs c) later y (inr l) =
+      at_second s y (record { site = site; proc = f; scope = scope; rest = c; later = later } ∷ []) (points (xs ++ scope) c later) (to_point s (xs ++ scope) c later y l)
+  to_point s scope (join xs b c) later y (inl l) = at_first s y (points scope b (uses c ++ later)) (points (xs ++ scope) c later) (to_point s scope b (uses c ++ later) y l)
+  to_point s scope (join xs b c) later y (inr l) = at_second s y (points scope b (uses c ++ later)) (points (xs ++ scope) c later) (to_point s (xs ++ scope) c later y l)
+  to_point s scope (give ops) later y l = absurd l
+  to_point s scope (tail f site ops) later y l = absurd l
+  to_point s scope (choose as') later y l = arms_to_point s scope as' later y l
+  to_point s scope fail later y l = absurd l
+
+  arms_to_point : (s : ℕ) (scope : List ℕ) (as' : Arms) (later : List ℕ) (y : ℕ) → ArmsLiveAfter s scope as' later y → LiveAt s y (arms_points scope as' later)
+  arms_to_point s scope (otherwise c) later y l = to_point s scope c later y l
+  arms_to_point s scope (arm ts c as') later y (inl l) = at_first s y (points scope c later) (arms_points scope as' later) (to_point s scope c later y l)
+  arms_to_point s scope (arm ts c as') later y (inr l) = at_second s y (points scope c later) (arms_points scope as' later) (arms_to_point s scope as' later y l)
+
+here : (site f : ℕ) (scope : List ℕ) (c : Code) (later : List ℕ) (s y : ℕ) → LiveAt s y (record { site = site; proc = f; scope = scope; rest = c; later = later } ∷ []) → (s ≡ site) × IsLive scope c later y
+here site f scope c later s y l = go l.place l.point l.there l.site_is l.live
+  where
+    go : (i : ℕ) (p : After) → slice_get (record { site = site; proc = f; scope = scope; rest = c; later = later } ∷ []) i ≡ Some p → p.site ≡ s → IsLive p.scope p.rest p.later y → (s ≡ site) × IsLive scope c later y
+    go zero p e q v =
+        let same : record { site = site; proc = f; scope = scope; rest = c; later = later } ≡ p = cc in
+        (sym q ∙ ap (λ r. r.site) (sym same), subst (λ r. IsLive r.scope r.rest r.later y) (sym same) v)
+    go (suc i) p e q v = cc
+
+mutual
+  pub from_point : (s : ℕ) (scope : List ℕ) (c : Code) (later : List ℕ) (y : ℕ) → LiveAt s y (points scope c later) → LiveAfter s scope c later y
+  from_point s scope (set x a c) later y l = from_point s (x ∷ scope) c later y l
+  from_point s scope (prim f x a b c) later y l = from_point s (x ∷ scope) c later y l
+  from_point s scope (load x a k c) later y l = from_point s (x ∷ scope) c later y l
+  from_point s scope (save a k b c) later y l = from_point s scope c later y l
+  from_point s scope (take xs c) later y l = from_point s (xs ++ scope) c later y l
+  from_point s scope (put a c) later y l = from_point s scope c later y l
+  from_point s scope (get x c) later y l = from_point s (x ∷ scope) c later y l
+  from_point s scope (call f site ops xs c) later y l = elim (at_either s y (record { site = site; proc = f; scope = scope; rest = c; later = later } ∷ []) (points (xs ++ scope) c later) l) [
+    | inl h ↦ inl (here site f scope c later s y h)
+    | inr m ↦ inr (from_point s (xs ++ scope) c later y m)
+  ]
+  from_point s scope (join xs b c) later y l = elim (at_either s y (points scope b (uses c ++ later)) (points (xs ++ scope) c later) l) [
+    | inl m ↦ inl (from_point s scope b (uses c ++ later) y m)
+    | inr m ↦ inr (from_point s (xs ++ scope) c later y m)
+  ]
+  from_point s scope (give ops) later y l = none_at s y l
+  from_point s scope (tail f site ops) later y l = let h = here site f [] fail [] s y l in let z : false ≡ true = h.1.0 in cc
+  from_point s scope (choose as') later y l = arms_from_point s scope as' later y l
+  from_point s scope fail later y l = none_at s y l
+
+  arms_from_point : (s : ℕ) (scope : List ℕ) (as' : Arms) (later : List ℕ) (y : ℕ) → LiveAt s y (arms_points scope as' later) → ArmsLiveAfter s scope as' later y
+  arms_from_point s scope (otherwise c) later y l = from_point s scope c later y l
+  arms_from_point s scope (arm ts c as') later y l = elim (at_either s y (points scope c later) (arms_points scope as' later) l) [
+    | inl m ↦ inl (from_point s scope c later y m)
+    | inr m ↦ inr (arms_from_point s scope as' later y m)
+  ]
+
+-- ---- two properties of each binding at once
+
+module _ (P Q : (scope xs : List ℕ) → Code → (later : List ℕ) → Type 0) where
+  abbrev Both : (scope xs : List ℕ) → Code → (later : List ℕ) → Type 0
+  Both scope xs c later = P scope xs c later × Q scope xs c later
+
+  mutual
+    pub first_of_both : (scope : List ℕ) (c : Code) (later : List ℕ) → EachBinding Both scope c later → EachBinding P scope c later
+    first_of_both scope (set x a c) later e = (e.0.0, first_of_both (x ∷ scope) c later e.1)
+    first_of_both scope (prim f x a b c) later e = (e.0.0, first_of_both (x ∷ scope) c later e.1)
+    first_of_both scope (load x a k c) later e = (e.0.0, first_of_both (x ∷ scope) c later e.1)
+    first_of_both scope (save a k b c) later e = first_of_both scope c later e
+    first_of_both scope (take xs c) later e = (e.0.0, first_of_both (xs ++ scope) c later e.1)
+    first_of_both scope (put a c) later e = first_of_both scope c later e
+    first_of_both scope (get x c) later e = (e.0.0, first_of_both (x ∷ scope) c later e.1)
+    first_of_both scope (call f site ops xs c) later e = (e.0.0, first_of_both (xs ++ scope) c later e.1)
+    first_of_both scope (join xs b c) later e = (first_of_both scope b (uses c ++ later) e.0, (e.1.0.0, first_of_both (xs ++ scope) c later e.1.1))
+    first_of_both scope (give ops) later e = tt
+    first_of_both scope (tail f site ops) later e = tt
+    first_of_both scope (choose as') later e = first_of_arms scope as' later e
+    first_of_both scope fail later e = tt
+
+    first_of_arms : (scope : List ℕ) (as' : Arms) (later : List ℕ) → EachBindingOfArms Both scope as' later → EachBindingOfArms P scope as' later
+    first_of_arms scope (otherwise c) later e = first_of_both scope c later e
+    first_of_arms scope (arm ts c as') later e = (first_of_both scope c later e.0, first_of_arms scope as' later e.1)
+
+  mutual
+    pub second_of_both : (scope : List ℕ) (c : Code) (later : List ℕ) → EachBinding Both scope c later → EachBinding Q scope c later
+    second_of_both scope (set x a c) later e = (e.0.1, second_of_both (x ∷ scope) c later e.1)
+    second_of_both scope (prim f x a b c) later e = (e.0.1, second_of_both (x ∷ scope) c later e.1)
+    second_of_both scope (load x a k c) later e = (e.0.1, second_of_both (x ∷ scope) c later e.1)
+    second_of_both scope (save a k b c) later e = second_of_both scope c later e
+    second_of_both scope (take xs c) later e = (e.0.1, second_of_both (xs ++ scope) c later e.1)
+    second_of_both scope (put a c) later e = second_of_both scope c later e
+    second_of_both scope (get x c) later e = (e.0.1, second_of_both (x ∷ scope) c later e.1)
+    second_of_both scope (call f site ops xs c) later e = (e.0.1, second_of_both (xs ++ scope) c later e.1)
+    second_of_both scope (join xs b c) later e = (second_of_both scope b (uses c ++ later) e.0, (e.1.0.1, second_of_both (xs ++ scope) c later e.1.1))
+    second_of_both scope (give ops) later e = tt
+    second_of_both scope (tail f site ops) later e = tt
+    second_of_both scope (choose as') later e = second_of_arms scope as' later e
+    second_of_both scope fail later e = tt
+
+    second_of_arms : (scope : List ℕ) (as' : Arms) (later : List ℕ) → EachBindingOfArms Both scope as' later → EachBindingOfArms Q scope as' later
+    second_of_arms scope (otherwise c) later e = second_of_both scope c later e
+    second_of_arms scope (arm ts c as') later e = (second_of_both scope c later e.0, second_of_arms scope as' later e.1)

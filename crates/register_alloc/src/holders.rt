@@ -1,0 +1,206 @@
+// The variables that hold the registers x8 to x31 at a point of a procedure.
+
+ghost use Rattle.std.specs.Prelude.{◌≡◌, ◌||◌, ◌<◌, ◌++◌, ◌∷◌, [], ℕ, true, false, List, length, slice_get, slice_set, Some, None, Option, vec_len, IfOk, OnOk, MatchOption};
+ghost use Rattle.register_alloc.specs.Uses.{AreUses};
+ghost use Rattle.register_alloc.specs.Holders.{Held, AreStillUsed, AreEntering, AllFree, AreRegisters, IsStill, IsMarked, new_holder};
+ghost use Rattle.register_alloc.specs.declared.holders.Holder.{Holder};
+
+use crate::uses::Uses;
+use seq::Seq;
+use std::alloc::{AllocError, Global};
+
+/// A variable that holds a register, and whether it is used after the joins around the block.
+#[derive(Clone, Copy, Debug, PartialEq, Eq)]
+pub struct Holder {
+    pub variable: u32,
+    pub later: bool,
+}
+
+/// Who holds each of the registers from x8 on, if any variable does.
+#[derive(Drop)]
+pub struct Holders {
+    pub of: Vec<Option<Holder>>,
+    ghost many: { vec_len of ≡ 24 },
+}
+
+fn either(a: bool, b: bool) -> bool
+    ensures { result ≡ (a || b) }
+{
+    a || b
+}
+
+impl Holders {
+    /// All registers are free.
+    pub fn none(alloc: Global) -> Result<Holders, AllocError>
+        ensures { IfOk result (λ h. AllFree h.of.items) }
+    {
+        let mut of = Vec::new(alloc);
+        of.resize(24, None)?;
+        Ok(Holders { of })
+    }
+
+    /// Those that are still used: at a position from `from` on and before `to`, or later.
+    pub fn live(
+        &self,
+        alloc: Global,
+        uses: &Uses,
+        from: u32,
+        to: u32,
+    ) -> Result<Holders, AllocError>
+        ensures { IfOk result (λ h. (used : List ℕ) → AreUses used uses.now → AreStillUsed used from to self.now.of.items h.of.items) }
+    {
+        let mut of = Vec::new(alloc);
+        for held in self.of.as_slice() {
+            of.push(still(*held, uses, from, to))?;
+        }
+        Ok(Holders { of })
+    }
+
+    /// The same at the head of a join's block, after which come the positions from `from` on and before `to`.
+    pub fn entering(
+        &self,
+        alloc: Global,
+        uses: &Uses,
+        from: u32,
+        to: u32,
+    ) -> Result<Holders, AllocError>
+        ensures { IfOk result (λ h. (used : List ℕ) → AreUses used uses.now → AreEntering used from to self.now.of.items h.of.items) }
+    {
+        let mut of = Vec::new(alloc);
+        for held in self.of.as_slice() {
+            of.push(within_join(*held, uses, from, to))?;
+        }
+        Ok(Holders { of })
+    }
+
+    /// A copy.
+    pub fn copied(&self, alloc: Global) -> Result<Holders, AllocError>
+        ensures { IfOk result (λ h. h.of.items ≡ self.now.of.items) }
+    {
+        let of = Vec::from_slice(alloc, self.of.as_slice())?;
+        Ok(Holders { of })
+    }
+
+    /// A free register, the wanted one where it is free. They are numbered from x8 on.
+    pub fn free(&self, wanted: Option<usize>) -> Option<usize>
+        ensures { MatchOption result ((r : ℕ) → r < length self.now.of.items → (d : Holder) × Held self.now.of.items r d) (λ r. slice_get self.now.of.items r ≡ Some None) }
+    {
+        match wanted {
+            Some(register) => {
+                if self.is_free(register) {
+                    Some(register)
+                } else {
+                    self.first_free()
+                }
+            }
+            None => self.first_free(),
+        }
+    }
+
+    fn is_free(&self, register: usize) -> bool
+        ensures { result ≡ true → slice_get self.now.of.items register ≡ Some None }
+    {
+        match self.of.get(register) {
+            Some(held) => held.is_none(),
+            None => false,
+        }
+    }
+
+    fn first_free(&self) -> Option<usize>
+        ensures { MatchOption result ((r : ℕ) → r < length self.now.of.items → (d : Holder) × Held self.now.of.items r d) (λ r. slice_get self.now.of.items r ≡ Some None) }
+    {
+        for register in 0..self.of.len() {
+            if is_none(self.of[register]) {
+                return Some(register);
+            }
+        }
+        None
+    }
+
+    /// Lets a variable that isn't used later hold a register.
+    pub fn hold(&mut self, register: usize, variable: u32)
+        requires { register < length self.old.of.items }
+        ensures { self.new.of.items ≡ slice_set self.old.of.items register (Some (new_holder variable)) }
+    {
+        self.of[register] = Some(Holder {
+            variable,
+            later: false,
+        });
+    }
+
+    /// The register of a variable, if it holds one.
+    pub fn register_of(&self, variable: u32) -> Option<usize> {
+        for register in 0..self.of.len() {
+            if is_held_by(self.of[register], variable) {
+                return Some(register);
+            }
+        }
+        None
+    }
+
+    /// The registers that are held, ascending, by their own numbers.
+    pub fn registers(&self, alloc: Global) -> Result<Seq<u8>, AllocError>
+        ensures { IfOk result (AreRegisters self.now.of.items) }
+    {
+        let mut registers = Seq::new(alloc);
+        for register in 0..24u8 {
+            add_held(&mut registers, self.of[register as usize], 8 + register)?;
+        }
+        Ok(registers)
+    }
+}
+
+fn is_none(held: Option<Holder>) -> bool
+    ensures free { result ≡ true → held ≡ None }
+    ensures held { result ≡ false → (d : Holder) × (held ≡ Some d) }
+{
+    match held {
+        Some(_) => false,
+        None => true,
+    }
+}
+
+/// Adds a register where it is held.
+fn add_held(registers: &mut Seq<u8>, held: Option<Holder>, register: u8) -> Result<(), AllocError>
+    ensures { OnOk result (MatchOption held (registers.new ≡ registers.old) (λ d. registers.new ≡ registers.old ++ (register ∷ []))) }
+{
+    match held {
+        Some(_) => registers.push(register)?,
+        None => {}
+    }
+    Ok(())
+}
+
+fn is_held_by(held: Option<Holder>, variable: u32) -> bool {
+    match held {
+        Some(holder) => holder.variable == variable,
+        None => false,
+    }
+}
+
+fn still(held: Option<Holder>, uses: &Uses, from: u32, to: u32) -> Option<Holder>
+    ensures { (used : List ℕ) → AreUses used uses.now → IsStill used from to held result }
+{
+    match held {
+        Some(holder) => {
+            if either(holder.later, uses.within(holder.variable, from, to)) {
+                Some(holder)
+            } else {
+                None
+            }
+        }
+        None => None,
+    }
+}
+
+fn within_join(held: Option<Holder>, uses: &Uses, from: u32, to: u32) -> Option<Holder>
+    ensures { (used : List ℕ) → AreUses used uses.now → IsMarked used from to held result }
+{
+    match held {
+        Some(holder) => Some(Holder {
+            variable: holder.variable,
+            later: either(holder.later, uses.within(holder.variable, from, to)),
+        }),
+        None => None,
+    }
+}

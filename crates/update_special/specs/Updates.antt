@@ -1,0 +1,113 @@
+-- Updates whose tag is a variable become cases over the tags that a solution has for the variable.
+use Rattle.std.specs.Prelude.{ℕ, zero, suc, Bool, cond, nat_le, List, [], ◌∷◌, length, Option, Some, None, slice_get, slice_set}
+use Rattle.grin_syntax.specs.declared.program.VarId.{VarId}
+use Rattle.grin_syntax.specs.declared.program.Word as W
+use Rattle.grin_syntax.specs.declared.program.Word.TheVariants.{Lit, Var, Global, TagWord}
+use Rattle.grin_syntax.specs.declared.program.Val as V
+use Rattle.grin_syntax.specs.declared.program.Val.TheVariants.{NodeVar, Node, Vector, One}
+use Rattle.grin_syntax.specs.declared.program.Shape.{Shape}
+use Rattle.grin_syntax.specs.declared.program.Shape.TheVariants.{Node as NodeShape}
+use Rattle.grin_syntax.specs.Tags.{tag_id}
+use Rattle.grin_syntax.specs.Tree.{Code, end, store, bind, Act, unit, fetch, fetch_word, update, eval, apply, call, prim, read, write, case, nested, fail, Arms, no_arm, arm, Program}
+use Rattle.grin_meaning.specs.Values.{and_then}
+use Rattle.grin_meaning.specs.Rewritten.{rewritten}
+use Rattle.flow_system.specs.declared.fact.Element.TheVariants.{Tag as tag}
+use Rattle.flow_system.specs.declared.fact.Place.TheVariants.{Var as var}
+use Rattle.flow_system.specs.declared.fact.Part.TheVariants.{Word as word}
+use Rattle.flow_system.specs.Solution.{Solution, among}
+
+-- ---- tags of variables
+
+-- the numbers from i on, so many, for which the test holds
+abbrev pub those : (ℕ → Bool) → ℕ → ℕ → List ℕ
+those test i zero = []
+those test i (suc k) = cond (test i) (i ∷ those test (suc i) k) (those test (suc i) k)
+
+-- a solution has the tag in the set of a variable
+abbrev pub stands_for : Solution → ℕ → ℕ → Bool
+stands_for A x t = among (tag t) (A (var x) (word 0))
+
+-- the tags in the set of a variable, ascending, in a program with so many tags
+abbrev pub tags_of : ℕ → Solution → ℕ → List ℕ
+tags_of count A x = those (stands_for A x) 0 count
+
+-- ---- tags of values
+
+abbrev pub variable_of : W.Word → Option VarId
+variable_of (Var x) = Some x
+variable_of (Lit k) = None
+variable_of (Global i) = None
+variable_of (TagWord t) = None
+
+-- The variable that stands for the tag of a value. Where there is none, a value without node
+-- variables has a literal tag, or it stands for no node, so that nothing can be updated with it:
+-- it begins with a number or a cell, or is empty.
+abbrev pub tag_variable : V.Val → Option VarId
+tag_variable (NodeVar x) = None
+tag_variable (Node t ws) = None
+tag_variable (Vector ws) = and_then (slice_get ws 0) variable_of
+tag_variable (One a) = variable_of a
+
+-- a value with a literal tag in place of its first word
+abbrev pub tagged : ℕ → V.Val → V.Val
+tagged t (NodeVar x) = NodeVar x
+tagged t (Node u ws) = Node u ws
+tagged t (Vector ws) = Vector (slice_set ws 0 (TagWord (tag_id t)))
+tagged t (One a) = One (TagWord (tag_id t))
+
+-- ---- the pass
+
+-- an update with more tags than these stays
+abbrev pub most_tags : ℕ
+most_tags = 8
+
+-- an alternative in which the tag is known
+abbrev pub update_with : W.Word → V.Val → ℕ → Shape × Code
+update_with a v t = (NodeShape (tag_id t) [], end (update a (tagged t v)))
+
+abbrev pub update_arms : W.Word → V.Val → List ℕ → Arms
+update_arms a v [] = no_arm
+update_arms a v (t ∷ ts) =
+    arm (NodeShape (tag_id t) []) (end (update a (tagged t v))) (update_arms a v ts)
+
+abbrev pub by_tags : W.Word → V.Val → List ℕ → Act
+by_tags a v ts =
+    cond (nat_le (length ts) most_tags) (case v (update_arms a v ts)) (update a v)
+
+-- with the tags of each variable
+module _ (T : ℕ → List ℕ) where
+  abbrev pub specialised : W.Word → V.Val → Option VarId → Act
+  specialised a v None = update a v
+  specialised a v (Some x) = by_tags a v (T x.0)
+
+  unfoldable mutual
+    pub update_act : Act → Act
+    update_act (unit v) = unit v
+    update_act (fetch a) = fetch a
+    update_act (fetch_word a i) = fetch_word a i
+    update_act (update a v) = specialised a v (tag_variable v)
+    update_act (eval a) = eval a
+    update_act (apply v a) = apply v a
+    update_act (call f ws) = call f ws
+    update_act (prim p a b) = prim p a b
+    update_act read = read
+    update_act (write a) = write a
+    update_act (case v as') = case v (update_all as')
+    update_act (nested b) = nested (update_code b)
+    update_act fail = fail
+
+    pub update_code : Code → Code
+    update_code (end o) = end (update_act o)
+    update_code (store cs b) = store cs (update_code b)
+    update_code (bind t o b) = bind t (update_act o) (update_code b)
+
+    pub update_all : Arms → Arms
+    update_all no_arm = no_arm
+    update_all (arm s b as') = arm s (update_code b) (update_all as')
+
+  abbrev pub update_arm : Shape × Code → Shape × Code
+  update_arm a = (a.0, update_code a.1)
+
+-- a program with its updates as cases, by a solution
+abbrev pub updated : Solution → Program → Program
+updated A p = rewritten (update_code (tags_of (length p.tags) A)) p

@@ -1,0 +1,10 @@
+//! A pass: an update whose tag word is a variable becomes a case over the tags that the variable may stand for.
+#![tactic(auto)]
+
+mod blocks;
+mod pass;
+
+pub use pass::Updates;
+
+#[cfg(test)]
+mod tests;

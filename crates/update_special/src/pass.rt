@@ -1,0 +1,70 @@
+// The pass.
+#![tactic(auto)]
+
+ghost use Rattle.std.specs.Prelude.{◌≡◌, IfOk};
+ghost use Rattle.grin_syntax.specs.Tree.{program_of};
+ghost use Rattle.flow_system.specs.Tables.{tables};
+ghost use Rattle.flow_system.specs.System.{system};
+ghost use Rattle.flow_system.specs.Solution.{IsLeast};
+ghost use Rattle.points_to.specs.Found.{found};
+ghost use Rattle.pass_ground.specs.Vectors.{OfVectors};
+ghost use Rattle.update_special.specs.Updates.{updated};
+ghost use Rattle.update_special.specs.Updated.{Updated};
+
+use crate::blocks::Tags;
+use flow_system::system::system;
+use grin_meaning::Pass;
+use grin_syntax::{Grin, Proc};
+use points_to::{Flow, solve};
+use seq::Seq;
+use std::alloc::{AllocError, Global};
+
+/// An update that puts a vector into a cell whose tag is a variable becomes a case over the tags that the least solution of
+/// the program's own flow system has for this variable, in each of whose alternatives the update has a literal tag. Where
+/// there are more than eight such tags, the update stays, so that the program grows by a fixed factor at most.
+pub struct Updates;
+
+impl Pass for Updates {
+    ghost takes = { λ g. OfVectors (program_of g) };
+
+    ghost gives = { λ g h. Updated (program_of g) (program_of h) };
+
+    fn apply(&self, alloc: Global, g: Grin) -> Result<Grin, AllocError> {
+        let flow = least(alloc, &g)?;
+        let h = with_cases(alloc, g, &flow)?;
+        Ok(h)
+    }
+}
+
+// The least solution of a program's flow system.
+pub(crate) fn least(alloc: Global, g: &Grin) -> Result<Flow, AllocError>
+    ensures { IfOk result (λ f. IsLeast (tables (program_of g.now)) (system (program_of g.now)) (found f)) }
+{
+    let system = system(alloc, g)?;
+    let flow = solve(alloc, &system)?;
+    Ok(flow)
+}
+
+pub(crate) fn with_cases(alloc: Global, g: Grin, flow: &Flow) -> Result<Grin, AllocError>
+    ensures { IfOk result (λ h. program_of h ≡ updated (found flow.now) (program_of g)) }
+{
+    let tags = Tags {
+        count: g.tags.len(),
+        flow,
+    };
+    let mut procs = Seq::new(alloc);
+    for proc in g.procs.into_vec() {
+        procs.push(Proc {
+            name: proc.name,
+            params: proc.params,
+            body: tags.block(alloc, proc.body)?,
+        })?;
+    }
+    Ok(Grin {
+        tags: g.tags,
+        globals: g.globals,
+        procs,
+        start: g.start,
+        argument: g.argument,
+    })
+}
