@@ -2,6 +2,8 @@ pub mod Member
 pub mod Given
 pub mod Exact
 pub mod Order
+pub mod Rows
+pub mod Done
 pub mod Sets
 pub mod Loops
 pub mod Search

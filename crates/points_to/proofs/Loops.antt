@@ -30,6 +30,10 @@ module _ {X Y : Type 0} where
       k ∙ ap (λ l. l ++ f x) h ∙ append_assoc old (flat_map f (take i xs)) (f x)
       ∙ ap (λ l. old ++ (flat_map f (take i xs) ++ l)) (sym (append_nil (f x))) ∙ ap (λ l. old ++ l) (sym (flat_map-append f (take i xs) (x ∷ []))) ∙ ap (λ l. old ++ flat_map f l) (sym (take_more xs i d lt))
 
+  -- the item as it was read
+  pub flat_next_is : (f : X → List Y) (xs : List X) (i : ℕ) (x : X) (old now new : List Y) → i < length xs → x ≡ get_or xs i x → now ≡ old ++ flat_map f (take i xs) → new ≡ now ++ f x → new ≡ old ++ flat_map f (take (i + 1) xs)
+  flat_next_is f xs i x old now new lt e h k = flat_next f xs i x old now new lt h (k ∙ ap (λ y. now ++ f y) e)
+
   pub flat_done : (f : X → List Y) (xs : List X) (i : ℕ) (old now : List Y) → length xs ≤ i → now ≡ old ++ flat_map f (take i xs) → now ≡ old ++ flat_map f xs
   flat_done f xs i old now le h = h ∙ ap (λ l. old ++ flat_map f l) (take_all i xs le)
 

@@ -1,101 +1,47 @@
 -- Rows of sets, and what they hold.
-use Rattle.std.proofs.Common.{◌≡◌, ◌<◌, ◌≤◌, ℕ, zero, suc, Bool, true, false, ◌||◌, List, [], ◌∷◌, ◌++◌, length, get_or, slice_set, refl, sym, ap, ◌∙◌, subst, inl, inr, ⊎_elim, arith}
+use Rattle.std.proofs.Common.{◌≡◌, ◌<◌, ◌≤◌, ℕ, zero, suc, Bool, false, List, [], ◌∷◌, ◌++◌, length, get_or, slice_set, refl, sym, ap, ◌∙◌, subst, inl, inr, ⊎_elim, arith}
 use Rattle.std.specs.Prelude.{◌⊎◌, IsTrue, Result as Answer, Ok, Err, OnOk, IfOk}
-use Rattle.std.specs.List.{list_any}
-use Rattle.std.specs.BTreeSet.{BTreeSet, insert_key}
-use Rattle.std.specs.BTreeMap.{is_at}
-use Rattle.std.specs.declared.cmp.Ordering.{Ordering}
-use Rattle.std.specs.declared.cmp.Ordering.TheVariants.{Less, Equal, Greater}
-use Rattle.std.specs.Ordering.{is_eq, match_ordering}
 use Rattle.std.proofs.lemmas.Option.{slice_get_read, slice_get_past}
 use Rattle.flow_system.specs.declared.fact.Place.{Place}
 use Rattle.flow_system.specs.declared.fact.Place.TheVariants.{Site, Var, Result}
 use Rattle.points_to.specs.declared.facts.Item.{Item}
 use Rattle.points_to.specs.declared.facts.Fact.{Fact}
 use Rattle.points_to.specs.declared.facts.Facts.{Facts}
-use Rattle.points_to.specs.Held.{In, here, there}
+use Rattle.points_to.specs.Held.{In, here}
+use Rattle.points_to.specs.Rows.{Gets}
 use Rattle.points_to.specs.Asked.{fact}
-use Rattle.points_to.specs.Known.{item_order, keys_of, items_at, held, Puts, Grows}
-use Rattle.points_to.proofs.Member.{none_in, cons_in, one_in}
-use Rattle.points_to.proofs.Order.{item_equal, item_self}
+use Rattle.points_to.specs.Known.{items_in, items_at, held, Puts, Grows}
+use Rattle.points_to.proofs.Member.{none_in, one_in}
 
-pub at_some : (xs : List (BTreeSet Item)) (n : ℕ) (s : BTreeSet Item) → n < length xs → s ≡ get_or xs n s → items_at xs n ≡ s.keys
-at_some xs n s lt e = ap keys_of (slice_get_read xs (length xs) n s refl lt e)
+pub at_some : (xs : List (List Item)) (n : ℕ) (s : List Item) → n < length xs → s ≡ get_or xs n s → items_at xs n ≡ s
+at_some xs n s lt e = ap items_in (slice_get_read xs (length xs) n s refl lt e)
 
-pub at_none : (xs : List (BTreeSet Item)) (n : ℕ) → length xs ≤ n → items_at xs n ≡ []
-at_none xs n le = ap keys_of (slice_get_past xs n le)
+pub at_none : (xs : List (List Item)) (n : ℕ) → length xs ≤ n → items_at xs n ≡ []
+at_none xs n le = ap items_in (slice_get_past xs n le)
 
-any_in : (i : Item) (ks : List Item) → list_any (is_at (item_order i)) ks ≡ true → In i ks
-any_in i [] e = cc
-any_in i (k ∷ ks) e = go (any_in i ks) (item_order i k) refl e
-  where
-    go : (list_any (is_at (item_order i)) ks ≡ true → In i ks) → (o : Ordering) → item_order i k ≡ o → (is_eq o || list_any (is_at (item_order i)) ks) ≡ true → In i (k ∷ ks)
-    go again Less q e = there (again e)
-    go again Equal q e = subst (λ j. In i (j ∷ ks)) (item_equal i k q) here
-    go again Greater q e = there (again e)
-
-or_true : (a : Bool) → (a || true) ≡ true
-or_true true = refl
-or_true false = refl
-
-in_any : (i : Item) (ks : List Item) → In i ks → list_any (is_at (item_order i)) ks ≡ true
-in_any i [] h = none_in h
-in_any i (k ∷ ks) h = ⊎_elim
-    (λ e. subst (λ j. (is_eq (item_order i j) || list_any (is_at (item_order i)) ks) ≡ true) e (ap (λ o. is_eq o || list_any (is_at (item_order i)) ks) (item_self i)))
-    (λ t. ap (λ b. is_eq (item_order i k) || b) (in_any i ks t) ∙ or_true (is_eq (item_order i k)))
-    (cons_in k ks h)
-
-pub found_some : (xs : List (BTreeSet Item)) (n : ℕ) (s : BTreeSet Item) (i : Item) (b : Bool) → n < length xs → s ≡ get_or xs n s → b ≡ list_any (is_at (item_order i)) s.keys → (IsTrue b → In i (items_at xs n)) × (In i (items_at xs n) → IsTrue b)
+pub found_some : (xs : List (List Item)) (n : ℕ) (s : List Item) (i : Item) (b : Bool) → n < length xs → s ≡ get_or xs n s → (IsTrue b → In i s) × (In i s → IsTrue b) → (IsTrue b → In i (items_at xs n)) × (In i (items_at xs n) → IsTrue b)
 found_some xs n s i b lt e q =
-    let k : items_at xs n ≡ s.keys = at_some xs n s lt e in
-    (λ t. subst (In i) (sym k) (any_in i s.keys (sym q ∙ t)), λ h. q ∙ in_any i s.keys (subst (In i) k h))
+    let k : items_at xs n ≡ s = at_some xs n s lt e in
+    (λ t. subst (In i) (sym k) (q.0 t), λ h. q.1 (subst (In i) k h))
 
-pub found_none : (xs : List (BTreeSet Item)) (n : ℕ) (i : Item) → length xs ≤ n → (IsTrue false → In i (items_at xs n)) × (In i (items_at xs n) → IsTrue false)
+pub found_none : (xs : List (List Item)) (n : ℕ) (i : Item) → length xs ≤ n → (IsTrue false → In i (items_at xs n)) × (In i (items_at xs n) → IsTrue false)
 found_none xs n i le = (λ t. cc, λ h. none_in (subst (In i) (at_none xs n le) h))
 
-empty_more : (xs : List (BTreeSet Item)) (s : BTreeSet Item) → s.keys ≡ [] → (n : ℕ) → items_at (xs ++ s ∷ []) n ≡ items_at xs n
+empty_more : (xs : List (List Item)) (s : List Item) → s ≡ [] → (n : ℕ) → items_at (xs ++ s ∷ []) n ≡ items_at xs n
 empty_more [] s e zero = e
 empty_more [] s e (suc n) = refl
 empty_more (x ∷ xs) s e zero = refl
 empty_more (x ∷ xs) s e (suc n) = empty_more xs s e n
 
-pub grown : (zs xs : List (BTreeSet Item)) (s : BTreeSet Item) → s.keys ≡ [] → items_at xs ≡ items_at zs → items_at (xs ++ s ∷ []) ≡ items_at zs
+pub grown : (zs xs : List (List Item)) (s : List Item) → s ≡ [] → items_at xs ≡ items_at zs → items_at (xs ++ s ∷ []) ≡ items_at zs
 grown zs xs s e q = (λ i n. empty_more xs s e n i) ∙ q
 
--- an insertion
-insert_kept : (ks : List Item) (k j : Item) → In j ks → In j (insert_key item_order ks k)
-insert_kept [] k j h = none_in h
-insert_kept (x ∷ ks) k j h = go (insert_kept ks k j) (item_order k x) h
-  where
-    go : (In j ks → In j (insert_key item_order ks k)) → (o : Ordering) → In j (x ∷ ks) → In j (match_ordering o (k ∷ x ∷ ks) (x ∷ ks) (x ∷ insert_key item_order ks k))
-    go again Less h = there h
-    go again Equal h = h
-    go again Greater h = ⊎_elim (λ e. subst (λ y. In j (y ∷ insert_key item_order ks k)) e here) (λ t. there (again t)) (cons_in x ks h)
-
-insert_put : (ks : List Item) (k : Item) → In k (insert_key item_order ks k)
-insert_put [] k = here
-insert_put (x ∷ ks) k = go (insert_put ks k) (item_order k x) refl
-  where
-    go : In k (insert_key item_order ks k) → (o : Ordering) → item_order k x ≡ o → In k (match_ordering o (k ∷ x ∷ ks) (x ∷ ks) (x ∷ insert_key item_order ks k))
-    go again Less q = here
-    go again Equal q = subst (λ y. In k (y ∷ ks)) (item_equal k x q) here
-    go again Greater q = there again
-
-insert_only : (ks : List Item) (k j : Item) → In j (insert_key item_order ks k) → In j ks ⊎ (j ≡ k)
-insert_only [] k j h = inr (one_in k h)
-insert_only (x ∷ ks) k j h = go (insert_only ks k j) (item_order k x) h
-  where
-    go : (In j (insert_key item_order ks k) → In j ks ⊎ (j ≡ k)) → (o : Ordering) → In j (match_ordering o (k ∷ x ∷ ks) (x ∷ ks) (x ∷ insert_key item_order ks k)) → In j (x ∷ ks) ⊎ (j ≡ k)
-    go again Less h = ⊎_elim (λ e. inr e) (λ t. inl t) (cons_in k (x ∷ ks) h)
-    go again Equal h = inl h
-    go again Greater h = ⊎_elim (λ e. inl (subst (λ y. In j (y ∷ ks)) e here)) (λ t. ⊎_elim (λ a. inl (there a)) (λ b. inr b) (again t)) (cons_in x (insert_key item_order ks k) h)
-
-set_same : (xs : List (BTreeSet Item)) (n : ℕ) (s : BTreeSet Item) → n < length xs → items_at (slice_set xs n s) n ≡ s.keys
+set_same : (xs : List (List Item)) (n : ℕ) (s : List Item) → n < length xs → items_at (slice_set xs n s) n ≡ s
 set_same [] n s lt = absurd (omega arith)
 set_same (x ∷ xs) zero s lt = refl
 set_same (x ∷ xs) (suc n) s lt = set_same xs n s (omega arith)
 
-set_other : (xs : List (BTreeSet Item)) (n m : ℕ) (s : BTreeSet Item) → (m ≡ n → ⊥) → items_at (slice_set xs n s) m ≡ items_at xs m
+set_other : (xs : List (List Item)) (n m : ℕ) (s : List Item) → (m ≡ n → ⊥) → items_at (slice_set xs n s) m ≡ items_at xs m
 set_other [] n m s ne = refl
 set_other (x ∷ xs) zero zero s ne = absurd (ne refl)
 set_other (x ∷ xs) zero (suc m) s ne = refl
@@ -108,24 +54,24 @@ same_or_not zero (suc n) = inr (λ e. cc)
 same_or_not (suc m) zero = inr (λ e. cc)
 same_or_not (suc m) (suc n) = ⊎_elim (λ e. inl (ap suc e)) (λ ne. inr (λ e. ne (omega (arith, e)))) (same_or_not m n)
 
-pub puts : (old : ℕ → List Item) (xs : List (BTreeSet Item)) (n : ℕ) (s s' : BTreeSet Item) (i : Item) → items_at xs ≡ old → n < length xs → s ≡ get_or xs n s → s'.keys ≡ insert_key item_order s.keys i → Puts old (items_at (slice_set xs n s')) n i
-puts old xs n s s' i o lt e q = subst (λ f. Puts f (items_at (slice_set xs n s')) n i) o (record { kept = kept; put = subst (In i) (sym new) (insert_put s.keys i); only = only })
+pub puts : (old : ℕ → List Item) (xs : List (List Item)) (n : ℕ) (s s' : List Item) (i : Item) → items_at xs ≡ old → n < length xs → s ≡ get_or xs n s → Gets s s' i → Puts old (items_at (slice_set xs n s')) n i
+puts old xs n s s' i o lt e g = subst (λ f. Puts f (items_at (slice_set xs n s')) n i) o (record { kept = kept; put = subst (In i) (sym new) g.put; only = only })
   where
-    old_is : items_at xs n ≡ s.keys
+    old_is : items_at xs n ≡ s
     old_is = at_some xs n s lt e
 
-    new : items_at (slice_set xs n s') n ≡ insert_key item_order s.keys i
-    new = set_same xs n s' lt ∙ q
+    new : items_at (slice_set xs n s') n ≡ s'
+    new = set_same xs n s' lt
 
     kept : (m : ℕ) (j : Item) → In j (items_at xs m) → In j (items_at (slice_set xs n s') m)
     kept m j h = ⊎_elim
-        (λ z. subst (λ m. In j (items_at (slice_set xs n s') m)) (sym z) (subst (In j) (sym new) (insert_kept s.keys i j (subst (In j) (ap (items_at xs) z ∙ old_is) h))))
+        (λ z. subst (λ m. In j (items_at (slice_set xs n s') m)) (sym z) (subst (In j) (sym new) (g.kept j (subst (In j) (ap (items_at xs) z ∙ old_is) h))))
         (λ z. subst (In j) (sym (set_other xs n m s' z)) h)
         (same_or_not m n)
 
     only : (m : ℕ) (j : Item) → In j (items_at (slice_set xs n s') m) → In j (items_at xs m) ⊎ ((m ≡ n) × (j ≡ i))
     only m j h = ⊎_elim
-        (λ z. ⊎_elim (λ a. inl (subst (In j) (sym (ap (items_at xs) z ∙ old_is)) a)) (λ b. inr (z, b)) (insert_only s.keys i j (subst (In j) (ap (items_at (slice_set xs n s')) z ∙ new) h)))
+        (λ z. ⊎_elim (λ a. inl (subst (In j) (sym (ap (items_at xs) z ∙ old_is)) a)) (λ b. inr (z, b)) (g.only j (subst (In j) (ap (items_at (slice_set xs n s')) z ∙ new) h)))
         (λ z. inl (subst (In j) (set_other xs n m s' z) h))
         (same_or_not m n)
 

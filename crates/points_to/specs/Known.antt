@@ -1,7 +1,5 @@
 -- The facts that are known, as the sets that hold them.
 use Rattle.std.specs.Prelude.{◌≡◌, ℕ, ◌⊎◌, List, [], Option, Some, None, slice_get}
-use Rattle.std.specs.BTreeSet.{BTreeSet}
-use Rattle.std.specs.declared.cmp.Ordering.{Ordering}
 use Rattle.flow_system.specs.declared.fact.Place.{Place}
 use Rattle.flow_system.specs.declared.fact.Place.TheVariants.{Site, Var, Result}
 use Rattle.flow_system.specs.declared.fact.Part.{Part}
@@ -10,21 +8,16 @@ use Rattle.flow_system.specs.Solution.{Solution, At}
 use Rattle.points_to.specs.declared.facts.Item.{Item}
 use Rattle.points_to.specs.declared.facts.Fact.{Fact}
 use Rattle.points_to.specs.declared.facts.Facts.{Facts}
-use Rattle.points_to.specs.contracts.facts.ItemOrd.TheImpl as item_ord
 use Rattle.points_to.specs.Held.{In, item, picked}
 use Rattle.points_to.specs.Asked.{fact}
 
--- the order of items, by which the sets hold them
-abbrev pub item_order : Item → Item → Ordering
-item_order = (item_ord.ghosts).cmp
-
-abbrev pub keys_of : Option (BTreeSet Item) → List Item
-keys_of None = []
-keys_of (Some s) = s.keys
+abbrev pub items_in : Option (List Item) → List Item
+items_in None = []
+items_in (Some s) = s
 
 -- the items of the set with this number, none where there is no such set
-abbrev pub items_at : List (BTreeSet Item) → ℕ → List Item
-items_at sets n = keys_of (slice_get sets n)
+abbrev pub items_at : List (List Item) → ℕ → List Item
+items_at sets n = items_in (slice_get sets n)
 
 -- the items at a place
 abbrev pub held : Facts → Place → List Item

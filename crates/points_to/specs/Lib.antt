@@ -3,6 +3,7 @@ pub mod Asked
 pub mod Known
 pub mod Rounds
 pub mod Row
+pub mod Rows
 pub mod Shift
 pub mod Wanted
 pub mod Joined

@@ -2,15 +2,17 @@
 
 ghost use Rattle.std.specs.Prelude.{◌≡◌, ℕ, ◌<◌, ◌≤◌, ◌+◌, [], ◌∷◌, ◌++◌, length, IsTrue, ◌↔◌, OnOk, IfOk, true, false};
 ghost use Rattle.flow_system.specs.declared.fact.Place.{Place as Place'};
-ghost use Rattle.points_to.specs.Held.{In};
+ghost use Rattle.flow_system.specs.Shown.{tables_of};
+ghost use Rattle.points_to.specs.Held.{In, picked, done_items};
 ghost use Rattle.points_to.specs.Known.{items_at, held, Puts, Grows};
 ghost use Rattle.points_to.specs.Wanted.{place_of};
 
+use crate::items::Items;
 use crate::wanted::Kind;
 use flow_system::fact::{Element, Part, Place};
+use flow_system::inclusion::FlowSystem;
 use seq::Seq;
 use std::alloc::{AllocError, Global};
-use std::collections::BTreeSet;
 
 /// A word in a part of a place.
 #[derive(Clone, Copy, Debug, PartialEq, Eq, PartialOrd, Ord)]
@@ -29,9 +31,9 @@ pub struct Fact {
 /// The facts that are known: for each kind of place a set of items by the place's number, and how many facts were added.
 #[derive(Drop)]
 pub struct Facts {
-    sites: Vec<BTreeSet<Item>>,
-    vars: Vec<BTreeSet<Item>>,
-    results: Vec<BTreeSet<Item>>,
+    sites: Vec<Items>,
+    vars: Vec<Items>,
+    results: Vec<Items>,
     count: u64,
 }
 
@@ -77,6 +79,34 @@ impl Facts {
         }
     }
 
+    /// Puts the words in one part of a place at the end of a list.
+    pub fn append_words(
+        &self,
+        place: Place,
+        part: Part,
+        out: &mut Seq<Element>,
+    ) -> Result<(), AllocError>
+        ensures { OnOk result (out.new ≡ out.old ++ picked part (held self.now place)) }
+    {
+        match place {
+            Place::Site(n) => append_words(self.sites.as_slice(), n, part, out),
+            Place::Var(n) => append_words(self.vars.as_slice(), n, part, out),
+            Place::Result(n) => append_words(self.results.as_slice(), n, part, out),
+        }
+    }
+
+    /// Puts the items of the evaluated nodes in the cells of a site at the end of a list.
+    pub fn append_done(
+        &self,
+        system: &FlowSystem,
+        site: u32,
+        out: &mut Seq<Item>,
+    ) -> Result<(), AllocError>
+        ensures { OnOk result (out.new ≡ out.old ++ done_items (tables_of system.now) (held self.now (Place.Site site))) }
+    {
+        append_done(system, self.sites.as_slice(), site, out)
+    }
+
     /// Adds a fact, and says whether it is new. A fact that is known changes nothing. More facts than can be counted are want of memory.
     pub fn add(&mut self, alloc: Global, fact: Fact) -> Result<bool, AllocError>
         ensures grown { OnOk result (Grows (held self.old) (held self.new) (fact ∷ [])) }
@@ -114,30 +144,53 @@ impl Facts {
     }
 }
 
-fn append_items(sets: &[BTreeSet<Item>], n: u32, out: &mut Seq<Item>) -> Result<(), AllocError>
+fn append_items(sets: &[Items], n: u32, out: &mut Seq<Item>) -> Result<(), AllocError>
     ensures { OnOk result (out.new ≡ out.old ++ items_at sets.now n) }
 {
     match sets.get(n as usize) {
         None => Ok(()),
-        Some(set) => {
-            for item in set {
-                out.push(*item)?;
-            }
-            Ok(())
-        }
+        Some(set) => set.append(out),
     }
 }
 
-fn has_item(sets: &[BTreeSet<Item>], n: u32, item: Item) -> bool
+fn append_words(
+    sets: &[Items],
+    n: u32,
+    part: Part,
+    out: &mut Seq<Element>,
+) -> Result<(), AllocError>
+    ensures { OnOk result (out.new ≡ out.old ++ picked part (items_at sets.now n)) }
+{
+    match sets.get(n as usize) {
+        None => Ok(()),
+        Some(set) => set.append_words(part, out),
+    }
+}
+
+fn append_done(
+    system: &FlowSystem,
+    sets: &[Items],
+    n: u32,
+    out: &mut Seq<Item>,
+) -> Result<(), AllocError>
+    ensures { OnOk result (out.new ≡ out.old ++ done_items (tables_of system.now) (items_at sets.now n)) }
+{
+    match sets.get(n as usize) {
+        None => Ok(()),
+        Some(set) => set.append_done(system, out),
+    }
+}
+
+fn has_item(sets: &[Items], n: u32, item: Item) -> bool
     ensures { IsTrue result ↔ In item (items_at sets.now n) }
 {
     match sets.get(n as usize) {
-        Some(set) => set.contains(&item),
+        Some(set) => set.has(item),
         None => false,
     }
 }
 
-fn count_of(sets: &[BTreeSet<Item>]) -> Result<u32, AllocError>
+fn count_of(sets: &[Items]) -> Result<u32, AllocError>
     ensures { IfOk result (λ n. (m : ℕ) → n ≤ m → items_at sets.now m ≡ []) }
 {
     if sets.len() > u32::MAX as usize {
@@ -147,25 +200,20 @@ fn count_of(sets: &[BTreeSet<Item>]) -> Result<u32, AllocError>
 }
 
 // Makes empty sets up to the one with this number.
-fn grow(alloc: Global, sets: &mut Vec<BTreeSet<Item>>, n: u32) -> Result<(), AllocError>
+fn grow(alloc: Global, sets: &mut Vec<Items>, n: u32) -> Result<(), AllocError>
     ensures there { OnOk result (n < length sets.new.items) }
     ensures same { OnOk result (items_at sets.new.items ≡ items_at sets.old.items) }
 {
     'growing: while sets.len() <= n as usize {
-        sets.push(BTreeSet::new(alloc))?;
+        sets.push(Items::new(alloc))?;
     }
     Ok(())
 }
 
-fn put_item(
-    alloc: Global,
-    sets: &mut Vec<BTreeSet<Item>>,
-    n: u32,
-    item: Item,
-) -> Result<(), AllocError>
+fn put_item(alloc: Global, sets: &mut Vec<Items>, n: u32, item: Item) -> Result<(), AllocError>
     ensures { OnOk result (Puts (items_at sets.old.items) (items_at sets.new.items) n item) }
 {
     grow(alloc, sets, n)?;
-    sets[n as usize].insert(item)?;
+    sets[n as usize].insert(alloc, item)?;
     Ok(())
 }

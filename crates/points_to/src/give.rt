@@ -6,12 +6,12 @@ ghost use Rattle.flow_system.specs.Inclusions.{value, evaluated, nodes_at, exten
 ghost use Rattle.flow_system.specs.Solution.{width};
 ghost use Rattle.flow_system.specs.Shown.{tables_of, source_of};
 ghost use Rattle.flow_system.specs.declared.fact.Part.TheVariants.{Tags as tags'};
-ghost use Rattle.points_to.specs.Held.{picked, in_part, as_nodes, item, elements, numbered, value_items, cell_items, fetched_at, last_field, longer_node, longer_tag, after_fields, arguments_of, items};
+ghost use Rattle.points_to.specs.Held.{picked, in_part, done_items, node_of_word, as_nodes, item, elements, numbered, value_items, cell_items, fetched_at, last_field, longer_node, longer_tag, after_fields, arguments_of, items};
 ghost use Rattle.points_to.specs.Known.{held};
 ghost use Rattle.points_to.specs.Row.{row_part};
 
 use crate::facts::{Facts, Item};
-use crate::nodes::{Shift, as_nodes, evaluated, fetched, in_part, picked, shift_all};
+use crate::nodes::{Shift, as_nodes, fetched, in_part, nodes_of_words, picked, shift_all};
 use crate::tags::{fields_of, longer};
 use flow_system::fact::{Element, Part, Place};
 use flow_system::inclusion::{FlowSystem, Source};
@@ -38,11 +38,7 @@ pub fn elements(
 {
     match w {
         Word::Lit(_) => out.push(Element::Number),
-        Word::Var(x) => {
-            let mut items = Seq::new(alloc);
-            facts.append(Place::Var(x.0), &mut items)?;
-            picked(Part::Word(0), items.as_slice(), out)
-        }
+        Word::Var(x) => facts.append_words(Place::Var(x.0), Part::Word(0), out),
         Word::Global(i) => match system.globals.get(i as usize) {
             Some(global) => out.push(Element::Cell(global.site.0)),
             None => Ok(()),
@@ -437,7 +433,71 @@ fn extended(
     )
 }
 
-// The evaluated ones among the nodes at the cells of a word.
+// The evaluated nodes at a cell.
+fn done_at(
+    system: &FlowSystem,
+    facts: &Facts,
+    word: Element,
+    out: &mut Seq<Item>,
+) -> Result<(), AllocError>
+    ensures { OnOk result (out.new ≡ out.old ++ done_items (tables_of system.now) (cell_items (held facts.now) word)) }
+{
+    match word {
+        Element::Cell(s) => facts.append_done(system, s, out),
+        Element::Tag(_) => Ok(()),
+        Element::Number => Ok(()),
+    }
+}
+
+fn done_at_all(
+    system: &FlowSystem,
+    facts: &Facts,
+    words: &[Element],
+    out: &mut Seq<Item>,
+) -> Result<(), AllocError>
+    ensures { OnOk result (out.new ≡ out.old ++ flat_map (λ w. done_items (tables_of system.now) (cell_items (held facts.now) w)) words.now) }
+{
+    for word in words {
+        done_at(system, facts, *word, out)?;
+    }
+    Ok(())
+}
+
+// The first words at a cell.
+fn first_at(facts: &Facts, word: Element, out: &mut Seq<Element>) -> Result<(), AllocError>
+    ensures { OnOk result (out.new ≡ out.old ++ picked (Part.Word 0) (cell_items (held facts.now) word)) }
+{
+    match word {
+        Element::Cell(s) => facts.append_words(Place::Site(s), Part::Word(0), out),
+        Element::Tag(_) => Ok(()),
+        Element::Number => Ok(()),
+    }
+}
+
+fn first_at_all(facts: &Facts, words: &[Element], out: &mut Seq<Element>) -> Result<(), AllocError>
+    ensures { OnOk result (out.new ≡ out.old ++ flat_map (λ w. picked (Part.Word 0) (cell_items (held facts.now) w)) words.now) }
+{
+    for word in words {
+        first_at(facts, *word, out)?;
+    }
+    Ok(())
+}
+
+// The evaluated ones among the nodes that first words alone stand for.
+fn done_alone(
+    alloc: Global,
+    system: &FlowSystem,
+    words: &[Element],
+    out: &mut Seq<Item>,
+) -> Result<(), AllocError>
+    ensures { OnOk result (out.new ≡ out.old ++ done_items (tables_of system.now) (flat_map (node_of_word (tables_of system.now) (Some 1) []) words.now)) }
+{
+    let mut nodes = Seq::new(alloc);
+    nodes_of_words(system, Some(1), &[], words, &mut nodes)?;
+    shift_all(system, Shift::Evaluated, nodes.as_slice(), out)
+}
+
+// The evaluated ones among the nodes at the cells of a word. The fields of delayed calls there, which may be many, are passed over.
 fn evaluated_at(
     alloc: Global,
     system: &FlowSystem,
@@ -447,9 +507,13 @@ fn evaluated_at(
 ) -> Result<(), AllocError>
     ensures { OnOk result (out.new ≡ out.old ++ items (tables_of system.now) (held facts.now) (evaluated (nodes_at w))) }
 {
-    let mut items = Seq::new(alloc);
-    items_at_cells(alloc, system, facts, w, &mut items)?;
-    evaluated(alloc, system, Some(1), items.as_slice(), out)
+    let mut cells = Seq::new(alloc);
+    elements(alloc, system, facts, w, &mut cells)?;
+    done_at_all(system, facts, cells.as_slice(), out)?;
+    let mut firsts = Seq::new(alloc);
+    first_at_all(facts, cells.as_slice(), &mut firsts)?;
+    done_alone(alloc, system, firsts.as_slice(), out)?;
+    Ok(())
 }
 
 fn fields_of_value(

@@ -10,6 +10,7 @@ mod ask;
 mod facts;
 mod flow;
 mod give;
+mod items;
 mod nodes;
 mod rounds;
 mod tables;

@@ -24,7 +24,8 @@ pub enum Shift {
     Arguments(u32),
 }
 
-fn same_part(a: Part, b: Part) -> bool
+/// Whether two parts are one.
+pub fn same_part(a: Part, b: Part) -> bool
     ensures { result ≡ same_part a b }
 {
     match a {
@@ -46,7 +47,8 @@ fn same_part(a: Part, b: Part) -> bool
     }
 }
 
-fn push_if(wanted: bool, item: Item, out: &mut Seq<Item>) -> Result<(), AllocError>
+/// Puts an item at the end of a list, where it is wanted.
+pub fn push_if(wanted: bool, item: Item, out: &mut Seq<Item>) -> Result<(), AllocError>
     ensures { OnOk result (out.new ≡ out.old ++ cond wanted (item ∷ []) []) }
 {
     if wanted {
@@ -318,7 +320,8 @@ fn node_of_word(
     }
 }
 
-fn nodes_of_words(
+/// The node that so many words, with these items after the first one, stand for, for each tag in the first one.
+pub fn nodes_of_words(
     system: &FlowSystem,
     k: Option<usize>,
     items: &[Item],
