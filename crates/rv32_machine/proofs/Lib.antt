@@ -1,6 +1,7 @@
 pub mod Composed
 pub mod Turns
 pub mod Loops
+pub mod Advanced
 pub mod Division
 pub mod Stores
 pub mod Begun

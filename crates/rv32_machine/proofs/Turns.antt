@@ -7,7 +7,7 @@ use Rattle.rv32_machine.specs.declared.machine.Stop.{Stop}
 use Rattle.rv32_machine.specs.declared.machine.Stop.TheVariants.{Steps, Exit as Exit', Trap as Trap'}
 use Rattle.rv32_machine.specs.declared.machine.StepResult.TheVariants.{Next as Next', Read as Read', Write as Write', Exit, Trap}
 use Rattle.rv32_machine.specs.Memory.{range_bytes}
-use Rattle.rv32_machine.specs.Steps.{State, Stand, state_of, Outcome, Next, Written, Asked, Ended, Trapped, Does, IsAt, step, given}
+use Rattle.rv32_machine.specs.Steps.{State, Stand, state_of, Outcome, Next, Written, Asked, Ended, Trapped, Does, IsAt, IsRunning, step, given}
 use Rattle.rv32_machine.specs.Runs.{Run, Going, Exited, Stopped, stands, after, onward, run, piece_of, Stays}
 use Rattle.rv32_machine.proofs.Composed.{run_none, run_more}
 
@@ -138,3 +138,7 @@ pub wrote : (s : State) (a n : ℕ) (new : Stand) → Does s (step s) (Write' a 
 wrote s a n new h =
     let k = write_is s (step s) a n new h in
     (k.0, (k.1.3, ap piece_of k.1.0))
+
+-- and the program has not ended
+pub write_runs : (s : State) (a n : ℕ) (new : Stand) → Does s (step s) (Write' a n) new → IsRunning new
+write_runs s a n new h = let k = write_is s (step s) a n new h in (k.1.1, k.1.2)

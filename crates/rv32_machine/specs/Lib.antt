@@ -3,3 +3,4 @@ pub mod Memory
 pub mod Decoded
 pub mod Steps
 pub mod Runs
+pub mod Plain

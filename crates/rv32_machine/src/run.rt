@@ -6,8 +6,9 @@ ghost use Rattle.grin_io.specs.Content.{Takes};
 ghost use Rattle.grin_io.specs.Changes.{Told, of_sink, of_source, TookAll, Broke, Faults};
 ghost use Rattle.grin_io.specs.declared.outside.Fault.{Fault};
 ghost use Rattle.rv32_machine.specs.Memory.{range_bytes};
-ghost use Rattle.rv32_machine.specs.Steps.{IsRunning, IsAt, given, step, state_of};
-ghost use Rattle.rv32_machine.specs.Runs.{run, pieces, piece_of, Stays, is_end};
+ghost use Rattle.rv32_machine.specs.Steps.{IsRunning, IsAt, given, state_of};
+ghost use Rattle.rv32_machine.specs.Runs.{run, pieces, Stays, is_end};
+ghost use Rattle.rv32_machine.specs.Plain.{Advances};
 
 use crate::machine::{Machine, StepResult, Stop};
 use grin_io::{Failed, Fault, Sink, Source};
@@ -31,40 +32,36 @@ impl Machine {
         ensures broken { OnErr result (self.new.over ≡ true) }
         ensures answered { self.new.waiting ≡ false }
     {
-        for _step in 0..steps {
-            match self.turn(input, out)? {
-                Stop::Steps => {}
-                stop => return Ok(stop),
+        let mut left = steps;
+        while left > 0 {
+            let (plain, told) = self.advance(left);
+            match told {
+                StepResult::Next => return Ok(Stop::Steps),
+                StepResult::Read(_) => self.take_byte(input)?,
+                StepResult::Write(addr, len) => self.put_bytes(addr, len, out)?,
+                StepResult::Exit(code) => return Ok(Stop::Exit(code)),
+                StepResult::Trap(kind, pc) => return Ok(Stop::Trap(kind, pc)),
             }
+            left -= plain + 1;
         }
         Ok(Stop::Steps)
     }
 
-    /// One instruction, with the byte that it reads or the bytes that it writes: a run of one step.
-    #[inline(always)]
-    fn turn<I: Source, K: Sink>(&mut self, input: &mut I, out: &mut K) -> Result<Stop, Fault>
+    /// Does instructions after which the program just goes on, at most `most`, up to the first that does more. Answers
+    /// how many there were, and what that one did. The loop stands in a program once, whatever its sources and sinks
+    /// are, so that an instruction is compiled into it.
+    #[inline(never)]
+    fn advance(&mut self, most: u64) -> (u64, StepResult)
         requires { IsRunning self.old }
-        ensures stands { IfOk result (λ stop. Told (I.left input.old) (λ i. Stays (run 1 i (state_of self.old)) stop self.new (I.left input.new))) }
-        ensures output { OnOk result (TookAll (of_sink K.put_gives K.taken K.faults out.old out.new) (piece_of (step (state_of self.old)))) }
-        ensures fault { IfErr result (λ fault. Broke fault (of_sink K.put_gives K.taken K.faults out.old out.new) (piece_of (step (state_of self.old)))) }
-        ensures cause { Faults result (of_source I.left I.faults input.old input.new) (of_sink K.put_gives K.taken K.faults out.old out.new) }
-        ensures ended { IfOk result (λ stop. self.new.over ≡ is_end stop) }
-        ensures broken { OnErr result (self.new.over ≡ true) }
-        ensures answered { self.new.waiting ≡ false }
+        ensures { Advances most self.old result.0 result.1 self.new }
     {
-        match self.step() {
-            StepResult::Next => Ok(Stop::Steps),
-            StepResult::Read(_) => match self.take_byte(input) {
-                Ok(()) => Ok(Stop::Steps),
-                Err(fault) => Err(fault),
-            },
-            StepResult::Write(addr, len) => match self.put_bytes(addr, len, out) {
-                Ok(()) => Ok(Stop::Steps),
-                Err(fault) => Err(fault),
-            },
-            StepResult::Exit(code) => Ok(Stop::Exit(code)),
-            StepResult::Trap(kind, pc) => Ok(Stop::Trap(kind, pc)),
+        for plain in 0..most {
+            match self.step() {
+                StepResult::Next => {}
+                told => return (plain, told),
+            }
         }
+        (most, StepResult::Next)
     }
 
     /// A read call's answer: a byte of the source, or its end.

@@ -1,13 +1,17 @@
-use Rattle.std.proofs.Common.{◌≤◌}
+use Rattle.std.proofs.Common.{◌≤◌, ◌-◌}
 use Rattle.grin_io.specs.Changes.{of_sink}
 use Rattle.rv32_machine.specs.Steps.{IsRunning, state_of}
 use Rattle.rv32_machine.proofs.Loops.{Kept}
 use Rattle.rv32_machine.proofs.machine.Machine.run.Given as goal
 
-abbrev pub invariant-loop-step : goal.invariant-loop-step
-invariant-loop-step g l = record {
+abbrev pub invariant-loop-left : goal.invariant-loop-left
+invariant-loop-left g l = record {
+  within : l.left ≤ l.fn.steps;
   running : IsRunning l.self;
-  kept : Kept (state_of l.fn.self) l._step l.self (g.I.Source.left l.fn.input) (g.I.Source.left l.input) (of_sink g.K.Sink.put_gives g.K.Sink.taken g.K.Sink.faults l.fn.out l.out);
+  kept : Kept (state_of l.fn.self) (l.fn.steps - l.left) l.self (g.I.Source.left l.fn.input) (g.I.Source.left l.input) (of_sink g.K.Sink.put_gives g.K.Sink.taken g.K.Sink.faults l.fn.out l.out);
   input_later : g.I.Source.faults l.fn.input ≤ g.I.Source.faults l.input;
   out_later : g.K.Sink.faults l.fn.out ≤ g.K.Sink.faults l.out;
 }
+
+abbrev pub decreases-loop-left : goal.decreases-loop-left
+decreases-loop-left g l = l.left
