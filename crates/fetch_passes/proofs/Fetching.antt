@@ -1,32 +1,30 @@
 -- Steps of the two programs with fetches, side by side.
-use Rattle.std.proofs.Common.{◌≡◌, ◌≢◌, ℕ, zero, suc, pos, ◌+◌, ◌<◌, ◌≤◌, Bool, true, false, cond, ◌||◌, ◌&&◌, not, nat_eq, List, [], ◌∷◌, ◌++◌, map, length, Option, Some, None, slice_get, refl, sym, ap, ◌∙◌, subst, inl, inr, ◌⊎◌, arith}
+use Rattle.std.proofs.Common.{◌≡◌, ◌≢◌, ℕ, suc, ◌<◌, ◌≤◌, Bool, true, false, nat_eq, List, [], ◌∷◌, Option, Some, None, slice_get, refl, sym, ap, ◌∙◌, subst, arith}
 use Rattle.grin_syntax.specs.declared.program.VarId.{VarId}
-use Rattle.grin_syntax.specs.declared.program.Target.{Target}
 use Rattle.grin_syntax.specs.declared.program.Target.TheVariants as to
 use Rattle.grin_syntax.specs.declared.program.Word as W
-use Rattle.grin_syntax.specs.declared.program.Word.TheVariants.{Lit, Var, Global, TagWord}
-use Rattle.grin_syntax.specs.Tree.{Code, end, store, bind, Act, fetch, fetch_word, Procedure, Program}
+use Rattle.grin_syntax.specs.declared.program.Word.TheVariants.{Var}
+use Rattle.grin_syntax.specs.Tree.{Code, bind, fetch, fetch_word, Procedure, Program}
 use Rattle.grin_syntax.specs.Binders.{times, numbers_of}
 use Rattle.grin_syntax.specs.Formed.{AllOf, InScope}
 use Rattle.grin_syntax.specs.Fresh.{variable}
 use Rattle.grin_syntax.proofs.Counted.{counts, one_at}
-use Rattle.grin_meaning.specs.Values.{Datum, tag, Node, Value, node, words, Env, HeapCell, World, Answer, gives, need, and_then, Binding, with_vars, word_of, bindings_of}
+use Rattle.grin_meaning.specs.Values.{Datum, Value, node, words, Env, HeapCell, World, gives, need, and_then, word_of}
 use Rattle.grin_meaning.specs.Run.{Calls, act_by, node_word, place_of}
-use Rattle.grin_meaning.specs.Checks.{is_bound_well}
 use Rattle.grin_meaning.specs.Follows.{Same, same}
 use Rattle.grin_meaning.specs.Full.{FullState}
 use Rattle.grin_meaning.proofs.Back.{CallsBack}
 use Rattle.grin_meaning.proofs.Beside.{no_deeper, Beside, beside}
-use Rattle.grin_meaning.proofs.Rules.{Relation, Plan, Here, Setting, CallsFollow, ActFollows, CodeFollows, code_more}
+use Rattle.grin_meaning.proofs.Rules.{Relation, Plan, Setting, CallsFollow, CodeFollows, code_more}
 use Rattle.grin_meaning.proofs.Procedures.{side_by_side}
-use Rattle.grin_meaning.proofs.OneSided.{Alone, right_follows, left_follows}
+use Rattle.grin_meaning.proofs.OneSided.{right_follows}
 use Rattle.fetch_passes.specs.Uses.{word_is, code_uses}
 use Rattle.fetch_passes.specs.Windows.{outside}
-use Rattle.fetch_passes.specs.Names.{Names, Wait, as_word, hiding, named_if}
+use Rattle.fetch_passes.specs.Names.{Names, Wait, as_word, named_if}
 use Rattle.fetch_passes.specs.Split.{fetched_if, word_fetches, front, front_names}
-use Rattle.fetch_passes.proofs.Found.{equal_so, equal_self, never_both, is_var, is_waiting, naming}
-use Rattle.fetch_passes.proofs.Near.{At, Sound, sound_more, at_more, Held, held_more, Waits, Near, waits_more}
-use Rattle.fetch_passes.proofs.Steps.{plus, plus_out, numbered, near_with, near_dropped, near_hidden, near_kept, near_named}
+use Rattle.fetch_passes.proofs.Found.{is_var, naming}
+use Rattle.fetch_passes.proofs.Near.{Sound, sound_more, Held, held_more, Waits, Near, waits_more}
+use Rattle.fetch_passes.proofs.Steps.{plus, plus_out, numbered, near_dropped, near_hidden, near_kept, near_named}
 use Rattle.fetch_passes.proofs.Waiting.{sound_naming}
 
 pub same_is : {A : Type 0} {a b : A} → Same a b → b ≡ a

@@ -1,19 +1,18 @@
 -- Small facts: of tests, of variables that are bound, and of the names that stand for variables.
-use Rattle.std.proofs.Common.{◌≡◌, ◌≢◌, ℕ, zero, suc, pos, ◌+◌, ◌<◌, ◌≤◌, Bool, true, false, cond, ◌||◌, nat_eq, List, [], ◌∷◌, ◌++◌, map, length, Option, Some, None, refl, sym, ap, ◌∙◌, subst, arith}
+use Rattle.std.proofs.Common.{◌≡◌, ◌≢◌, ℕ, zero, suc, pos, ◌+◌, ◌<◌, Bool, true, false, cond, ◌||◌, nat_eq, List, [], ◌∷◌, ◌++◌, map, length, Option, Some, None, refl, sym, ap, ◌∙◌, subst, arith}
 use Rattle.std.proofs.lemmas.Bool.Decides.{nat_tests}
 use Rattle.grin_syntax.specs.declared.program.VarId.{VarId}
 use Rattle.grin_syntax.specs.declared.program.Cell.{Cell}
 use Rattle.grin_syntax.specs.declared.program.Target.{Target}
 use Rattle.grin_syntax.specs.declared.program.Target.TheVariants as to
 use Rattle.grin_syntax.specs.declared.program.Word as W
-use Rattle.grin_syntax.specs.declared.program.Word.TheVariants.{Lit, Var, Global, TagWord}
+use Rattle.grin_syntax.specs.declared.program.Word.TheVariants.{Lit, Var}
 use Rattle.grin_syntax.specs.Binders.{times, numbers_of, target_vars, cell_vars}
-use Rattle.grin_syntax.specs.Formed.{InScope}
 use Rattle.grin_syntax.specs.Fresh.{variable}
 use Rattle.grin_syntax.specs.Tree.{Program}
-use Rattle.grin_meaning.specs.Values.{Datum, tag, cell, Node, Value, node, words, Env, and_then, padded, Binding, with_vars, one_each, as_node, bindings_of}
+use Rattle.grin_meaning.specs.Values.{Datum, tag, Node, Value, node, words, Env, and_then, padded, Binding, with_vars, one_each, as_node, bindings_of}
 use Rattle.grin_meaning.specs.Run.{places}
-use Rattle.fetch_passes.specs.Names.{Names, Standing, Wait, stands, as_word, hidden, hiding}
+use Rattle.fetch_passes.specs.Names.{Names, Wait, stands, as_word, hidden, hiding}
 
 -- ---- tests
 

@@ -1,6 +1,5 @@
 -- A program with its fetches split keeps the program.
-use Rattle.std.proofs.Common.{◌≡◌, ℕ, zero, suc, pos, ◌+◌, ◌<◌, ◌≤◌, Bool, true, false, max, List, [], ◌∷◌, ◌++◌, map, length, Option, Some, None, slice_get, refl, sym, ap, ◌∙◌, subst, arith}
-use Rattle.grin_syntax.specs.declared.program.VarId.{VarId}
+use Rattle.std.proofs.Common.{◌≡◌, ℕ, zero, suc, pos, ◌+◌, ◌<◌, ◌≤◌, true, List, [], ◌∷◌, ◌++◌, length, Some, refl, ap, arith}
 use Rattle.grin_syntax.specs.declared.program.Word.TheVariants.{Lit}
 use Rattle.grin_syntax.specs.Tree.{Procedure, Program}
 use Rattle.grin_syntax.specs.Binders.{times, numbers_of, code_vars, procs_vars}
@@ -20,10 +19,8 @@ use Rattle.grin_meaning.proofs.Back.{CallsBack}
 use Rattle.grin_meaning.proofs.Fullness.{nodes_full}
 use Rattle.grin_meaning.proofs.Beside.{no_deeper, Likewise, Seen}
 use Rattle.grin_meaning.proofs.Rules.{CallsFollow}
-use Rattle.grin_meaning.proofs.Procedures.{nothing, BodyFollows, BodiesFollow, no_more, one_more, side_by_side, run_follows}
+use Rattle.grin_meaning.proofs.Procedures.{nothing, BodyFollows, BodiesFollow, no_more, one_more, run_follows}
 use Rattle.grin_meaning.proofs.KeptBy.{likewise_kept, looking_kept}
-use Rattle.fetch_passes.specs.Uses.{code_uses}
-use Rattle.fetch_passes.specs.Windows.{outside}
 use Rattle.fetch_passes.specs.Split.{made_code, split_code, split_procs, split}
 use Rattle.fetch_passes.proofs.Near.{itself, Near}
 use Rattle.fetch_passes.proofs.Fetching.{plan_of, it}

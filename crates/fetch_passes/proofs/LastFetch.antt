@@ -1,5 +1,5 @@
 -- A fetch that ends a block, against fetches of all words and a case over all tags.
-use Rattle.std.proofs.Common.{◌≡◌, ◌≢◌, ℕ, zero, suc, pos, ◌+◌, ◌<◌, ◌≤◌, Bool, true, false, cond, ◌&&◌, nat_eq, nat_le, take, max, List, [], ◌∷◌, ◌++◌, map, length, Option, Some, None, slice_get, refl, sym, ap, ◌∙◌, subst, arith}
+use Rattle.std.proofs.Common.{◌≡◌, ◌≢◌, ℕ, zero, suc, ◌+◌, ◌<◌, ◌≤◌, Bool, true, false, cond, nat_eq, nat_le, take, List, [], ◌∷◌, ◌++◌, map, length, Option, Some, None, slice_get, refl, sym, ap, ◌∙◌, subst, arith}
 use Rattle.std.proofs.lemmas.Bool.Decides.{nat_tests}
 use Rattle.grin_syntax.specs.declared.program.VarId.{VarId}
 use Rattle.grin_syntax.specs.declared.program.Tag.{Tag}
@@ -8,25 +8,23 @@ use Rattle.grin_syntax.specs.declared.program.Shape.TheVariants as shape
 use Rattle.grin_syntax.specs.declared.program.Val.TheVariants.{Node as NodeVal, Vector}
 use Rattle.grin_syntax.specs.declared.program.Word as W
 use Rattle.grin_syntax.specs.declared.program.Word.TheVariants.{Var}
-use Rattle.grin_syntax.specs.Tree.{Code, end, bind, Act, unit, fetch, fetch_word, case, Arms, no_arm, arm, Procedure, Program}
+use Rattle.grin_syntax.specs.Tree.{Code, end, unit, fetch, fetch_word, case, Procedure, Program}
 use Rattle.grin_syntax.specs.Tags.{tag_id}
 use Rattle.grin_syntax.specs.Fresh.{variable, variables}
-use Rattle.grin_syntax.specs.Formed.{AllOf}
 use Rattle.grin_syntax.proofs.Scopes.{all_get}
-use Rattle.grin_meaning.specs.Values.{Datum, number, tag, Node, Value, node, words, Env, HeapCell, State, World, Answer, gives, stops, missing, need, and_then, only_word, Binding, with_vars, Fit, fits, fits_not, unclear, node_fit, fields_of, made_node, as_node, fit_of, word_of, words_of, value_of}
+use Rattle.grin_meaning.specs.Values.{Datum, Node, Value, node, words, Env, HeapCell, World, gives, need, and_then, only_word, with_vars, Fit, fits, fits_not, unclear, node_fit, made_node, as_node, fit_of, word_of, words_of, value_of}
 use Rattle.grin_meaning.specs.Run.{Calls, act_by, code_by, arms_by, choose, passing, node_word, nth_or_zero, place_of}
 use Rattle.grin_meaning.specs.Ready.{most_fields}
 use Rattle.grin_meaning.specs.Follows.{Same, same}
 use Rattle.grin_meaning.specs.Full.{FullState, FullCell, FullNode}
 use Rattle.grin_meaning.proofs.Back.{CallsBack}
-use Rattle.grin_meaning.proofs.Beside.{no_deeper, Beside, beside, free, gives_too, Likewise, Sim, need_first}
+use Rattle.grin_meaning.proofs.Beside.{no_deeper, beside, gives_too, Sim, need_first}
 use Rattle.grin_meaning.proofs.Rules.{Relation, Here, Setting, CallsFollow, ActFollows, CodeFollows, end_follows}
 use Rattle.grin_meaning.proofs.OneSided.{right_follows}
-use Rattle.fetch_passes.specs.Names.{Wait}
 use Rattle.fetch_passes.specs.Split.{all_words, node_arms, whole_node}
 use Rattle.fetch_passes.proofs.Found.{equal_self, equal_not}
 use Rattle.fetch_passes.proofs.Steps.{plus, plus_out, plus_in}
-use Rattle.fetch_passes.proofs.Fetching.{same_is, fetches, plan_of, it, cells_same}
+use Rattle.fetch_passes.proofs.Fetching.{fetches, plan_of, it, cells_same}
 
 -- so many words of a node, from the j-th on
 abbrev pub words_from : Node → ℕ → ℕ → List Datum

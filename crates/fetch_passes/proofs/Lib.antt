@@ -18,3 +18,5 @@ pub mod Counts
 pub mod Scoped
 pub mod Whole
 pub mod Used
+pub mod Placing
+pub mod Fronting

@@ -1,18 +1,17 @@
 -- The variables of a program and of the one with its fetches split, side by side.
-use Rattle.std.proofs.Common.{◌≡◌, ◌≢◌, ℕ, zero, suc, pos, ◌+◌, ◌<◌, ◌≤◌, Bool, true, false, cond, ◌||◌, nat_eq, List, [], ◌∷◌, ◌++◌, map, length, Option, Some, None, slice_get, refl, sym, ap, ◌∙◌, subst, inl, inr, ◌⊎◌, arith}
+use Rattle.std.proofs.Common.{◌≡◌, ℕ, zero, suc, pos, ◌+◌, ◌<◌, ◌≤◌, true, List, [], ◌∷◌, ◌++◌, Some, slice_get, refl, sym, ap, ◌∙◌, subst, inl, inr, ◌⊎◌, arith}
 use Rattle.grin_syntax.specs.declared.program.VarId.{VarId}
 use Rattle.grin_syntax.specs.declared.program.Word as W
 use Rattle.grin_syntax.specs.declared.program.Word.TheVariants.{Lit, Var, Global, TagWord}
 use Rattle.grin_syntax.specs.Tree.{Program}
-use Rattle.grin_syntax.specs.Binders.{times, numbers_of}
-use Rattle.grin_syntax.specs.Formed.{AllOf, Scope, InScope, with_words}
-use Rattle.grin_syntax.specs.Fresh.{variable}
+use Rattle.grin_syntax.specs.Binders.{times}
+use Rattle.grin_syntax.specs.Formed.{AllOf, InScope}
 use Rattle.grin_syntax.proofs.Counted.{times_append}
-use Rattle.grin_meaning.specs.Values.{Datum, Node, Value, node, words, Env, HeapCell, and_then, only_word, Binding, with_vars, word_of}
+use Rattle.grin_meaning.specs.Values.{Datum, Env, HeapCell, and_then, only_word, Binding, with_vars, word_of}
 use Rattle.grin_meaning.specs.Run.{node_word, place_of}
 use Rattle.fetch_passes.specs.Uses.{word_is}
-use Rattle.fetch_passes.specs.Names.{Names, Standing, Wait, stands, as_word, hiding}
-use Rattle.fetch_passes.proofs.Found.{equal_so, equal_self, equal_not, never_both, same_var, names_of, vars_out, vars_in, is_var, is_waiting, hiding_is, naming, naming_is}
+use Rattle.fetch_passes.specs.Names.{Names, Wait, as_word}
+use Rattle.fetch_passes.proofs.Found.{equal_so, equal_self, names_of, vars_out, vars_in, is_var}
 
 -- what stands for the variable z: itself, a new variable of those from base to n, or nothing; the last two where z is in scope
 pub data At (base n : ℕ) (xs : List ℕ) (z : ℕ) : W.Word → Type 0 where

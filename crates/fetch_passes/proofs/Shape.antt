@@ -1,18 +1,18 @@
 -- What stands in the text of a program with its fetches split.
-use Rattle.std.proofs.Common.{◌≡◌, ℕ, zero, suc, pos, ◌+◌, ◌<◌, ◌≤◌, Bool, true, false, cond, List, [], ◌∷◌, ◌++◌, map, take, length, refl, sym, ap, ◌∙◌, subst, arith}
+use Rattle.std.proofs.Common.{◌≡◌, ℕ, suc, pos, ◌+◌, ◌≤◌, Bool, true, false, List, [], ◌∷◌, ◌++◌, map, length, refl, sym, ap, ◌∙◌, subst}
 use Rattle.std.proofs.lemmas.List.{length-map}
 use Rattle.grin_syntax.specs.declared.program.VarId.{VarId}
 use Rattle.grin_syntax.specs.declared.program.TagId.{TagId}
 use Rattle.grin_syntax.specs.declared.program.Tag.{Tag}
 use Rattle.grin_syntax.specs.declared.program.Cell.{Cell}
 use Rattle.grin_syntax.specs.declared.program.Word as W
-use Rattle.grin_syntax.specs.declared.program.Word.TheVariants.{Lit, Var}
+use Rattle.grin_syntax.specs.declared.program.Word.TheVariants.{Lit}
 use Rattle.grin_syntax.specs.declared.program.Val as V
 use Rattle.grin_syntax.specs.declared.program.Val.TheVariants.{NodeVar, Node, Vector, One}
 use Rattle.grin_syntax.specs.declared.program.Target as T
 use Rattle.grin_syntax.specs.declared.program.Target.TheVariants as to
-use Rattle.grin_syntax.specs.Tree.{Code, end, store, bind, Act, unit, fetch, fetch_word, update, eval, apply, call, prim, read, write, case, nested, fail, Arms, no_arm, arm, Procedure}
-use Rattle.grin_syntax.specs.Binders.{target_vars, shape_vars, act_sites, code_sites, arms_sites, procs_sites}
+use Rattle.grin_syntax.specs.Tree.{Code, end, store, bind, Act, unit, fetch, fetch_word, update, apply, case, nested, Arms, no_arm, arm, Procedure}
+use Rattle.grin_syntax.specs.Binders.{shape_vars, act_sites, code_sites, arms_sites, procs_sites}
 use Rattle.grin_syntax.specs.Formed.{AllOf}
 use Rattle.grin_syntax.specs.SameOutside.{names_of}
 use Rattle.grin_syntax.specs.Fresh.{variable, variables}
@@ -20,7 +20,7 @@ use Rattle.grin_meaning.specs.Checks.{is_fetch}
 use Rattle.grin_meaning.specs.Ready.{EachAct, EachCode, EachArms, NarrowAct, NarrowCode, NarrowArms, val_width, most_fields}
 use Rattle.fetch_passes.specs.Uses.{code_uses}
 use Rattle.fetch_passes.specs.Windows.{outside}
-use Rattle.fetch_passes.specs.Names.{Names, Wait, as_words, as_val, as_cells}
+use Rattle.fetch_passes.specs.Names.{Names, Wait, as_val, as_cells}
 use Rattle.fetch_passes.specs.Split.{fetched_if, word_fetches, front, front_names, names_after, waits_after, cell_after, all_words, node_arms, whole_node, split_act, split_code, split_arms, split_procs, made_act, made_code}
 
 -- ---- facts of each operation

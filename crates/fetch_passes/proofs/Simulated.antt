@@ -1,6 +1,5 @@
 -- A program with its fetches split does what the program does, with no deeper nesting.
-use Rattle.std.proofs.Common.{◌≡◌, ◌≢◌, ℕ, zero, suc, pos, ◌+◌, ◌<◌, ◌≤◌, Bool, true, false, cond, ◌||◌, ◌&&◌, not, nat_eq, List, [], ◌∷◌, ◌++◌, map, length, Option, Some, None, slice_get, slice_set, refl, sym, ap, ◌∙◌, subst, inl, inr, ◌⊎◌, arith}
-use Rattle.std.specs.Prelude.{ℤ}
+use Rattle.std.proofs.Common.{◌≡◌, ◌≢◌, ℕ, zero, suc, pos, ◌+◌, ◌<◌, ◌≤◌, Bool, true, false, cond, ◌||◌, ◌&&◌, nat_eq, List, [], ◌∷◌, ◌++◌, length, Some, slice_get, slice_set, refl, sym, ap, ◌∙◌, subst, inl, inr, ◌⊎◌, arith}
 use Rattle.grin_syntax.specs.declared.program.VarId.{VarId}
 use Rattle.grin_syntax.specs.declared.program.Cell.{Cell}
 use Rattle.grin_syntax.specs.declared.program.Target.{Target}
@@ -13,28 +12,27 @@ use Rattle.grin_syntax.specs.Tree.{Code, end, store, bind, Act, unit, fetch, fet
 use Rattle.grin_syntax.specs.Binders.{times, numbers_of, target_vars, shape_vars, cell_vars, act_vars, code_vars, arms_vars}
 use Rattle.grin_syntax.specs.Formed.{AllOf, Scope, InScope, with_words, with_target, WordFormed, ValFormed, CellFormed, ActFormed, CodeFormed, ArmsFormed}
 use Rattle.grin_syntax.proofs.Counted.{times_append, counts, one_at}
-use Rattle.grin_meaning.specs.Values.{Datum, number, tag, cell, Node, Value, node, words, Env, HeapCell, World, gives, and_then, padded, Binding, with_vars, one_each, fits, fits_not, fit_of, word_of, value_of, bindings_of}
+use Rattle.grin_meaning.specs.Values.{Datum, tag, cell, Node, Value, node, words, Env, HeapCell, and_then, padded, Binding, with_vars, fits, word_of, value_of, bindings_of}
 use Rattle.grin_meaning.specs.Run.{Calls, places, cells_of, place_of}
-use Rattle.grin_meaning.specs.Checks.{has_block, is_fetch, is_node_target, not_delayed, is_given, fills, all_fill, is_bound_well}
+use Rattle.grin_meaning.specs.Checks.{has_block, is_given, all_fill, is_bound_well}
 use Rattle.grin_meaning.specs.Ready.{Any, Inlined, NoNodeTarget, NoNodeVar, BindsNothing, EachAct, EachCode, EachArms}
 use Rattle.grin_meaning.specs.Follows.{Same, same}
 use Rattle.grin_meaning.specs.Full.{FullState}
 use Rattle.grin_meaning.proofs.Back.{CallsBack}
-use Rattle.grin_meaning.proofs.Beside.{no_deeper, Beside, beside, Seen}
-use Rattle.grin_meaning.proofs.Rules.{Relation, Plan, Here, Setting, CallsFollow, ActFollows, CodeFollows, ArmsFollow, act_more, code_more, Given, BindsToo, Stored, StoresToo, FitsToo, CellToo, unit_follows, fetch_follows, fetch_word_follows, update_follows, call_follows, prim_follows, read_follows, write_follows, fail_follows, nested_follows, end_follows, store_follows, bind_follows, case_follows, no_arm_follows, arm_follows}
+use Rattle.grin_meaning.proofs.Rules.{Relation, Here, Setting, CallsFollow, ActFollows, CodeFollows, ArmsFollow, code_more, BindsToo, CellToo, unit_follows, fetch_follows, fetch_word_follows, update_follows, call_follows, prim_follows, read_follows, write_follows, fail_follows, nested_follows, end_follows, store_follows, bind_follows, case_follows, no_arm_follows, arm_follows}
 use Rattle.grin_meaning.proofs.Plain.{then_has}
 use Rattle.grin_meaning.proofs.OneSided.{left_follows}
 use Rattle.fetch_passes.specs.Uses.{word_is, words_use, val_uses, cells_use, act_uses, code_uses, arms_use}
-use Rattle.fetch_passes.specs.Windows.{begins_with, act_owns, is_passed, owns, tests_number, vector_uses, act_outside, outside}
+use Rattle.fetch_passes.specs.Windows.{begins_with, is_passed, owns, tests_number, vector_uses, act_outside, outside}
 use Rattle.fetch_passes.specs.Names.{Names, Wait, as_word, as_words, as_val, as_cells, hiding}
 use Rattle.fetch_passes.specs.Split.{waits_of, front, front_names, word_fetches, whole_node, split_act, split_code, split_arms, made_act, made_code}
-use Rattle.fetch_passes.proofs.Found.{no_left, no_right, equal_so, equal_self, never_both, names_of, bound_names, places_names, is_var, is_waiting, hiding_is}
-use Rattle.fetch_passes.proofs.Near.{At, Sound, sound_more, at_more, Held, held_more, held_as, Waits, Near, near_bind, word_kept}
+use Rattle.fetch_passes.proofs.Found.{no_left, no_right, equal_so, never_both, bound_names, places_names, is_var, is_waiting, hiding_is}
+use Rattle.fetch_passes.proofs.Near.{Sound, sound_more, Held, held_more, held_as, Waits, Near, near_bind, word_kept}
 use Rattle.fetch_passes.proofs.Steps.{plus, plus_out, bound_each, numbered, node_waits, near_with, near_heap, near_fetched}
 use Rattle.fetch_passes.proofs.Words.{Clear, clear_left, clear_right, SameFits, same_fits, arms_same, fit_nothing, fewer_uses, word_goes, words_go, value_goes, node_goes, fills_go, node_fills, cells_go, all_fill_goes, own_goes}
 use Rattle.fetch_passes.proofs.Waiting.{waits_outside, waits_in, waits_too, waits_some, outside_uses, both_own, sound_new, sound_hiding, front_sound, front_hidden}
 use Rattle.fetch_passes.proofs.LastFetch.{ending_follows}
-use Rattle.fetch_passes.proofs.Fetching.{same_is, is_same, Fetches, fetch_gave, fetch_word_gave, plan_of, it, cells_same, kept_follows, words_follow, front_follows}
+use Rattle.fetch_passes.proofs.Fetching.{is_same, Fetches, fetch_gave, fetch_word_gave, plan_of, it, cells_same, kept_follows, words_follow, front_follows}
 
 -- the words in scope after a target that binds no node
 target_words : (t : Target) (scope : Scope) → NoNodeTarget t → (with_target t scope).words ≡ target_vars t ++ scope.words

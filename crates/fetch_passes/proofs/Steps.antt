@@ -1,5 +1,5 @@
 -- How the variables of the two programs go on, side by side, where words of a node are bound or wait.
-use Rattle.std.proofs.Common.{◌≡◌, ◌≢◌, ℕ, zero, suc, pos, ◌+◌, ◌<◌, ◌≤◌, Bool, true, false, cond, ◌||◌, nat_eq, List, [], ◌∷◌, ◌++◌, map, length, Option, Some, None, slice_get, refl, sym, ap, ◌∙◌, subst, inl, inr, ◌⊎◌, arith}
+use Rattle.std.proofs.Common.{◌≡◌, ◌≢◌, ℕ, suc, pos, ◌+◌, ◌<◌, ◌≤◌, Bool, true, false, cond, nat_eq, List, [], ◌∷◌, ◌++◌, length, Option, Some, None, slice_get, refl, sym, ap, ◌∙◌, subst, inl, inr, ◌⊎◌, arith}
 use Rattle.grin_syntax.specs.declared.program.VarId.{VarId}
 use Rattle.grin_syntax.specs.declared.program.Word as W
 use Rattle.grin_syntax.specs.declared.program.Word.TheVariants.{Lit, Var, Global, TagWord}
@@ -8,12 +8,12 @@ use Rattle.grin_syntax.specs.Binders.{times, numbers_of}
 use Rattle.grin_syntax.specs.Formed.{AllOf, InScope}
 use Rattle.grin_syntax.specs.Fresh.{variable}
 use Rattle.grin_syntax.proofs.Counted.{times_append, counts, one_at}
-use Rattle.grin_meaning.specs.Values.{Datum, number, tag, Node, Value, node, words, Env, HeapCell, and_then, only_word, padded, Binding, with_vars, one_each, word_of}
+use Rattle.grin_meaning.specs.Values.{Datum, tag, words, Env, HeapCell, and_then, only_word, padded, Binding, with_vars, one_each, word_of}
 use Rattle.grin_meaning.specs.Run.{node_word, nth_or_zero, place_of}
 use Rattle.fetch_passes.specs.Uses.{word_is}
-use Rattle.fetch_passes.specs.Names.{Names, Standing, Wait, as_word, hiding}
+use Rattle.fetch_passes.specs.Names.{Names, Wait, as_word, hiding}
 use Rattle.fetch_passes.proofs.Found.{equal_so, equal_self, equal_not, never_both, same_var, names_of, vars_out, one_each_names, is_var, is_waiting, hiding_is, naming, naming_is}
-use Rattle.fetch_passes.proofs.Near.{At, itself, renamed, gone, Sound, Held, Waits, Near, Apart, waits_more}
+use Rattle.fetch_passes.proofs.Near.{At, itself, renamed, Sound, Held, Waits, Near, waits_more}
 
 -- one variable with a word
 abbrev pub plus : ℕ → Datum → Env → Env

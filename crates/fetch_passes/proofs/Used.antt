@@ -1,5 +1,5 @@
 -- What is used in a program stays used by its new name, and each word that is fetched is used.
-use Rattle.std.proofs.Common.{◌≡◌, ◌≢◌, ℕ, zero, suc, pos, ◌+◌, ◌<◌, ◌≤◌, Bool, true, false, cond, ◌||◌, ◌&&◌, nat_eq, List, [], ◌∷◌, ◌++◌, map, length, refl, sym, ap, ◌∙◌, subst, inl, inr, ◌⊎◌, arith}
+use Rattle.std.proofs.Common.{◌≡◌, ℕ, zero, suc, pos, ◌+◌, ◌≤◌, Bool, true, false, cond, ◌||◌, ◌&&◌, nat_eq, List, [], ◌∷◌, ◌++◌, map, length, refl, ap, ◌∙◌, inl, inr, ◌⊎◌, arith}
 use Rattle.grin_syntax.specs.declared.program.VarId.{VarId}
 use Rattle.grin_syntax.specs.declared.program.Tag.{Tag}
 use Rattle.grin_syntax.specs.declared.program.Cell.{Cell}
@@ -15,42 +15,42 @@ use Rattle.grin_syntax.specs.Fresh.{variable, variables}
 use Rattle.grin_syntax.proofs.Counted.{times_append, counts, one_at}
 use Rattle.grin_meaning.specs.Ready.{Any, NoNodeTarget, NoNodeVar, BindsNothing, EachAct, EachCode, EachArms, most_fields}
 use Rattle.fetch_passes.specs.Uses.{word_is, words_use, val_uses, cells_use, act_uses, code_uses, arms_use}
-use Rattle.fetch_passes.specs.Windows.{begins_with, tests_number, vector_uses, decides, act_owns, is_passed, owns, act_outside, outside}
+use Rattle.fetch_passes.specs.Windows.{tests_number, vector_uses, decides, act_owns, is_passed, owns, act_outside, outside}
 use Rattle.fetch_passes.specs.Names.{Names, Wait, as_word, as_words, as_val, as_cells, hiding, named_if}
-use Rattle.fetch_passes.specs.Split.{fetched_if, word_fetches, waits_of, front, front_names, names_after, waits_after, cell_after, all_words, node_arms, whole_node, split_act, split_code, split_arms, split_procs, made_act, made_code}
+use Rattle.fetch_passes.specs.Split.{fetched_if, word_fetches, waits_of, front, front_names, all_words, node_arms, whole_node, split_act, split_code, split_arms, split_procs, made_act, made_code}
 use Rattle.fetch_passes.specs.Placed.{ByNodes, CodeFetchesUsed, ActFetchesUsed, ArmsFetchUsed, WordUsed}
-use Rattle.fetch_passes.proofs.Found.{equal_so, equal_self, equal_not, never_both, same_var, is_waiting, hiding_is, naming, naming_is}
-use Rattle.fetch_passes.proofs.Waiting.{waits_in, waits_outside, waits_too}
+use Rattle.fetch_passes.proofs.Found.{equal_so, equal_self, equal_not, never_both, same_var, is_waiting, hiding_is, naming_is}
+use Rattle.fetch_passes.proofs.Waiting.{waits_in, waits_outside}
 
 or_cases : (a b : Bool) → (a || b) ≡ true → (a ≡ true) ⊎ (b ≡ true)
 or_cases true b e = inl refl
 or_cases false b e = inr e
 
-or_left : (a b : Bool) → a ≡ true → (a || b) ≡ true
+pub or_left : (a b : Bool) → a ≡ true → (a || b) ≡ true
 or_left a b e = ap (λ x. x || b) e
 
-or_right : (a b : Bool) → b ≡ true → (a || b) ≡ true
+pub or_right : (a b : Bool) → b ≡ true → (a || b) ≡ true
 or_right true b e = refl
 or_right false b e = e
 
-both_or : (a b c d : Bool) → (a ≡ true → c ≡ true) → (b ≡ true → d ≡ true) → (a || b) ≡ true → (c || d) ≡ true
+pub both_or : (a b c d : Bool) → (a ≡ true → c ≡ true) → (b ≡ true → d ≡ true) → (a || b) ≡ true → (c || d) ≡ true
 both_or true b c d f h e = or_left c d (f refl)
 both_or false b c d f h e = or_right c d (h e)
 
 -- ---- words and values
 
 module _ (ks : Names) (z y : VarId) (is : as_word ks (Var z) ≡ Var y) where
-  word_used : (w : W.Word) → word_is z.0 w ≡ true → word_is y.0 (as_word ks w) ≡ true
+  pub word_used : (w : W.Word) → word_is z.0 w ≡ true → word_is y.0 (as_word ks w) ≡ true
   word_used (Lit k) h = cc
   word_used (Global k) h = cc
   word_used (TagWord k) h = cc
   word_used (Var u) h = ap (λ v. word_is y.0 (as_word ks (Var v))) (same_var u z (equal_so u.0 z.0 h)) ∙ ap (word_is y.0) is ∙ equal_self y.0
 
-  words_used : (ws : List W.Word) → words_use z.0 ws ≡ true → words_use y.0 (as_words ks ws) ≡ true
+  pub words_used : (ws : List W.Word) → words_use z.0 ws ≡ true → words_use y.0 (as_words ks ws) ≡ true
   words_used [] h = cc
   words_used (w ∷ ws) h = both_or (word_is z.0 w) (words_use z.0 ws) (word_is y.0 (as_word ks w)) (words_use y.0 (as_words ks ws)) (word_used w) (words_used ws) h
 
-  val_used : (v : V.Val) → NoNodeVar v → val_uses z.0 v ≡ true → val_uses y.0 (as_val ks v) ≡ true
+  pub val_used : (v : V.Val) → NoNodeVar v → val_uses z.0 v ≡ true → val_uses y.0 (as_val ks v) ≡ true
   val_used (NodeVar x) n h = absurd n
   val_used (Node t ws) n h = words_used ws h
   val_used (Vector ws) n h = words_used ws h
@@ -82,7 +82,7 @@ all_after y a i (x ∷ xs) c h = or_right (word_is y a) (code_uses y (all_words 
 
 -- ---- names that stay
 
-hiding_stays : (ps : List Wait) (ks : Names) (z y : VarId) → is_waiting ps z.0 ≡ false → as_word ks (Var z) ≡ Var y → as_word (hiding ps ks) (Var z) ≡ Var y
+pub hiding_stays : (ps : List Wait) (ks : Names) (z y : VarId) → is_waiting ps z.0 ≡ false → as_word ks (Var z) ≡ Var y → as_word (hiding ps ks) (Var z) ≡ Var y
 hiding_stays ps ks z y h e = hiding_is ps ks z ∙ ap (λ b. cond b (Lit (pos 0)) (as_word ks (Var z))) h ∙ e
 
 front_stays : (n : ℕ) (ps : List Wait) (b : Code) (ks : Names) (z y : VarId) → is_waiting ps z.0 ≡ false → as_word ks (Var z) ≡ Var y → as_word (front_names n ps b ks) (Var z) ≡ Var y
@@ -111,10 +111,10 @@ front_named n p ps b ks h u = front_stays (suc n) ps b (named_if (code_uses p.va
 
 -- ---- what is used stays used
 
-not_here : (z : ℕ) (xs ys : List ℕ) → times z (xs ++ ys) ≡ 0 → (times z xs ≡ 0) × (times z ys ≡ 0)
+pub not_here : (z : ℕ) (xs ys : List ℕ) → times z (xs ++ ys) ≡ 0 → (times z xs ≡ 0) × (times z ys ≡ 0)
 not_here z xs ys h = let e : times z (xs ++ ys) ≡ times z xs + times z ys = times_append z xs ys in (omega (arith, e, h), omega (arith, e, h))
 
-not_waiting : (t : ℕ) (b : Code) (i : ℕ) (xs : List VarId) (z : ℕ) → times z (numbers_of xs) ≡ 0 → is_waiting (waits_of t b i xs) z ≡ false
+pub not_waiting : (t : ℕ) (b : Code) (i : ℕ) (xs : List VarId) (z : ℕ) → times z (numbers_of xs) ≡ 0 → is_waiting (waits_of t b i xs) z ≡ false
 not_waiting t b i xs z h = go (is_waiting (waits_of t b i xs) z) refl
   where
     go : (m : Bool) → is_waiting (waits_of t b i xs) z ≡ m → m ≡ false
@@ -174,7 +174,7 @@ module _ (ts : List Tag) where
   mutual
     unfolding split_act act_uses act_vars EachAct made_act
 
-    act_used : (o : Act) (ks : Names) (a : W.Word) (ps : List Wait) (n : ℕ) (z y : VarId) → as_word ks (Var z) ≡ Var y → is_waiting ps z.0 ≡ false → times z.0 (act_vars o) ≡ 0 → EachAct Any NoNodeTarget NoNodeVar BindsNothing o → act_uses z.0 o ≡ true → act_uses y.0 (split_act ts ks a ps n o) ≡ true
+    pub act_used : (o : Act) (ks : Names) (a : W.Word) (ps : List Wait) (n : ℕ) (z y : VarId) → as_word ks (Var z) ≡ Var y → is_waiting ps z.0 ≡ false → times z.0 (act_vars o) ≡ 0 → EachAct Any NoNodeTarget NoNodeVar BindsNothing o → act_uses z.0 o ≡ true → act_uses y.0 (split_act ts ks a ps n o) ≡ true
     act_used (case v as') ks a ps n z y e w v0 x h = both_or (val_uses z.0 v) (arms_use z.0 as') (val_uses y.0 (as_val ks v)) (arms_use y.0 (split_arms ts ks a ps n as')) (val_used ks z y e v x.1) (arms_used as' ks a ps n z y e w v0 x.2) h
     act_used (nested b) ks a ps n z y e w v0 x h = code_used b ks a [] n z y e refl v0 x.1 h
     act_used (unit v) ks a ps n z y e w v0 x h = val_used ks z y e v x.1 h
@@ -189,7 +189,7 @@ module _ (ts : List Tag) where
     act_used (write c) ks a ps n z y e w v0 x h = word_used ks z y e c h
     act_used fail ks a ps n z y e w v0 x h = cc
 
-    code_used : (b : Code) (ks : Names) (a : W.Word) (ps : List Wait) (n : ℕ) (z y : VarId) → as_word ks (Var z) ≡ Var y → is_waiting ps z.0 ≡ false → times z.0 (code_vars b) ≡ 0 → EachCode Any NoNodeTarget NoNodeVar BindsNothing b → code_uses z.0 b ≡ true → code_uses y.0 (split_code ts ks a ps n b) ≡ true
+    pub code_used : (b : Code) (ks : Names) (a : W.Word) (ps : List Wait) (n : ℕ) (z y : VarId) → as_word ks (Var z) ≡ Var y → is_waiting ps z.0 ≡ false → times z.0 (code_vars b) ≡ 0 → EachCode Any NoNodeTarget NoNodeVar BindsNothing b → code_uses z.0 b ≡ true → code_uses y.0 (split_code ts ks a ps n b) ≡ true
     code_used (end (fetch c)) ks a ps n z y e w v0 x h = or_left (word_is y.0 (as_word ks c)) _ (word_used ks z y e c h)
     code_used (end o) ks a ps n z y e w v0 x h = act_used o ks a ps n z y e w v0 x h
     code_used (store cs b) ks a ps n z y e w v0 x h = both_or (cells_use z.0 cs) (code_uses z.0 b) (cells_use y.0 (as_cells ks cs)) (code_uses y.0 (split_code ts ks a [] n b)) (cells_used ks z y e cs x.0)
@@ -284,14 +284,14 @@ module _ (ts : List Tag) where
       go true d = d
       go false d = (not_waiting t b (suc i) xs x.0 alone, d)
 
-  all_in : (zs : List ℕ) (ps : List Wait) → ((z : ℕ) → is_waiting ps z ≡ true → InScope zs z) → AllOf (λ p. InScope zs p.var.0) ps
+  pub all_in : (zs : List ℕ) (ps : List Wait) → ((z : ℕ) → is_waiting ps z ≡ true → InScope zs z) → AllOf (λ p. InScope zs p.var.0) ps
   all_in zs [] f = tt
   all_in zs (p ∷ ps) f = (f p.var.0 (or_left (nat_eq p.var.0 p.var.0) (is_waiting ps p.var.0) (equal_self p.var.0)), all_in zs ps (λ z e. f z (or_right (nat_eq p.var.0 z) (is_waiting ps z) e)))
 
-  once_after : (zs xs ys : List ℕ) → ((y : ℕ) → times y zs + times y (xs ++ ys) ≤ 1) → (y : ℕ) → times y zs + times y ys ≤ 1
+  pub once_after : (zs xs ys : List ℕ) → ((y : ℕ) → times y zs + times y (xs ++ ys) ≤ 1) → (y : ℕ) → times y zs + times y ys ≤ 1
   once_after zs xs ys once y = let o : times y zs + times y (xs ++ ys) ≤ 1 = once y in let e : times y (xs ++ ys) ≡ times y xs + times y ys = times_append y xs ys in omega (arith, o, e)
 
-  once_before : (zs xs ys : List ℕ) → ((y : ℕ) → times y zs + times y (xs ++ ys) ≤ 1) → (y : ℕ) → times y zs + times y xs ≤ 1
+  pub once_before : (zs xs ys : List ℕ) → ((y : ℕ) → times y zs + times y (xs ++ ys) ≤ 1) → (y : ℕ) → times y zs + times y xs ≤ 1
   once_before zs xs ys once y = let o : times y zs + times y (xs ++ ys) ≤ 1 = once y in let e : times y (xs ++ ys) ≡ times y xs + times y ys = times_append y xs ys in omega (arith, o, e)
 
   -- a fetch of a node

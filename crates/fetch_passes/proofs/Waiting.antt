@@ -1,5 +1,5 @@
 -- The words that wait for the alternatives of a case, and the names that they leave behind.
-use Rattle.std.proofs.Common.{◌≡◌, ◌≢◌, ℕ, zero, suc, pos, ◌+◌, ◌<◌, ◌≤◌, Bool, true, false, cond, ◌||◌, nat_eq, List, [], ◌∷◌, ◌++◌, map, length, refl, sym, ap, ◌∙◌, subst, arith}
+use Rattle.std.proofs.Common.{◌≡◌, ℕ, suc, pos, ◌+◌, ◌≤◌, Bool, true, false, cond, ◌||◌, nat_eq, List, [], ◌∷◌, length, refl, sym, ap, ◌∙◌, subst, arith}
 use Rattle.grin_syntax.specs.declared.program.VarId.{VarId}
 use Rattle.grin_syntax.specs.declared.program.Word as W
 use Rattle.grin_syntax.specs.declared.program.Word.TheVariants.{Lit, Var, Global, TagWord}
@@ -10,11 +10,11 @@ use Rattle.grin_syntax.specs.Binders.{times, numbers_of}
 use Rattle.grin_syntax.specs.Formed.{AllOf, InScope}
 use Rattle.grin_syntax.specs.Fresh.{variable}
 use Rattle.grin_syntax.proofs.Counted.{counts, one_at}
-use Rattle.fetch_passes.specs.Uses.{word_is, act_uses, code_uses}
+use Rattle.fetch_passes.specs.Uses.{act_uses, code_uses}
 use Rattle.fetch_passes.specs.Windows.{begins_with, decides, act_owns, is_passed, owns, act_outside, outside}
 use Rattle.fetch_passes.specs.Names.{Names, Wait, as_word, hiding, named_if}
 use Rattle.fetch_passes.specs.Split.{waits_of, front_names}
-use Rattle.fetch_passes.proofs.Found.{no_left, no_right, equal_so, equal_self, equal_not, never_both, same_var, is_var, is_waiting, hiding_is, naming, naming_is}
+use Rattle.fetch_passes.proofs.Found.{equal_so, equal_self, equal_not, never_both, same_var, is_var, is_waiting, hiding_is, naming, naming_is}
 use Rattle.fetch_passes.proofs.Near.{At, itself, renamed, gone, Sound, at_more}
 
 -- ---- what waits

@@ -1,11 +1,10 @@
 -- What a program with its fetches split is.
-use Rattle.std.proofs.Common.{◌≡◌, ℕ, zero, suc, ◌+◌, ◌<◌, ◌≤◌, Bool, true, false, List, [], ◌∷◌, length, Some, slice_get, refl, sym, ap, ◌∙◌, subst, arith}
+use Rattle.std.proofs.Common.{◌≡◌, ℕ, zero, suc, ◌+◌, ◌≤◌, false, List, [], ◌∷◌, length, Some, slice_get, refl, sym, ap, ◌∙◌, subst, arith}
 use Rattle.std.specs.Prelude.{pos}
 use Rattle.grin_syntax.specs.declared.program.Word.TheVariants.{Lit}
-use Rattle.grin_syntax.specs.declared.program.Target.TheVariants as to
 use Rattle.grin_syntax.specs.declared.program.Val.{Val}
 use Rattle.grin_syntax.specs.declared.program.Val.TheVariants.{NodeVar, Node, Vector, One}
-use Rattle.grin_syntax.specs.Tree.{Code, Act, unit, fetch, fetch_word, update, eval, apply, call, prim, read, write, case, nested, fail, Procedure, Program}
+use Rattle.grin_syntax.specs.Tree.{Act, fetch, eval, apply, Procedure, Program}
 use Rattle.grin_syntax.specs.Binders.{target_vars}
 use Rattle.grin_syntax.specs.Formed.{AllOf, Formed, argument_words}
 use Rattle.grin_syntax.specs.Fresh.{past_procs}
@@ -23,6 +22,8 @@ use Rattle.fetch_passes.proofs.Shape.{each_proc, narrow_procs, sites_stay, param
 use Rattle.fetch_passes.proofs.Counts.{vars_once}
 use Rattle.fetch_passes.proofs.Scoped.{bodies_formed}
 use Rattle.fetch_passes.proofs.Used.{procs_fetch}
+use Rattle.fetch_passes.proofs.Placing.{procs_placed}
+use Rattle.fetch_passes.proofs.Fronting.{procs_fronts}
 use Rattle.fetch_passes.proofs.Kept.{split_count, split_kept}
 
 inlined_stays : (g : Program) (o : Act) (ks : Names) (a : _) (ps : _) (n : ℕ) → is_fetch o ≡ false → Inlined o → Inlined (split_act g.tags ks a ps n o)
@@ -93,6 +94,8 @@ module _ (g : Program) (v : OfVectors g) where
     narrow = split_narrow;
     by_words = split_by_words;
     used = λ h. procs_fetch g.tags g.procs base v.formed.variables_once v.vectorised h;
+    placed = λ h. procs_placed g.tags base g.procs base (omega arith) (omega arith) v.formed.variables_once v.vectorised h;
+    fetched = λ h. procs_fronts g.tags g.procs base h;
   }
 
   split_keeps : Keeps g (split g)

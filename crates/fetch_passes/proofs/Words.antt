@@ -1,5 +1,5 @@
 -- Words and values of a program and of the one with its fetches split.
-use Rattle.std.proofs.Common.{◌≡◌, ℕ, zero, suc, pos, ◌+◌, ◌<◌, ◌≤◌, Bool, true, false, cond, ◌||◌, ◌&&◌, nat_eq, nat_le, take, List, [], ◌∷◌, map, length, Option, Some, None, refl, sym, ap, ◌∙◌, subst, arith}
+use Rattle.std.proofs.Common.{◌≡◌, ℕ, zero, suc, Bool, true, false, cond, ◌||◌, ◌&&◌, nat_eq, nat_le, take, List, [], ◌∷◌, length, Option, Some, None, refl, sym, ap, ◌∙◌, subst}
 use Rattle.std.specs.Prelude.{ℤ}
 use Rattle.grin_syntax.specs.declared.program.VarId.{VarId}
 use Rattle.grin_syntax.specs.declared.program.Cell.{Cell}
@@ -11,18 +11,18 @@ use Rattle.grin_syntax.specs.declared.program.Val as V
 use Rattle.grin_syntax.specs.declared.program.Val.TheVariants.{NodeVar, Node as NodeVal, Vector, One}
 use Rattle.grin_syntax.specs.Tree.{Program, Arms, no_arm, arm}
 use Rattle.grin_syntax.specs.Binders.{numbers_of, shape_vars}
-use Rattle.grin_syntax.specs.Formed.{AllOf, Scope, InScope, WordFormed, ValFormed, CellFormed}
-use Rattle.grin_meaning.specs.Values.{Datum, number, tag, cell, Node, Value, node, words, Env, HeapCell, and_then, only_word, Binding, with_vars, Fit, fits, fits_not, unclear, fields_fit, node_fit, number_fit, int_fit, fit_of, fields_of, made_node, as_node, word_of, words_of, value_of, node_of}
+use Rattle.grin_syntax.specs.Formed.{AllOf, Scope, WordFormed, ValFormed, CellFormed}
+use Rattle.grin_meaning.specs.Values.{Datum, number, tag, cell, Node, Value, words, Env, HeapCell, and_then, Binding, fits, fits_not, node_fit, number_fit, int_fit, fit_of, fields_of, as_node, word_of, words_of, value_of, node_of}
 use Rattle.grin_meaning.specs.Run.{cells_of}
 use Rattle.grin_meaning.specs.Checks.{is_none_or, is_filled, fills, all_fill}
 use Rattle.numbers.specs.Numbers.{same_number}
 use Rattle.grin_meaning.specs.Ready.{NoNodeTarget, NoNodeVar, BindsNothing, EachAct, EachArms, Any as Anything}
 use Rattle.grin_meaning.proofs.Plain.{then_has}
 use Rattle.fetch_passes.specs.Uses.{word_is, words_use, val_uses, cells_use}
-use Rattle.fetch_passes.specs.Windows.{begins_with, is_int, tests_number, vector_uses}
+use Rattle.fetch_passes.specs.Windows.{is_int, tests_number, vector_uses}
 use Rattle.fetch_passes.specs.Names.{Names, Wait, as_word, as_words, as_val, as_cells}
 use Rattle.fetch_passes.proofs.Found.{no_left, no_right, equal_self, never_both, is_var}
-use Rattle.fetch_passes.proofs.Near.{At, itself, renamed, gone, Sound, Near}
+use Rattle.fetch_passes.proofs.Near.{At, Sound, Near}
 
 -- a piece that uses such variables uses none that is hidden
 abbrev pub Clear : Names → (ℕ → Bool) → Type 0

@@ -4,3 +4,5 @@ pub mod Names
 pub mod Split
 pub mod Fetched
 pub mod Placed
+pub mod Positions
+pub mod Fronts

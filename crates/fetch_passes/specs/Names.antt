@@ -1,5 +1,5 @@
 -- What stands for the variables of a program whose fetches are split.
-use Rattle.std.specs.Prelude.{ℕ, suc, pos, Bool, true, false, cond, nat_eq, List, [], ◌∷◌, ◌++◌, map}
+use Rattle.std.specs.Prelude.{ℕ, pos, Bool, true, false, cond, nat_eq, List, [], ◌∷◌, ◌++◌, map}
 use Rattle.grin_syntax.specs.declared.program.VarId.{VarId}
 use Rattle.grin_syntax.specs.declared.program.Word as W
 use Rattle.grin_syntax.specs.declared.program.Word.TheVariants.{Lit, Var}

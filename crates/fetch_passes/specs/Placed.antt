@@ -1,5 +1,5 @@
 -- Fetched words are used.
-use Rattle.std.specs.Prelude.{ℕ, suc, ◌≡◌, true}
+use Rattle.std.specs.Prelude.{suc, ◌≡◌, true}
 use Rattle.grin_syntax.specs.declared.program.Target.{Target}
 use Rattle.grin_syntax.specs.declared.program.Target.TheVariants as to
 use Rattle.grin_syntax.specs.Tree.{Code, end, store, bind, Act, fetch_word, case, nested, Arms, no_arm, arm, Program}

@@ -1,5 +1,5 @@
 -- The variables that a piece of a program mentions.
-use Rattle.std.specs.Prelude.{ℕ, Bool, true, false, ◌||◌, nat_eq, List, [], ◌∷◌}
+use Rattle.std.specs.Prelude.{ℕ, Bool, false, ◌||◌, nat_eq, List, [], ◌∷◌}
 use Rattle.grin_syntax.specs.declared.program.Word as W
 use Rattle.grin_syntax.specs.declared.program.Word.TheVariants.{Var}
 use Rattle.grin_syntax.specs.declared.program.Val as V

@@ -15,8 +15,9 @@ use grin_syntax::{Grin, Proc, Tag, Word};
 use seq::Seq;
 use std::alloc::{AllocError, Global};
 
-/// Each fetch of a whole node is split into a fetch of its tag and fetches of the words that are used. Where the case on the
-/// tag comes next, fetches aside, a word that its alternatives alone use is fetched at the front of each that uses it.
+/// Takes the fetches of whole nodes apart. The tag is read first, then the words that somebody needs. A word that only some
+/// alternatives of the tag's case need is read as those begin, so long as nothing but fetches comes between the tag and that
+/// case; the others are read together with the tag.
 pub struct Fetches;
 
 impl Pass for Fetches {

@@ -1,5 +1,5 @@
 use Rattle.std.proofs.Common.{◌≤◌, length, take, subst, rules}
-use Rattle.fetch_passes.proofs.Loops.{StmtsUse, no_stmts, no_arms, stmts_next, block_use, arms_next, arms_used}
+use Rattle.fetch_passes.proofs.Loops.{StmtsUse, stmts_next, block_use, arms_next, arms_used}
 use Rattle.fetch_passes.proofs.uses.+uses.Goals as goal
 
 pub alts_use-loop-alt-preserved : goal.alts_use-loop-alt-preserved

@@ -1,4 +1,3 @@
-use Rattle.std.proofs.Common.{rules}
 use Rattle.fetch_passes.proofs.Loops.{cells_next}
 use Rattle.fetch_passes.proofs.uses.cells_use.Goals as goal
 

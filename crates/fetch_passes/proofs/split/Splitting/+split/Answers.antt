@@ -1,4 +1,4 @@
-use Rattle.std.proofs.Common.{◌≡◌, ◌+◌, ◌≤◌, ◌++◌, [], ◌∷◌, map, take, length, ap, ◌∙◌, subst, rules}
+use Rattle.std.proofs.Common.{◌+◌, ◌≤◌, ◌++◌, [], ◌∷◌, map, take, length, ap, ◌∙◌, subst, rules}
 use Rattle.grin_syntax.specs.declared.program.Stmt.TheVariants.{Store}
 use Rattle.grin_syntax.specs.Tree.{end, act_of, before_of, all_before}
 use Rattle.fetch_passes.specs.Split.{end_with, made_end, made_act, split_act, split_code}
