@@ -1,0 +1,237 @@
+-- A set is closed exactly where it heeds the ties.
+use Rattle.std.proofs.Common.{◌≡◌, ℕ, suc, Bool, true, false, ◌&&◌, ◌||◌, List, [], ◌∷◌, ◌++◌, map, length, refl, sym, ap, ◌∙◌, subst}
+use Rattle.std.proofs.lemmas.List.{length-map}
+use Rattle.grin_syntax.specs.declared.program.ProcId.{ProcId}
+use Rattle.grin_syntax.specs.declared.program.Proc.{Proc}
+use Rattle.grin_syntax.specs.declared.program.Grin.{Grin}
+use Rattle.grin_syntax.specs.Tree.{Code, end, store, bind, Act, unit, fetch, fetch_word, update, eval, apply, call, prim, read, write, case, nested, fail, Arms, no_arm, arm, Procedure, procedure_of, Program, program_of}
+use Rattle.grin_syntax.specs.Formed.{AllOf}
+use Rattle.grin_meaning.proofs.Checked.{left_true, right_true, both_true}
+use Rattle.flow_system.specs.Solution.{Solution}
+use Rattle.unbox.specs.declared.ties.Tie.{Tie}
+use Rattle.unbox.specs.Ends.{Procedures, is_int, has_int, act_calls, code_calls, arms_calls, IntAct, IntCode, IntArms}
+use Rattle.unbox.specs.Members.{ActClosed, CodeClosed, ArmsClosed, ProcedureClosed, ProceduresClosed, IsMembers}
+use Rattle.unbox.specs.Ties.{act_called, code_called, arms_called, act_ints, code_ints, arms_ints, act_ties, code_ties, arms_ties, body_tie, ties_from, any_in, all_in, Heeds, IsGreatest}
+
+or_assoc : (a b c : Bool) → ((a || b) || c) ≡ (a || (b || c))
+or_assoc true b c = refl
+or_assoc false b c = refl
+
+and_assoc : (a b c : Bool) → ((a && b) && c) ≡ (a && (b && c))
+and_assoc true b c = refl
+and_assoc false b c = refl
+
+or_false : (a : Bool) → (a || false) ≡ a
+or_false true = refl
+or_false false = refl
+
+spread : (a b c d : Bool) → (a && c) ≡ true → (b && d) ≡ true → ((a && b) && (c && d)) ≡ true
+spread a b c d h k = both_true (a && b) (c && d) (both_true a b (left_true a c h) (left_true b d k)) (both_true c d (right_true a c h) (right_true b d k))
+
+pub all_both : {X : Type 0} (P : X → Type 0) (xs ys : List X) → AllOf P xs → AllOf P ys → AllOf P (xs ++ ys)
+all_both P [] ys h k = k
+all_both P (x ∷ xs) ys h k = (h.0, all_both P xs ys h.1 k)
+
+pub all_front : {X : Type 0} (P : X → Type 0) (xs ys : List X) → AllOf P (xs ++ ys) → AllOf P xs
+all_front P [] ys h = tt
+all_front P (x ∷ xs) ys h = (h.0, all_front P xs ys h.1)
+
+pub all_rest : {X : Type 0} (P : X → Type 0) (xs ys : List X) → AllOf P (xs ++ ys) → AllOf P ys
+all_rest P [] ys h = h
+all_rest P (x ∷ xs) ys h = all_rest P xs ys h.1
+
+module _ (A : Solution) (S : Procedures) where
+  any_append : (xs ys : List ProcId) → any_in S (xs ++ ys) ≡ (any_in S xs || any_in S ys)
+  any_append [] ys = refl
+  any_append (x ∷ xs) ys = ap (λ b. S x.0 || b) (any_append xs ys) ∙ sym (or_assoc (S x.0) (any_in S xs) (any_in S ys))
+
+  all_append : (xs ys : List ProcId) → all_in S (xs ++ ys) ≡ (all_in S xs && all_in S ys)
+  all_append [] ys = refl
+  all_append (x ∷ xs) ys = ap (λ b. S x.0 && b) (all_append xs ys) ∙ sym (and_assoc (S x.0) (all_in S xs) (all_in S ys))
+
+  mutual
+    unfolding act_calls act_called
+
+    act_any : (o : Act) → any_in S (act_called o) ≡ act_calls S o
+    act_any (call f ws) = or_false (S f.0)
+    act_any (case v as') = arms_any as'
+    act_any (nested b) = code_any b
+    act_any (unit v) = refl
+    act_any (fetch a) = refl
+    act_any (fetch_word a i) = refl
+    act_any (update a v) = refl
+    act_any (eval a) = refl
+    act_any (apply v a) = refl
+    act_any (prim p a b) = refl
+    act_any read = refl
+    act_any (write a) = refl
+    act_any fail = refl
+
+    code_any : (b : Code) → any_in S (code_called b) ≡ code_calls S b
+    code_any (end o) = act_any o
+    code_any (store cs b) = code_any b
+    code_any (bind t o b) = code_any b
+
+    arms_any : (as' : Arms) → any_in S (arms_called as') ≡ arms_calls S as'
+    arms_any no_arm = refl
+    arms_any (arm s b as') = any_append (code_called b) (arms_called as') ∙ (λ i. code_any b i || arms_any as' i)
+
+  mutual
+    unfolding IntAct act_ints act_called
+
+    int_act : (o : Act) → (act_ints A o && all_in S (act_called o)) ≡ true → IntAct S A o
+    int_act (unit v) h = left_true (is_int A v) true h
+    int_act (call f ws) h = left_true (S f.0) true h
+    int_act (case v as') h = int_arms as' h
+    int_act (nested b) h = int_code b h
+    int_act fail h = tt
+    int_act (fetch a) h = cc
+    int_act (fetch_word a i) h = cc
+    int_act (update a v) h = cc
+    int_act (eval a) h = cc
+    int_act (apply v a) h = cc
+    int_act (prim p a b) h = cc
+    int_act read h = cc
+    int_act (write a) h = cc
+
+    int_code : (b : Code) → (code_ints A b && all_in S (code_called b)) ≡ true → IntCode S A b
+    int_code (end o) h = int_act o h
+    int_code (store cs b) h = int_code b h
+    int_code (bind t o b) h = int_code b h
+
+    int_arms : (as' : Arms) → (arms_ints A as' && all_in S (arms_called as')) ≡ true → IntArms S A as'
+    int_arms no_arm h = tt
+    int_arms (arm s b as') h =
+        let i : (code_ints A b && arms_ints A as') ≡ true = left_true (code_ints A b && arms_ints A as') (all_in S (code_called b ++ arms_called as')) h in
+        let k : (all_in S (code_called b) && all_in S (arms_called as')) ≡ true = sym (all_append (code_called b) (arms_called as')) ∙ right_true (code_ints A b && arms_ints A as') (all_in S (code_called b ++ arms_called as')) h in (
+          int_code b (both_true (code_ints A b) (all_in S (code_called b)) (left_true (code_ints A b) (arms_ints A as') i) (left_true (all_in S (code_called b)) (all_in S (arms_called as')) k)),
+          int_arms as' (both_true (arms_ints A as') (all_in S (arms_called as')) (right_true (code_ints A b) (arms_ints A as') i) (right_true (all_in S (code_called b)) (all_in S (arms_called as')) k)),
+        )
+
+  mutual
+    unfolding IntAct act_ints act_called
+
+    act_int : (o : Act) → IntAct S A o → (act_ints A o && all_in S (act_called o)) ≡ true
+    act_int (unit v) h = both_true (is_int A v) true h refl
+    act_int (call f ws) h = both_true (S f.0) true h refl
+    act_int (case v as') h = arms_int as' h
+    act_int (nested b) h = code_int b h
+    act_int fail h = refl
+    act_int (fetch a) h = absurd h
+    act_int (fetch_word a i) h = absurd h
+    act_int (update a v) h = absurd h
+    act_int (eval a) h = absurd h
+    act_int (apply v a) h = absurd h
+    act_int (prim p a b) h = absurd h
+    act_int read h = absurd h
+    act_int (write a) h = absurd h
+
+    code_int : (b : Code) → IntCode S A b → (code_ints A b && all_in S (code_called b)) ≡ true
+    code_int (end o) h = act_int o h
+    code_int (store cs b) h = code_int b h
+    code_int (bind t o b) h = code_int b h
+
+    arms_int : (as' : Arms) → IntArms S A as' → (arms_ints A as' && all_in S (arms_called as')) ≡ true
+    arms_int no_arm h = refl
+    arms_int (arm s b as') h = ap (λ x. (code_ints A b && arms_ints A as') && x) (all_append (code_called b) (arms_called as')) ∙ spread (code_ints A b) (arms_ints A as') (all_in S (code_called b)) (all_in S (arms_called as')) (code_int b h.0) (arms_int as' h.1)
+
+  mutual
+    unfolding ActClosed act_ties
+
+    act_heeds : (o : Act) → ActClosed A S o → AllOf (Heeds S) (act_ties A o)
+    act_heeds (case v as') h = arms_heed as' h
+    act_heeds (nested b) h = code_heeds b h
+    act_heeds (unit v) h = tt
+    act_heeds (call f ws) h = tt
+    act_heeds (fetch a) h = tt
+    act_heeds (fetch_word a i) h = tt
+    act_heeds (update a v) h = tt
+    act_heeds (eval a) h = tt
+    act_heeds (apply v a) h = tt
+    act_heeds (prim p a b) h = tt
+    act_heeds read h = tt
+    act_heeds (write a) h = tt
+    act_heeds fail h = tt
+
+    code_heeds : (b : Code) → CodeClosed A S b → AllOf (Heeds S) (code_ties A b)
+    code_heeds (end o) h = act_heeds o h
+    code_heeds (store cs b) h = code_heeds b h
+    code_heeds (bind t o b) h = ((λ e. act_int o (h.0 (sym (act_any o) ∙ e))), all_both (Heeds S) (act_ties A o) (code_ties A b) (act_heeds o h.1) (code_heeds b h.2))
+
+    arms_heed : (as' : Arms) → ArmsClosed A S as' → AllOf (Heeds S) (arms_ties A as')
+    arms_heed no_arm h = tt
+    arms_heed (arm s b as') h = all_both (Heeds S) (code_ties A b) (arms_ties A as') (code_heeds b h.0) (arms_heed as' h.1)
+
+  mutual
+    unfolding ActClosed act_ties
+
+    act_closed : (o : Act) → AllOf (Heeds S) (act_ties A o) → ActClosed A S o
+    act_closed (case v as') h = arms_closed as' h
+    act_closed (nested b) h = code_closed b h
+    act_closed (unit v) h = tt
+    act_closed (call f ws) h = tt
+    act_closed (fetch a) h = tt
+    act_closed (fetch_word a i) h = tt
+    act_closed (update a v) h = tt
+    act_closed (eval a) h = tt
+    act_closed (apply v a) h = tt
+    act_closed (prim p a b) h = tt
+    act_closed read h = tt
+    act_closed (write a) h = tt
+    act_closed fail h = tt
+
+    code_closed : (b : Code) → AllOf (Heeds S) (code_ties A b) → CodeClosed A S b
+    code_closed (end o) h = act_closed o h
+    code_closed (store cs b) h = code_closed b h
+    code_closed (bind t o b) h = ((λ e. int_act o (h.0 (act_any o ∙ e))), act_closed o (all_front (Heeds S) (act_ties A o) (code_ties A b) h.1), code_closed b (all_rest (Heeds S) (act_ties A o) (code_ties A b) h.1))
+
+    arms_closed : (as' : Arms) → AllOf (Heeds S) (arms_ties A as') → ArmsClosed A S as'
+    arms_closed no_arm h = tt
+    arms_closed (arm s b as') h = (code_closed b (all_front (Heeds S) (code_ties A b) (arms_ties A as') h), arms_closed as' (all_rest (Heeds S) (code_ties A b) (arms_ties A as') h))
+
+  body_heeds : (f : ℕ) (q : Procedure) → ProcedureClosed A S f q → Heeds S (body_tie A f q)
+  body_heeds f q k e =
+      let m : S f ≡ true = member (S f) refl e in
+      spread (has_int A f) (code_ints A q.body) (S f) (all_in S (code_called q.body)) (both_true (has_int A f) (S f) (k.some m) m) (code_int q.body (k.ints m))
+    where
+      member : (b : Bool) → S f ≡ b → (S f || any_in S (code_called q.body)) ≡ true → S f ≡ true
+      member true r e = r
+      member false r e = k.member (sym (code_any q.body) ∙ sym (ap (λ b. b || any_in S (code_called q.body)) r) ∙ e)
+
+  body_closed : (f : ℕ) (q : Procedure) → Heeds S (body_tie A f q) → AllOf (Heeds S) (code_ties A q.body) → ProcedureClosed A S f q
+  body_closed f q h k = record {
+    member = λ e. left_true (S f) (all_in S (code_called q.body)) (right_true (has_int A f && code_ints A q.body) (S f && all_in S (code_called q.body)) (h (called e (S f) refl)));
+    ints = λ e. int_code q.body (both_true (code_ints A q.body) (all_in S (code_called q.body))
+        (right_true (has_int A f) (code_ints A q.body) (left_true (has_int A f && code_ints A q.body) (S f && all_in S (code_called q.body)) (h (itself e))))
+        (right_true (S f) (all_in S (code_called q.body)) (right_true (has_int A f && code_ints A q.body) (S f && all_in S (code_called q.body)) (h (itself e)))));
+    some = λ e. left_true (has_int A f) (code_ints A q.body) (left_true (has_int A f && code_ints A q.body) (S f && all_in S (code_called q.body)) (h (itself e)));
+    blocks = code_closed q.body k;
+  }
+    where
+      itself : S f ≡ true → (S f || any_in S (code_called q.body)) ≡ true
+      itself e = ap (λ b. b || any_in S (code_called q.body)) e
+
+      called : code_calls S q.body ≡ true → (b : Bool) → S f ≡ b → (S f || any_in S (code_called q.body)) ≡ true
+      called e true r = itself r
+      called e false r = ap (λ b. b || any_in S (code_called q.body)) r ∙ (code_any q.body ∙ e)
+
+  pub closed_heeds : (f : ℕ) (qs : List Procedure) → ProceduresClosed A S f qs → AllOf (Heeds S) (ties_from A f qs)
+  closed_heeds f [] h = tt
+  closed_heeds f (q ∷ qs) h = (body_heeds f q h.0, all_both (Heeds S) (code_ties A q.body) (ties_from A (suc f) qs) (code_heeds q.body h.0.blocks) (closed_heeds (suc f) qs h.1))
+
+  pub heeds_closed : (f : ℕ) (qs : List Procedure) → AllOf (Heeds S) (ties_from A f qs) → ProceduresClosed A S f qs
+  heeds_closed f [] h = tt
+  heeds_closed f (q ∷ qs) h = (
+    body_closed f q h.0 (all_front (Heeds S) (code_ties A q.body) (ties_from A (suc f) qs) h.1),
+    heeds_closed (suc f) qs (all_rest (Heeds S) (code_ties A q.body) (ties_from A (suc f) qs) h.1),
+  )
+
+pub greatest_members : (A : Solution) (g : Program) (M : Procedures) → IsGreatest (length g.procs) (ties_from A 0 g.procs) M → IsMembers A g M
+greatest_members A g M k = record { closed = heeds_closed A M 0 g.procs k.heeds; greatest = λ T within closed. k.greatest T within (closed_heeds A T 0 g.procs closed) }
+
+pub greatest_of : (A : Solution) (g : Grin) (M : Procedures) (ps : List Proc) (ts us : List Tie) (n : ℕ) → ps ≡ g.procs → ts ≡ ties_from A 0 (map procedure_of ps) → us ≡ ts → n ≡ length g.procs → IsGreatest n us M
+    → IsMembers A (program_of g) M
+greatest_of A g M ps ts us n p t u e k =
+    let count : n ≡ length (map procedure_of g.procs) = e ∙ sym (length-map g.procs procedure_of) in
+    let same : us ≡ ties_from A 0 (map procedure_of g.procs) = u ∙ t ∙ ap (λ ps. ties_from A 0 (map procedure_of ps)) p in
+    greatest_members A (program_of g) M (subst (λ l. IsGreatest (length (map procedure_of g.procs)) l M) same (subst (λ n. IsGreatest n us M) count k))

@@ -1,0 +1,13 @@
+pub mod Boxing
+pub mod Joined
+pub mod Loops
+pub mod Numbered
+pub mod Numbers
+pub mod Readers
+pub mod Rounding
+pub mod Same
+pub mod Shape
+pub mod SoFar
+pub mod Sweeping
+pub mod Well
+pub mod Whole

@@ -1,0 +1,37 @@
+-- Rounds in which procedures are taken out of a set.
+use Rattle.std.specs.Prelude.{ℕ, ◌≡◌, ◌+◌, ◌<◌, ◌≤◌, Bool, true, false, cond, not, nat_eq, ◌&&◌, ◌||◌, List, [], ◌∷◌}
+use Rattle.grin_syntax.specs.declared.program.ProcId.{ProcId}
+use Rattle.grin_syntax.specs.Formed.{AllOf}
+use Rattle.unbox.specs.declared.ties.Tie.{Tie}
+use Rattle.unbox.specs.Ends.{Procedures, is_member}
+use Rattle.unbox.specs.Ties.{Heeds}
+
+-- how many are in
+abbrev pub trues : List Bool → ℕ
+trues [] = 0
+trues (b ∷ bs) = cond b 1 0 + trues bs
+
+abbrev pub is_among : ℕ → List ProcId → Bool
+is_among g [] = false
+is_among g (f ∷ fs) = nat_eq g f.0 || is_among g fs
+
+-- each procedure of T is in
+abbrev pub Within : Procedures → List Bool → Type 0
+Within T bs = (f : ℕ) → T f ≡ true → is_member bs f ≡ true
+
+-- fewer are in where something has changed
+pub record Fewer (old new : List Bool) (changed : Bool) : Type 0 where
+  pub at_most : trues new ≤ trues old
+  pub less : changed ≡ true → trues new < trues old
+  pub still : changed ≡ false → new ≡ old
+
+-- these are taken out
+pub record Taken (old new : List Bool) (fs : List ProcId) (changed : Bool) : Type 0 where
+  pub members : (g : ℕ) → is_member new g ≡ (is_member old g && not (is_among g fs))
+  pub fewer : Fewer old new changed
+
+-- ties are heeded: no procedure of a set that heeds them is taken out
+pub record Heeded (old new : List Bool) (ts : List Tie) (changed : Bool) : Type 0 where
+  pub sound : (T : Procedures) → AllOf (Heeds T) ts → Within T old → Within T new
+  pub done : changed ≡ false → AllOf (Heeds (is_member new)) ts
+  pub fewer : Fewer old new changed

@@ -1,0 +1,14 @@
+//! A pass: procedures that give numbers alone give them without their tag, and where such a number is bound, the tag is put
+//! beside it.
+#![tactic(auto)]
+
+mod blocks;
+mod members;
+mod pass;
+mod ties;
+mod truth;
+
+pub use pass::Unbox;
+
+#[cfg(test)]
+mod tests;

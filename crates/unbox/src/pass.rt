@@ -1,0 +1,86 @@
+// The pass.
+#![tactic(auto)]
+
+ghost use Rattle.std.specs.Prelude.{◌≡◌, IfOk};
+ghost use Rattle.grin_syntax.specs.Tree.{program_of};
+ghost use Rattle.grin_meaning.specs.Ready.{IsFetchedByWords};
+ghost use Rattle.flow_system.specs.Tables.{tables};
+ghost use Rattle.flow_system.specs.System.{system};
+ghost use Rattle.flow_system.specs.Solution.{IsLeast};
+ghost use Rattle.points_to.specs.Found.{found};
+ghost use Rattle.pass_ground.specs.Vectors.{OfVectors};
+ghost use Rattle.unbox.specs.Ends.{is_member};
+ghost use Rattle.unbox.specs.Members.{IsMembers};
+ghost use Rattle.unbox.specs.Unboxing.{unboxed};
+ghost use Rattle.unbox.specs.Unboxed.{Unboxed};
+
+use crate::blocks::Members;
+use crate::members::members;
+use crate::ties::ties;
+use flow_system::system::system;
+use grin_meaning::Pass;
+use grin_syntax::{Grin, Proc, ProcId};
+use points_to::{Flow, solve};
+use seq::Seq;
+use std::alloc::{AllocError, Global};
+
+/// A procedure whose results have exactly the tag CInt, by the least solution of the program's own flow system, gives the
+/// number alone, where its ends and those of its callers allow it. Where such a result is bound, the tag and the zeros of
+/// its vector are put beside the number.
+pub struct Unbox;
+
+impl Pass for Unbox {
+    ghost takes = { λ g. OfVectors (program_of g) × IsFetchedByWords (program_of g) };
+
+    ghost gives = { λ g h. Unboxed (program_of g) (program_of h) };
+
+    fn apply(&self, alloc: Global, g: Grin) -> Result<Grin, AllocError> {
+        let flow = least(alloc, &g)?;
+        let members = found_members(alloc, &flow, &g)?;
+        let h = with_members(alloc, g, &members)?;
+        Ok(h)
+    }
+}
+
+// The least solution of a program's flow system.
+pub(crate) fn least(alloc: Global, g: &Grin) -> Result<Flow, AllocError>
+    ensures { IfOk result (λ f. IsLeast (tables (program_of g.now)) (system (program_of g.now)) (found f)) }
+{
+    let system = system(alloc, g)?;
+    let flow = solve(alloc, &system)?;
+    Ok(flow)
+}
+
+// The members of a program.
+pub(crate) fn found_members(alloc: Global, flow: &Flow, g: &Grin) -> Result<Members, AllocError>
+    ensures { IfOk result (λ m. IsMembers (found flow.now) (program_of g.now) (is_member m.inside)) }
+{
+    let procs = g.procs.as_slice();
+    let ties = ties(alloc, flow, procs)?;
+    let members = members(alloc, g.procs.len(), ties.as_slice())?;
+    Ok(members)
+}
+
+pub(crate) fn with_members(alloc: Global, g: Grin, members: &Members) -> Result<Grin, AllocError>
+    ensures { IfOk result (λ h. program_of h ≡ unboxed (is_member members.now.inside) (program_of g)) }
+{
+    let mut procs = Seq::new(alloc);
+    let mut f = 0_u32;
+    for proc in g.procs.into_vec() {
+        let bare = members.has(ProcId(f));
+        let body = members.block(alloc, bare, proc.body)?;
+        procs.push(Proc {
+            name: proc.name,
+            params: proc.params,
+            body,
+        })?;
+        f = f.checked_add(1).ok_or(AllocError)?;
+    }
+    Ok(Grin {
+        tags: g.tags,
+        globals: g.globals,
+        procs,
+        start: g.start,
+        argument: g.argument,
+    })
+}
