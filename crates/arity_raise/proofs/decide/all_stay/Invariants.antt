@@ -1,0 +1,6 @@
+use Rattle.std.proofs.Common.{take}
+use Rattle.arity_raise.specs.Turns.{NoneRaised}
+use Rattle.arity_raise.proofs.decide.all_stay.Given as goal
+
+abbrev pub invariant-loop-at : goal.invariant-loop-at
+invariant-loop-at l = NoneRaised (take l.at l.params) l.made

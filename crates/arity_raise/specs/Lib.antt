@@ -1,0 +1,8 @@
+pub mod Taken
+pub mod Raisable
+pub mod Raising
+pub mod Decided
+pub mod Raised
+pub mod Decision
+pub mod Fixed
+pub mod Turns

@@ -1,0 +1,31 @@
+-- What is decided at a turn, and the new parameters in a row.
+use Rattle.std.specs.Prelude.{ℕ, ◌≡◌, ◌+◌, ◌-◌, List, [], Option, Some, None}
+use Rattle.grin_syntax.specs.declared.program.VarId.{VarId}
+use Rattle.grin_syntax.specs.Fresh.{variables}
+use Rattle.grin_syntax.specs.Tree.{Procedure, Program}
+use Rattle.flow_system.specs.Solution.{Solution}
+use Rattle.arity_raise.specs.Raisable.{Raisable}
+use Rattle.arity_raise.specs.Raising.{Raising, Decisions}
+use Rattle.arity_raise.specs.Decided.{AllStay, IsRoom, Stays, new_params}
+
+-- how many parameters there are at the next turn
+abbrev pub count_after : ℕ → Option Raising → ℕ
+count_after count None = count
+count_after count (Some r) = count + r.fields - 1
+
+module _ (A : Solution) (g : Program) where
+  -- what is decided of the parameter x of q, where it has so many at its turn
+  abbrev pub Turn : Procedure → VarId → ℕ → Option Raising → Type 0
+  Turn q x count None = Stays A g q x count
+  Turn q x count (Some r) = Raisable A g q x.0 r.tag.0 r.fields × IsRoom count r.fields
+
+-- these are the variables from one up to another
+pub record InRow (xs : List VarId) (from to : ℕ) : Type 0 where
+  pub count : ℕ
+  pub are : xs ≡ variables from count
+  pub next : to ≡ from + count
+
+-- none of these parameters is raised
+pub record NoneRaised (xs : List VarId) (ds : Decisions) : Type 0 where
+  pub stay : AllStay xs ds
+  pub no_new : new_params ds ≡ []

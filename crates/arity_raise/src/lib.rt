@@ -1,0 +1,17 @@
+//! A pass: a parameter that stands for a cell whose node never changes is replaced by the fields of the node.
+#![tactic(auto)]
+
+mod blocks;
+mod calls;
+mod cells;
+mod decide;
+mod params;
+mod pass;
+mod raising;
+mod taken;
+mod updated;
+
+pub use pass::Raise;
+
+#[cfg(test)]
+mod tests;

@@ -1,0 +1,102 @@
+// The pass.
+#![tactic(auto)]
+
+ghost use Rattle.std.specs.Prelude.{◌≡◌, ◌+◌, length, IfOk, OnOk};
+ghost use Rattle.grin_syntax.specs.Tree.{code_of, procedure_of, program_of};
+ghost use Rattle.grin_meaning.specs.Ready.{IsFetchedByWords};
+ghost use Rattle.flow_system.specs.Tables.{tables};
+ghost use Rattle.flow_system.specs.System.{system};
+ghost use Rattle.flow_system.specs.Solution.{IsLeast};
+ghost use Rattle.points_to.specs.Found.{found};
+ghost use Rattle.pass_ground.specs.Vectors.{OfVectors};
+ghost use Rattle.arity_raise.specs.Raising.{new_code, raised_procedure, raised};
+ghost use Rattle.arity_raise.specs.Raised.{Raised};
+
+use crate::blocks::Within;
+use crate::decide::{Decisions, Planned, plan};
+use crate::params::raised_params;
+use crate::raising::Raising;
+use flow_system::system::system;
+use grin_meaning::Pass;
+use grin_syntax::fresh::Fresh;
+use grin_syntax::{Grin, Proc};
+use points_to::{Flow, solve};
+use seq::Seq;
+use std::alloc::{AllocError, Global};
+
+/// A parameter that is used as the cell of fetches alone, and whose cells have exactly one tag, one of values, by the least
+/// solution of the program's own flow system, and are never updated, is replaced by the fields of its cell. A caller fetches
+/// them before the call. Parameters are looked at from the left; none is replaced where that would leave more than sixteen,
+/// and the start keeps its parameters.
+pub struct Raise;
+
+impl Pass for Raise {
+    ghost takes = { λ g. OfVectors (program_of g) × IsFetchedByWords (program_of g) };
+
+    ghost gives = { λ g h. Raised (program_of g) (program_of h) };
+
+    fn apply(&self, alloc: Global, g: Grin) -> Result<Grin, AllocError> {
+        let flow = least(alloc, &g)?;
+        let plan = plan(alloc, &g, &flow)?;
+        let h = with_fields(alloc, g, plan)?;
+        Ok(h)
+    }
+}
+
+// The least solution of a program's flow system.
+pub(crate) fn least(alloc: Global, g: &Grin) -> Result<Flow, AllocError>
+    ensures { IfOk result (λ f. IsLeast (tables (program_of g.now)) (system (program_of g.now)) (found f)) }
+{
+    let system = system(alloc, g)?;
+    let flow = solve(alloc, &system)?;
+    Ok(flow)
+}
+
+// A procedure with its parameters raised, where this is decided of those of all procedures, and of its own.
+fn raised_proc(
+    alloc: Global,
+    fresh: &mut Fresh,
+    all: &Seq<Decisions>,
+    own: &[Option<Raising>],
+    proc: Proc,
+) -> Result<Proc, AllocError>
+    ensures is { IfOk result (λ p. procedure_of p ≡ raised_procedure all.now fresh.old.next own.now (procedure_of proc)) }
+    ensures next { OnOk result (fresh.new.next ≡ fresh.old.next + new_code all.now (code_of proc.body)) }
+{
+    let Proc { name, params, body } = proc;
+    let old = params.as_slice();
+    let within = Within {
+        all,
+        own,
+        params: old,
+    };
+    let body = within.block(alloc, fresh, body)?;
+    let params = raised_params(alloc, own, old)?;
+    Ok(Proc { name, params, body })
+}
+
+// The program with the parameters raised of which that is decided.
+pub(crate) fn with_fields(alloc: Global, g: Grin, plan: Planned) -> Result<Grin, AllocError>
+    requires { length plan.procs ≡ length g.procs }
+    ensures { IfOk result (λ h. program_of h ≡ raised plan.procs plan.fresh.next (program_of g)) }
+{
+    let Planned {
+        procs: decisions,
+        mut fresh,
+    } = plan;
+    let all = &decisions;
+    let mut procs = Seq::new(alloc);
+    let mut f = 0;
+    for proc in g.procs.into_vec() {
+        let own = all.as_slice()[f].as_slice();
+        procs.push(raised_proc(alloc, &mut fresh, all, own, proc)?)?;
+        f += 1;
+    }
+    Ok(Grin {
+        tags: g.tags,
+        globals: g.globals,
+        procs,
+        start: g.start,
+        argument: g.argument,
+    })
+}
