@@ -30,6 +30,10 @@ pub enum Listing {
     Copy,
     /// The program whose updates have known tags.
     Update,
+    /// The program whose procedures give numbers without their tag.
+    Unbox,
+    /// The program whose procedures take words in place of the node in which they stand.
+    Raise,
     /// The code of its image.
     Code,
 }
@@ -88,6 +92,8 @@ impl Listing {
             "fetch" => Some(Listing::Fetch),
             "copy" => Some(Listing::Copy),
             "update" => Some(Listing::Update),
+            "unbox" => Some(Listing::Unbox),
+            "raise" => Some(Listing::Raise),
             "code" => Some(Listing::Code),
             _ => None,
         }

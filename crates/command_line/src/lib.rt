@@ -10,6 +10,3 @@ mod word;
 
 pub use command::{Command, Listing};
 pub use line::Line;
-
-#[cfg(test)]
-mod tests;

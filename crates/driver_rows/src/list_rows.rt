@@ -366,11 +366,35 @@ fn listings(rt: HostRuntime) -> Result<(), Fail> {
         (TAKES_TEXT, "fetch", TAKES_BY_WORDS),
         (TAKES_TEXT, "copy", TAKES_BY_WORDS),
         (TAKES_TEXT, "update", TAKES_WITH_TAGS),
+        // No procedure gives numbers alone, and each parameter's cell is updated.
+        (TAKES_TEXT, "unbox", TAKES_WITH_TAGS),
+        (TAKES_TEXT, "raise", TAKES_WITH_TAGS),
     ];
     for (text, after, out) in rows {
         let text = format!(in rt.alloc(); "{LISTS}{text}")?;
         let shown = listed(rt.alloc(), text.as_str(), after)?;
         assert!(rt; shown.is(0, out, ""), "{text} {after}");
+    }
+    Ok(())
+}
+
+/// A function of a list with one element, whose cell nothing overwrites.
+const HEAD_TEXT: &str =
+    "hd c = case c of { Cons h t -> h }; main = case hd (Cons 65 Nil) of { x -> Cons x Nil };";
+
+#[test]
+fn a_parameter_gives_place_to_fields(rt: HostRuntime) -> Result<(), Fail> {
+    let text = format!(in rt.alloc(); "{LISTS}{HEAD_TEXT}")?;
+    let rows = [
+        ("update", "hd v0 =", "hd v0 v1 ="),
+        ("unbox", "hd v0 =", "hd v0 v1 ="),
+        ("raise", "hd v0 v1 =", "hd v0 ="),
+    ];
+    for (after, line, no_line) in rows {
+        let shown = listed(rt.alloc(), text.as_str(), after)?;
+        assert!(rt; shown.took(0, shown.bytes().len()), "{after}");
+        assert!(rt; shown.has_line(line), "{after}");
+        assert!(rt; !shown.has_line(no_line), "{after}");
     }
     Ok(())
 }

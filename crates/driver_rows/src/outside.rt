@@ -46,6 +46,12 @@ impl Ended {
         self.status.code() == code && self.out.taken() == out && self.err.taken() == err.as_bytes()
     }
 
+    /// Whether this is a whole line that the output took.
+    pub(crate) fn has_line(&self, line: &str) -> bool {
+        let mut lines = self.out.taken().split(|byte| *byte == b'\n');
+        lines.any(|other| other == line.as_bytes())
+    }
+
     /// The bytes that the output took.
     pub(crate) fn bytes(&self) -> &[u8] {
         self.out.taken()

@@ -33,6 +33,16 @@ fn programs_that_end(rt: HostRuntime) -> Result<(), Fail> {
             "take xs = case xs of { Nil -> Nil; Cons h t -> Cons h (take t) }; main = take (take (Cons 65 Nil));",
             "A",
         ),
+        // The cell of the list is taken apart by the caller.
+        (
+            "hd c = case c of { Cons h t -> h }; main = case hd (Cons 65 Nil) of { x -> Cons x Nil };",
+            "A",
+        ),
+        // What gives a number or else what `f` gives has no place for a tag after the call.
+        (
+            "f x = add x 1; g x = case x of { 0 -> Nil; _ -> f x }; main = case g 64 of { y -> Cons y Nil };",
+            "A",
+        ),
     ];
     for (text, out) in rows {
         let text = format!(in rt.alloc(); "{LISTS}{text}")?;

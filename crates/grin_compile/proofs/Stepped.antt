@@ -9,7 +9,7 @@ use Rattle.grin_meaning.proofs.Kept.{keeps_again}
 use Rattle.grin_translate.specs.Translation.{tr}
 use Rattle.pass_ground.specs.Vectors.{OfVectors, NarrowTargets, StaysOfVectors}
 use Rattle.grin_opt.specs.declared.pass.PassName.{PassName}
-use Rattle.grin_opt.specs.declared.pass.PassName.TheVariants.{Translate, Eval, Apply, Vectorise, Simplify, Fetch, Copy, Update}
+use Rattle.grin_opt.specs.declared.pass.PassName.TheVariants.{Translate, Eval, Apply, Vectorise, Simplify, Fetch, Copy, Update, Unbox, Raise}
 use Rattle.grin_opt.specs.Schedule.{IsTaken, shape_of}
 use Rattle.grin_compile.specs.declared.later.Later.{Later}
 use Rattle.grin_compile.specs.Passed.{IsPassedBy, ArePassed, later_after, programs_of}
@@ -59,6 +59,15 @@ next_one a g h can stays = record {
   outside = outside_both a g h can.outside stays.outside;
 }
 
+-- a pass that makes targets of one variable
+splitting_one : (a g h : Program) → CanBeLowered a g → OfVectors h → SameOutside g h → ((most : ℕ) → 1 ≤ most → NarrowTargets most g → NarrowTargets most h)
+    → CanBeLowered a h
+splitting_one a g h can vectors outside narrow = record {
+  of_vectors = vectors;
+  narrow = narrow 14 (omega arith) can.narrow;
+  outside = outside_both a g h can.outside outside;
+}
+
 module _ (a : Program) (taken : IsTaken a) (l : Later) (passed : ArePassed passes a (programs_of l)) where
   vectorised : CanBeLowered a (program_of l.vectorised)
   vectorised =
@@ -73,19 +82,19 @@ module _ (a : Program) (taken : IsTaken a) (l : Later) (passed : ArePassed passe
   simplified = next_one a _ _ vectorised passed.1.0.shape.stays
 
   fetched : CanBeLowered a (program_of l.fetched)
-  fetched =
-      let shape = passed.1.1.0.shape in
-      record {
-        of_vectors = shape.of_vectors;
-        narrow = shape.narrow 14 (omega arith) simplified.narrow;
-        outside = outside_both a _ _ simplified.outside shape.outside;
-      }
+  fetched = splitting_one a _ _ simplified passed.1.1.0.shape.of_vectors passed.1.1.0.shape.outside passed.1.1.0.shape.narrow
 
   copied : CanBeLowered a (program_of l.copied)
   copied = next_one a _ _ fetched passed.1.1.1.0.shape.stays
 
   updated : CanBeLowered a (program_of l.updated)
   updated = next_one a _ _ copied passed.1.1.1.1.0.shape.stays
+
+  unboxed : CanBeLowered a (program_of l.unboxed)
+  unboxed = next_one a _ _ updated passed.1.1.1.1.1.0.shape.stays
+
+  raised : CanBeLowered a (program_of l.raised)
+  raised = splitting_one a _ _ unboxed passed.1.1.1.1.1.1.0.shape.of_vectors passed.1.1.1.1.1.1.0.shape.outside passed.1.1.1.1.1.1.0.shape.narrow
 
   pub can_be_lowered : (k : PassName) → CanBeLowered a (later_after l k)
   can_be_lowered Translate = vectorised
@@ -96,3 +105,5 @@ module _ (a : Program) (taken : IsTaken a) (l : Later) (passed : ArePassed passe
   can_be_lowered Fetch = fetched
   can_be_lowered Copy = copied
   can_be_lowered Update = updated
+  can_be_lowered Unbox = unboxed
+  can_be_lowered Raise = raised

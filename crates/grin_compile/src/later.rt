@@ -2,12 +2,14 @@
 
 ghost use Rattle.std.specs.Prelude.{◌≡◌, ◌≤◌, IfOk};
 ghost use Rattle.grin_syntax.specs.Tree.{program_of};
+ghost use Rattle.grin_meaning.specs.Ready.{IsFetchedByWords};
 ghost use Rattle.pass_ground.specs.Vectors.{OfVectors};
 ghost use Rattle.grin_opt.specs.declared.pass.PassName.TheVariants as stage;
 ghost use Rattle.grin_opt.specs.Schedule.{IsTaken};
 ghost use Rattle.grin_compile.specs.Stages.{passes, IsLastOf};
 ghost use Rattle.grin_compile.specs.Passed.{IsPassedBy, ArePassed, later_after, programs_of, SlimBeside};
 
+use arity_raise::Raise;
 use case_simplify::Simplify;
 use copy_prop::Copies;
 use fetch_passes::Fetches;
@@ -16,6 +18,7 @@ use grin_measure::{Sizes, is_slim};
 use grin_opt::PassName;
 use grin_syntax::{Grin, copy};
 use std::alloc::{AllocError, Global};
+use unbox::Unbox;
 use update_special::Updates;
 use vectorise::Vectorise;
 
@@ -27,6 +30,8 @@ pub struct Later {
     pub fetched: Grin,
     pub copied: Grin,
     pub updated: Grin,
+    pub unboxed: Grin,
+    pub raised: Grin,
 }
 
 impl Later {
@@ -42,6 +47,8 @@ impl Later {
             PassName::Fetch => &self.fetched,
             PassName::Copy => &self.copied,
             PassName::Update => &self.updated,
+            PassName::Unbox => &self.unboxed,
+            PassName::Raise => &self.raised,
         }
     }
 
@@ -52,7 +59,11 @@ impl Later {
         requires slim { SlimBeside sizes (program_of self.now.vectorised) }
         ensures { IsLastOf (SlimBeside sizes) (programs_of self.now) (later_after self.now result) }
     {
-        if is_slim(&self.updated, sizes) {
+        if is_slim(&self.raised, sizes) {
+            PassName::Raise
+        } else if is_slim(&self.unboxed, sizes) {
+            PassName::Unbox
+        } else if is_slim(&self.updated, sizes) {
             PassName::Update
         } else if is_slim(&self.copied, sizes) {
             PassName::Copy
@@ -111,6 +122,26 @@ fn updated(alloc: Global, g: &Grin) -> Result<Grin, AllocError>
     Ok(after)
 }
 
+fn unboxed(alloc: Global, g: &Grin) -> Result<Grin, AllocError>
+    requires vectors { OfVectors (program_of g.now) }
+    requires by_words { IsFetchedByWords (program_of g.now) }
+    ensures { IfOk result (λ h. IsPassedBy stage.Unbox (program_of g.now) (program_of h)) }
+{
+    let before = copy(alloc, g)?;
+    let after = Unbox.apply(alloc, before)?;
+    Ok(after)
+}
+
+fn raised(alloc: Global, g: &Grin) -> Result<Grin, AllocError>
+    requires vectors { OfVectors (program_of g.now) }
+    requires by_words { IsFetchedByWords (program_of g.now) }
+    ensures { IfOk result (λ h. IsPassedBy stage.Raise (program_of g.now) (program_of h)) }
+{
+    let before = copy(alloc, g)?;
+    let after = Raise.apply(alloc, before)?;
+    Ok(after)
+}
+
 /// The stages after an inlined program.
 pub(crate) fn later_stages(alloc: Global, g: &Grin) -> Result<Later, AllocError>
     requires { IsTaken (program_of g.now) }
@@ -121,11 +152,15 @@ pub(crate) fn later_stages(alloc: Global, g: &Grin) -> Result<Later, AllocError>
     let fetched = fetched(alloc, &simplified)?;
     let copied = copied(alloc, &fetched)?;
     let updated = updated(alloc, &copied)?;
+    let unboxed = unboxed(alloc, &updated)?;
+    let raised = raised(alloc, &unboxed)?;
     Ok(Later {
         vectorised,
         simplified,
         fetched,
         copied,
         updated,
+        unboxed,
+        raised,
     })
 }

@@ -109,6 +109,8 @@ pub(crate) fn list_after<K: Sink>(alloc: Global, text: &[u8], after: Listing, ou
         Listing::Fetch => list_text(alloc, text, PassName::Fetch, out),
         Listing::Copy => list_text(alloc, text, PassName::Copy, out),
         Listing::Update => list_text(alloc, text, PassName::Update, out),
+        Listing::Unbox => list_text(alloc, text, PassName::Unbox, out),
+        Listing::Raise => list_text(alloc, text, PassName::Raise, out),
         Listing::Code => list_code(alloc, text, out),
     }
 }

@@ -1,11 +1,11 @@
 -- One pass after another.
-use Rattle.std.proofs.Common.{◌≡◌, refl}
 use Rattle.grin_syntax.specs.Tree.{Program}
 use Rattle.grin_meaning.specs.Keeps.{Keeps}
+use Rattle.grin_meaning.specs.Ready.{IsFetchedByWords}
 use Rattle.grin_meaning.proofs.Kept.{keeps_again}
 use Rattle.pass_ground.specs.Vectors.{OfVectors}
 use Rattle.grin_opt.specs.declared.pass.PassName.{PassName}
-use Rattle.grin_opt.specs.declared.pass.PassName.TheVariants.{Translate, Eval, Apply, Vectorise, Simplify, Fetch, Copy, Update}
+use Rattle.grin_opt.specs.declared.pass.PassName.TheVariants.{Translate, Eval, Apply, Vectorise, Simplify, Fetch, Copy, Update, Unbox, Raise}
 use Rattle.grin_opt.specs.Schedule.{before, shape_of, IsOptimised, itself, by_pass}
 
 -- the stages of programs of vectors
@@ -24,10 +24,37 @@ shaped_of_vectors Simplify g h s = s.stays.of_vectors
 shaped_of_vectors Fetch g h s = s.of_vectors
 shaped_of_vectors Copy g h s = s.stays.of_vectors
 shaped_of_vectors Update g h s = s.stays.of_vectors
+shaped_of_vectors Unbox g h s = s.stays.of_vectors
+shaped_of_vectors Raise g h s = s.of_vectors
 
 pub of_vectors : (g h : Program) (k : PassName) → HasVectors k → IsOptimised g k h → OfVectors h
 of_vectors g h k has itself = absurd has
 of_vectors g h k has (by_pass {h = b} o s keeps) = shaped_of_vectors k b h s
+
+-- the stages of programs that fetch words alone
+abbrev pub FetchesWords : PassName → Type 0
+FetchesWords Fetch = Unit {0}
+FetchesWords Copy = Unit {0}
+FetchesWords Update = Unit {0}
+FetchesWords Unbox = Unit {0}
+FetchesWords Raise = Unit {0}
+FetchesWords _ = ⊥
+
+pub shaped_by_words : (k : PassName) (g h : Program) → FetchesWords k → (FetchesWords (before k) → IsFetchedByWords g) → shape_of k g h → IsFetchedByWords h
+shaped_by_words Translate g h has so_far s = absurd has
+shaped_by_words Eval g h has so_far s = absurd has
+shaped_by_words Apply g h has so_far s = absurd has
+shaped_by_words Vectorise g h has so_far s = absurd has
+shaped_by_words Simplify g h has so_far s = absurd has
+shaped_by_words Fetch g h has so_far s = s.by_words
+shaped_by_words Copy g h has so_far s = s.stays.by_words (so_far tt)
+shaped_by_words Update g h has so_far s = s.stays.by_words (so_far tt)
+shaped_by_words Unbox g h has so_far s = s.stays.by_words (so_far tt)
+shaped_by_words Raise g h has so_far s = s.by_words
+
+pub by_words : (g h : Program) (k : PassName) → FetchesWords k → IsOptimised g k h → IsFetchedByWords h
+by_words g h k has itself = absurd has
+by_words g h k has (by_pass {h = b} o s keeps) = shaped_by_words k b h has (λ has. by_words g b (before k) has o) s
 
 kept_so_far : (g h : Program) (k : PassName) → HasVectors k → IsOptimised g k h → Keeps g h
 kept_so_far g h k has itself = absurd has

@@ -9,8 +9,10 @@ use Rattle.case_simplify.specs.Simplified.{Simplified}
 use Rattle.fetch_passes.specs.Fetched.{Fetched}
 use Rattle.copy_prop.specs.Copied.{Copied}
 use Rattle.update_special.specs.Updated.{Updated}
+use Rattle.unbox.specs.Unboxed.{Unboxed}
+use Rattle.arity_raise.specs.Raised.{Raised}
 use Rattle.grin_opt.specs.declared.pass.PassName.{PassName}
-use Rattle.grin_opt.specs.declared.pass.PassName.TheVariants.{Translate, Eval, Apply, Vectorise, Simplify, Fetch, Copy, Update}
+use Rattle.grin_opt.specs.declared.pass.PassName.TheVariants.{Translate, Eval, Apply, Vectorise, Simplify, Fetch, Copy, Update, Unbox, Raise}
 
 -- the stages from the inlining of applications on
 abbrev pub IsAfterInlining : PassName → Type 0
@@ -30,6 +32,8 @@ shape_of Simplify g h = Simplified g h
 shape_of Fetch g h = Fetched g h
 shape_of Copy g h = Copied g h
 shape_of Update g h = Updated g h
+shape_of Unbox g h = Unboxed g h
+shape_of Raise g h = Raised g h
 shape_of _ g h = ⊥
 
 -- the stage that such a pass takes
@@ -39,6 +43,8 @@ before Simplify = Vectorise
 before Fetch = Simplify
 before Copy = Fetch
 before Update = Copy
+before Unbox = Update
+before Raise = Unbox
 before k = k
 
 -- The program after the passes up to this one: itself; or it has the pass's shape beside the program

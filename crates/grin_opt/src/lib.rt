@@ -1,6 +1,7 @@
-// The stages of a program, and the schedule of the passes between them.
+//! The stages of a program, and the schedule of the passes between them.
 #![tactic(auto)]
 
+pub mod laws;
 mod pass;
 mod schedule;
 

@@ -2,8 +2,8 @@
 
 /// The stages of a program, in the order in which they are made: its translation, the inlining of its evaluations by the tags
 /// that they meet, that of its applications, vectors of words in place of its node variables, cases on known tags in place of
-/// which their alternatives stand, fetches of words in place of those of nodes, copies that are gone, and updates with a known
-/// tag.
+/// which their alternatives stand, fetches of words in place of those of nodes, copies that are gone, updates with a known
+/// tag, numbers that are given without their tag, and parameters in place of which the words of their nodes stand.
 #[derive(Clone, Copy, PartialEq, Eq, Debug, Drop)]
 pub enum PassName {
     Translate,
@@ -14,4 +14,6 @@ pub enum PassName {
     Fetch,
     Copy,
     Update,
+    Unbox,
+    Raise,
 }

@@ -6,12 +6,14 @@ ghost use Rattle.grin_opt.specs.declared.pass.PassName.TheVariants as stage;
 ghost use Rattle.grin_opt.specs.Schedule.{IsAfterInlining, IsTaken, IsOptimised};
 
 use crate::pass::PassName;
+use arity_raise::Raise;
 use case_simplify::Simplify;
 use copy_prop::Copies;
 use fetch_passes::Fetches;
 use grin_meaning::Pass;
 use grin_syntax::Grin;
 use std::alloc::{AllocError, Global};
+use unbox::Unbox;
 use update_special::Updates;
 use vectorise::Vectorise;
 
@@ -59,6 +61,24 @@ fn updated(alloc: Global, g: Grin) -> Result<Grin, AllocError>
     Ok(h)
 }
 
+fn unboxed(alloc: Global, g: Grin) -> Result<Grin, AllocError>
+    requires { IsTaken (program_of g) }
+    ensures { IfOk result (λ h. IsOptimised (program_of g) stage.Unbox (program_of h)) }
+{
+    let before = updated(alloc, g)?;
+    let h = Unbox.apply(alloc, before)?;
+    Ok(h)
+}
+
+fn raised(alloc: Global, g: Grin) -> Result<Grin, AllocError>
+    requires { IsTaken (program_of g) }
+    ensures { IfOk result (λ h. IsOptimised (program_of g) stage.Raise (program_of h)) }
+{
+    let before = unboxed(alloc, g)?;
+    let h = Raise.apply(alloc, before)?;
+    Ok(h)
+}
+
 /// The program after the passes after the inlining, up to and with `upto`. `AllocError` where memory is wanting.
 pub fn optimise(alloc: Global, g: Grin, upto: PassName) -> Result<Grin, AllocError>
     requires taken { IsTaken (program_of g) }
@@ -73,5 +93,7 @@ pub fn optimise(alloc: Global, g: Grin, upto: PassName) -> Result<Grin, AllocErr
         PassName::Fetch => fetched(alloc, g),
         PassName::Copy => copied(alloc, g),
         PassName::Update => updated(alloc, g),
+        PassName::Unbox => unboxed(alloc, g),
+        PassName::Raise => raised(alloc, g),
     }
 }

@@ -117,6 +117,8 @@ pub fn stage(alloc: Global, p: &Checked, upto: PassName) -> Result<Grin, Compile
         | PassName::Simplify
         | PassName::Fetch
         | PassName::Copy
-        | PassName::Update => optimised(alloc, p, upto),
+        | PassName::Update
+        | PassName::Unbox
+        | PassName::Raise => optimised(alloc, p, upto),
     }
 }

@@ -14,6 +14,3 @@ pub use program::{
     Alt, Block, Cell, GlobalCell, Grin, Op, PrimOp, Proc, ProcId, Shape, Site, Stmt, Tag, TagId,
     TagKind, Target, Val, VarId, Word,
 };
-
-#[cfg(test)]
-mod tests;

@@ -1,6 +1,8 @@
-//! Rows for the stages: programs that were worked by hand, and the sizes of large ones.
+//! Rows for the stages: programs that were worked by hand, their listings, and the sizes of large ones.
 #![tactic(auto)]
 
+#[cfg(test)]
+mod listings;
 #[cfg(test)]
 mod tests;
 #[cfg(test)]

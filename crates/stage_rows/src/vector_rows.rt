@@ -97,7 +97,7 @@ fn fetches_fill_longer_vectors(rt: HostRuntime) -> Result<(), Fail> {
 }
 
 #[test]
-fn programs_have_a_stage_with_vectors(rt: HostRuntime) -> Result<(), Fail> {
+fn programs_have_a_stage_with_vectors_and_a_last_one(rt: HostRuntime) -> Result<(), Fail> {
     let alloc = rt.alloc();
     let rows = [
         "main = Nil;",
@@ -118,9 +118,11 @@ fn programs_have_a_stage_with_vectors(rt: HostRuntime) -> Result<(), Fail> {
         let text = format!(in alloc; "{LISTS}{row}")?;
         let p = checked(alloc, text.as_str())?;
         assert!(rt; stage(alloc, &p, PassName::Vectorise).is_ok(), "{row}");
+        assert!(rt; stage(alloc, &p, PassName::Raise).is_ok(), "{row}");
     }
     let p = checked(alloc, QUEENS)?;
     assert!(rt; stage(alloc, &p, PassName::Vectorise).is_ok());
+    assert!(rt; stage(alloc, &p, PassName::Raise).is_ok());
     Ok(())
 }
 

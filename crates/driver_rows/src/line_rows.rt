@@ -1,6 +1,6 @@
 //! Lines worked by hand.
 
-use super::{Command, Line, Listing};
+use command_line::{Command, Line, Listing};
 use std::alloc::{AllocError, Global};
 use std::test::Fail;
 
@@ -247,11 +247,13 @@ fn other_lines(rt: HostRuntime) -> Result<(), Fail> {
         ("grinc list a --after fetch", list_a(Listing::Fetch)),
         ("grinc list a --after copy", list_a(Listing::Copy)),
         ("grinc list a --after update", list_a(Listing::Update)),
+        ("grinc list a --after unbox", list_a(Listing::Unbox)),
+        ("grinc list a --after raise", list_a(Listing::Raise)),
         ("grinc list --after code a", list_a(Listing::Code)),
         ("grinc list a", None),
         ("grinc list a --after", None),
         ("grinc list a --after=", None),
-        ("grinc list a --after raise", None),
+        ("grinc list a --after dead", None),
         ("grinc list a --after read --steps 1", None),
         ("grinc list a --after read --heap 1", None),
         ("grinc list a --after=read --after read", None),

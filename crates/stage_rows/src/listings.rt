@@ -1,7 +1,7 @@
 // Programs made by hand, and their listings.
 
-use crate::fresh::Fresh;
-use crate::{
+use grin_syntax::fresh::Fresh;
+use grin_syntax::{
     Alt, Block, Cell, GlobalCell, Grin, Op, PrimOp, Proc, ProcId, Shape, Site, Stmt, Tag, TagId,
     TagKind, Target, Val, VarId, Word, copy, list,
 };

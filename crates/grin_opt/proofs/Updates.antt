@@ -1,0 +1,54 @@
+-- Unboxing leaves as many updates without a literal tag as there are.
+use Rattle.std.proofs.Common.{◌≡◌, ℕ, ◌+◌, List, [], ◌∷◌, ◌++◌, ap, ◌∙◌, sym, arith}
+use Rattle.grin_syntax.specs.declared.program.Val.{Val}
+use Rattle.grin_syntax.specs.declared.program.Word.{Word}
+use Rattle.grin_syntax.specs.Tree.{Code, end, store, bind, Act, unit, fetch, fetch_word, update, eval, apply, call, prim, read, write, case, nested, fail, Arms, no_arm, arm, Procedure, Program}
+use Rattle.update_special.specs.Updates.{tag_variable}
+use Rattle.update_special.specs.Updated.{act_sum, code_sum, arms_sum, procs_sum, one_if_some, open_updates}
+use Rattle.unbox.specs.Unboxed.{act_updates, code_updates, arms_updates, updates_of}
+
+module _ (count : Val → ℕ) where
+  abbrev counted : List (Word × Val) → ℕ
+  counted [] = 0
+  counted (u ∷ us) = count u.1 + counted us
+
+  counted_append : (us vs : List (Word × Val)) → counted (us ++ vs) ≡ counted us + counted vs
+  counted_append [] vs = omega arith
+  counted_append (u ∷ us) vs = omega (arith, counted_append us vs)
+
+  mutual
+    unfolding act_sum act_updates
+
+    act_counted : (o : Act) → act_sum count o ≡ counted (act_updates o)
+    act_counted (unit v) = omega arith
+    act_counted (fetch a) = omega arith
+    act_counted (fetch_word a i) = omega arith
+    act_counted (update a v) = omega arith
+    act_counted (eval a) = omega arith
+    act_counted (apply v a) = omega arith
+    act_counted (call f ws) = omega arith
+    act_counted (prim p a b) = omega arith
+    act_counted read = omega arith
+    act_counted (write a) = omega arith
+    act_counted (case v as') = arms_counted as'
+    act_counted (nested b) = code_counted b
+    act_counted fail = omega arith
+
+    code_counted : (b : Code) → code_sum count b ≡ counted (code_updates b)
+    code_counted (end o) = act_counted o
+    code_counted (store cs b) = code_counted b
+    code_counted (bind t o b) = omega (arith, act_counted o, code_counted b, counted_append (act_updates o) (code_updates b))
+
+    arms_counted : (as' : Arms) → arms_sum count as' ≡ counted (arms_updates as')
+    arms_counted no_arm = omega arith
+    arms_counted (arm s b as') = omega (arith, code_counted b, arms_counted as', counted_append (code_updates b) (arms_updates as'))
+
+  procs_counted : (qs : List Procedure) → procs_sum count qs ≡ counted (updates_of qs)
+  procs_counted [] = omega arith
+  procs_counted (q ∷ qs) = omega (arith, code_counted q.body, procs_counted qs, counted_append (code_updates q.body) (updates_of qs))
+
+  pub same_count : (qs rs : List Procedure) → updates_of rs ≡ updates_of qs → procs_sum count rs ≡ procs_sum count qs
+  same_count qs rs same = procs_counted rs ∙ (ap counted same ∙ sym (procs_counted qs))
+
+pub same_open_updates : (g h : Program) → updates_of h.procs ≡ updates_of g.procs → open_updates h ≡ open_updates g
+same_open_updates g h same = same_count (λ v. one_if_some (tag_variable v)) g.procs h.procs same
