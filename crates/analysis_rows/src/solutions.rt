@@ -148,7 +148,7 @@ fn print(alloc: Global) -> Result<Proc, AllocError> {
     proc(alloc, &[VarId(30)], body)
 }
 
-fn takes(alloc: Global) -> Result<Grin, AllocError> {
+pub(crate) fn takes(alloc: Global) -> Result<Grin, AllocError> {
     let mut tags = Seq::new(alloc);
     tags.push(tag(alloc, TagKind::Con, 0, 1, None))?;
     tags.push(tag(alloc, TagKind::Con, 0, 0, None))?;
@@ -187,6 +187,8 @@ fn a_list_taken_twice(rt: HostRuntime) -> Result<(), Fail> {
     assert_eq!(rt; flow.tags_at(Site(21)), [NIL].as_slice());
     assert_eq!(rt; flow.tags_at(Site(22)), [CONS].as_slice());
     assert_eq!(rt; flow.tags_at(Site(23)), all.as_slice());
+    assert_eq!(rt; flow.tags_met(VarId(10)), all.as_slice());
+    assert_eq!(rt; flow.tags_met(VarId(35)).len(), 0);
     assert_eq!(rt; flow.nodes_of(VarId(11)), [NIL, CONS].as_slice());
     assert_eq!(rt; flow.result_of(ProcId(0)), [NIL, CONS].as_slice());
     assert_eq!(rt; flow.result_of(ProcId(1)), [NIL, CONS].as_slice());
@@ -198,7 +200,7 @@ fn a_list_taken_twice(rt: HostRuntime) -> Result<(), Fail> {
 }
 
 // k a b = a; app f x = f x; main = let n = Nil; f = k; g = app f n in app g n
-fn partial(alloc: Global) -> Result<Grin, AllocError> {
+pub(crate) fn partial(alloc: Global) -> Result<Grin, AllocError> {
     let mut tags = Seq::new(alloc);
     tags.push(tag(alloc, TagKind::Con, 0, 1, None))?;
     tags.push(tag(alloc, TagKind::Con, 0, 0, None))?;

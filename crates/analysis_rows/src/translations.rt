@@ -171,11 +171,11 @@ main =
   unit (CCons v0 v1)
 ";
 
-fn con(alloc: Global, c: u32, locals: &[u32]) -> Result<Flat, AllocError> {
+pub(crate) fn con(alloc: Global, c: u32, locals: &[u32]) -> Result<Flat, AllocError> {
     Ok(Flat::Con(c, vars(alloc, locals)?))
 }
 
-fn vars(alloc: Global, locals: &[u32]) -> Result<Seq<Var>, AllocError> {
+pub(crate) fn vars(alloc: Global, locals: &[u32]) -> Result<Seq<Var>, AllocError> {
     let mut made = Seq::new(alloc);
     for x in locals {
         made.push(Var::Local(*x))?;
@@ -183,7 +183,7 @@ fn vars(alloc: Global, locals: &[u32]) -> Result<Seq<Var>, AllocError> {
     Ok(made)
 }
 
-fn fun(alloc: Global, name: &str, params: u32, body: Body) -> Result<Fun, AllocError> {
+pub(crate) fn fun(alloc: Global, name: &str, params: u32, body: Body) -> Result<Fun, AllocError> {
     Ok(Fun {
         name: Seq::from_slice(alloc, name.as_bytes())?,
         params,
@@ -191,11 +191,11 @@ fn fun(alloc: Global, name: &str, params: u32, body: Body) -> Result<Fun, AllocE
     })
 }
 
-fn itself(alloc: Global) -> Body {
+pub(crate) fn itself(alloc: Global) -> Body {
     Body::App(Flat::Apply(Var::Local(0), Seq::new(alloc)))
 }
 
-fn program(alloc: Global, funs: Vec<Fun>, main: u32) -> Result<Checked, AllocError> {
+pub(crate) fn program(alloc: Global, funs: Vec<Fun>, main: u32) -> Result<Checked, AllocError> {
     let mut cons = Seq::new(alloc);
     cons.push(Con {
         name: Seq::from_slice(alloc, b"Nil")?,
@@ -286,12 +286,42 @@ fn main_of_branches(alloc: Global) -> Result<Fun, AllocError> {
     fun(alloc, "main", 0, Body::Let(group, last))
 }
 
+fn empty(alloc: Global) -> Result<Checked, AllocError> {
+    let mut funs = Vec::new(alloc);
+    funs.push(fun(alloc, "main", 0, Body::App(con(alloc, 0, &[])?))?)?;
+    program(alloc, funs, 0)
+}
+
+pub(crate) fn echo(alloc: Global) -> Result<Checked, AllocError> {
+    let mut funs = Vec::new(alloc);
+    funs.push(fun(alloc, "main", 1, itself(alloc))?)?;
+    program(alloc, funs, 0)
+}
+
+pub(crate) fn forms(alloc: Global) -> Result<Checked, AllocError> {
+    let mut funs = Vec::new(alloc);
+    funs.push(take(alloc)?)?;
+    funs.push(fun(alloc, "id", 1, itself(alloc))?)?;
+    funs.push(main_of_forms(alloc)?)?;
+    program(alloc, funs, 2)
+}
+
+pub(crate) fn branches(alloc: Global) -> Result<Checked, AllocError> {
+    let mut funs = Vec::new(alloc);
+    funs.push(tested_twice(alloc)?)?;
+    funs.push(fun(alloc, "one", 0, Body::App(Flat::Int(1)))?)?;
+    let applied = Flat::Apply(Var::Local(0), vars(alloc, &[0, 0])?);
+    funs.push(fun(alloc, "h", 1, Body::App(applied))?)?;
+    funs.push(fun(alloc, "both", 2, Body::App(con(alloc, 1, &[0, 1])?))?)?;
+    funs.push(fun(alloc, "half", 0, Body::App(Flat::Part(3, shared(alloc)?)))?)?;
+    funs.push(main_of_branches(alloc)?)?;
+    program(alloc, funs, 5)
+}
+
 #[test]
 fn no_list_is_listed(rt: HostRuntime) -> Result<(), AllocError> {
     let alloc = rt.alloc();
-    let mut funs = Vec::new(alloc);
-    funs.push(fun(alloc, "main", 0, Body::App(con(alloc, 0, &[])?))?)?;
-    let text = listed(alloc, &program(alloc, funs, 0)?)?;
+    let text = listed(alloc, &empty(alloc)?)?;
     let mut expected = Vec::from_slice(alloc, EMPTY.as_bytes())?;
     expected.extend_from_slice(PRINT.as_bytes())?;
     assert_eq!(rt; text.as_slice(), expected.as_slice());
@@ -301,9 +331,7 @@ fn no_list_is_listed(rt: HostRuntime) -> Result<(), AllocError> {
 #[test]
 fn the_input_is_listed(rt: HostRuntime) -> Result<(), AllocError> {
     let alloc = rt.alloc();
-    let mut funs = Vec::new(alloc);
-    funs.push(fun(alloc, "main", 1, itself(alloc))?)?;
-    let text = listed(alloc, &program(alloc, funs, 0)?)?;
+    let text = listed(alloc, &echo(alloc)?)?;
     let mut expected = Vec::from_slice(alloc, ECHO.as_bytes())?;
     expected.extend_from_slice(PRINT.as_bytes())?;
     expected.extend_from_slice(START.as_bytes())?;
@@ -314,11 +342,7 @@ fn the_input_is_listed(rt: HostRuntime) -> Result<(), AllocError> {
 #[test]
 fn forms_are_listed(rt: HostRuntime) -> Result<(), AllocError> {
     let alloc = rt.alloc();
-    let mut funs = Vec::new(alloc);
-    funs.push(take(alloc)?)?;
-    funs.push(fun(alloc, "id", 1, itself(alloc))?)?;
-    funs.push(main_of_forms(alloc)?)?;
-    let text = listed(alloc, &program(alloc, funs, 2)?)?;
+    let text = listed(alloc, &forms(alloc)?)?;
     let mut expected = Vec::from_slice(alloc, FORMS.as_bytes())?;
     expected.extend_from_slice(PRINT.as_bytes())?;
     assert_eq!(rt; text.as_slice(), expected.as_slice());
@@ -328,15 +352,7 @@ fn forms_are_listed(rt: HostRuntime) -> Result<(), AllocError> {
 #[test]
 fn branches_are_listed(rt: HostRuntime) -> Result<(), AllocError> {
     let alloc = rt.alloc();
-    let mut funs = Vec::new(alloc);
-    funs.push(tested_twice(alloc)?)?;
-    funs.push(fun(alloc, "one", 0, Body::App(Flat::Int(1)))?)?;
-    let applied = Flat::Apply(Var::Local(0), vars(alloc, &[0, 0])?);
-    funs.push(fun(alloc, "h", 1, Body::App(applied))?)?;
-    funs.push(fun(alloc, "both", 2, Body::App(con(alloc, 1, &[0, 1])?))?)?;
-    funs.push(fun(alloc, "half", 0, Body::App(Flat::Part(3, shared(alloc)?)))?)?;
-    funs.push(main_of_branches(alloc)?)?;
-    let text = listed(alloc, &program(alloc, funs, 5)?)?;
+    let text = listed(alloc, &branches(alloc)?)?;
     let mut expected = Vec::from_slice(alloc, BRANCHES.as_bytes())?;
     expected.extend_from_slice(PRINT.as_bytes())?;
     assert_eq!(rt; text.as_slice(), expected.as_slice());

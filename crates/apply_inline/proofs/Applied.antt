@@ -20,7 +20,7 @@ use Rattle.eval_inline.specs.Inlining.{those}
 use Rattle.apply_inline.specs.Inlining.{value_has, is_part_tag, apply_body, part_body, apply_arms, parts_of, others_of, else_fail}
 use Rattle.eval_inline.proofs.Known.{Among, those_have, nat_eq-true}
 use Rattle.eval_inline.proofs.Inlining.{it, named, names_stand, fields_fit_named, nat_eq-false, agree_named}
-use Rattle.apply_inline.proofs.Has.{Had, value_had, and_true}
+use Rattle.apply_inline.proofs.ValueTags.{Had, value_had, and_true}
 
 -- each of a list
 abbrev pub Each : (ℕ → Type 0) → List ℕ → Type 0

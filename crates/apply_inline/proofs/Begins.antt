@@ -4,7 +4,7 @@ use Rattle.std.proofs.lemmas.Bool.Decides.{nat_tests}
 use Rattle.std.proofs.lemmas.Option.{slice_get_within}
 use Rattle.grin_syntax.specs.declared.program.Tag.{Tag}
 use Rattle.grin_syntax.specs.Tags.{is_part, is_part_kind, is_proc, part_from}
-use Rattle.apply_inline.specs.Parts.{Begin}
+use Rattle.apply_inline.specs.Parts.{SearchStarts}
 
 from_tag : (ts : List Tag) (i : ℕ) (t : Tag) → slice_get ts i ≡ Some t → drop i ts ≡ t ∷ drop (suc i) ts
 from_tag [] i t e = cc
@@ -46,7 +46,7 @@ set_there (x ∷ starts) (suc g) at (suc f) ne = set_there starts g at f (λ e. 
 not_both : true ≡ false → ⊥
 not_both w = cc
 
-pub noted : (ts : List Tag) (starts : List ℕ) (at g : ℕ) (t : Tag) → slice_get ts at ≡ Some t → ((f r : ℕ) → f ≢ g → is_part f r t ≡ false) → Begin ts starts (suc at) → Begin ts (slice_set starts g at) at
+pub noted : (ts : List Tag) (starts : List ℕ) (at g : ℕ) (t : Tag) → slice_get ts at ≡ Some t → ((f r : ℕ) → f ≢ g → is_part f r t ≡ false) → SearchStarts ts starts (suc at) → SearchStarts ts (slice_set starts g at) at
 noted ts starts at g t e other b f r s h = go (nat_eq f g) refl
   where
     go : (c : Bool) → nat_eq f g ≡ c → part_from at (drop at ts) f r ≡ part_from s (drop s ts) f r
@@ -58,10 +58,10 @@ noted ts starts at g t e other b f r s h = go (nat_eq f g) refl
         let ne : f ≢ g = λ w. let z : nat_eq f g ≡ true = grind (arith, nat_tests) in absurd (not_both (sym z ∙ q)) in
         part_later ts at f r t e (other f r ne) ∙ b f r s (sym (set_there starts g at f ne) ∙ h)
 
-pub passed : (ts : List Tag) (starts : List ℕ) (at : ℕ) (t : Tag) → slice_get ts at ≡ Some t → ((f r : ℕ) → f < length starts → is_part f r t ≡ false) → Begin ts starts (suc at) → Begin ts starts at
+pub passed : (ts : List Tag) (starts : List ℕ) (at : ℕ) (t : Tag) → slice_get ts at ≡ Some t → ((f r : ℕ) → f < length starts → is_part f r t ≡ false) → SearchStarts ts starts (suc at) → SearchStarts ts starts at
 passed ts starts at t e other b f r s h = part_later ts at f r t e (other f r (slice_get_within starts f s h)) ∙ b f r s h
 
-pub unnoted : (ts : List Tag) (starts : List ℕ) (n : ℕ) → ((f s : ℕ) → slice_get starts f ≡ Some s → s ≡ n) → Begin ts starts n
+pub unnoted : (ts : List Tag) (starts : List ℕ) (n : ℕ) → ((f s : ℕ) → slice_get starts f ≡ Some s → s ≡ n) → SearchStarts ts starts n
 unnoted ts starts n all f r s h = ap (λ k. part_from k (drop k ts) f r) (sym (all f s h))
 
 pub got : {X : Type 0} (xs : List X) (i : ℕ) (x : X) → i < length xs → x ≡ get_or xs i x → slice_get xs i ≡ Some x

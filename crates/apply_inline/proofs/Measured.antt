@@ -18,7 +18,7 @@ use Rattle.eval_inline.specs.Without.{NotEval}
 use Rattle.apply_inline.specs.Expanded.{called_size, eval_tag_size, eval_tags_size, given_size, part_body_size, part_tag_size, parts_size, else_size, expanded_act, expanded_code, expanded_arms, expanded_procedure}
 use Rattle.apply_inline.specs.Parts.{there_is, HaveNext}
 use Rattle.apply_inline.proofs.Applied.{Each, those_parts}
-use Rattle.apply_inline.proofs.Still.{ended_still, bound_still}
+use Rattle.apply_inline.proofs.EvaluationsStay.{ended_still, bound_still}
 
 pub variables_many : (x k : ℕ) → length (variables x k) ≡ k
 variables_many x zero = refl

@@ -13,7 +13,7 @@ use Rattle.flow_system.proofs.Starting.{formed_is_started}
 use Rattle.eval_inline.proofs.Bounds.{uses_bound}
 use Rattle.apply_inline.specs.Before.{IsEvalInlined}
 use Rattle.apply_inline.proofs.Binding.{procs_room}
-use Rattle.apply_inline.proofs.Both.{apply_inlining_law}
+use Rattle.apply_inline.proofs.InlinedTogether.{apply_inlining_law}
 use Rattle.apply_inline.proofs.Loops.{procs_push, procs_room_push}
 
 -- procedures that were made of others, with fresh variables from x to y

@@ -9,7 +9,7 @@ ghost use Rattle.grin_syntax.specs.Fresh.{variables};
 ghost use Rattle.apply_inline.specs.Inlining.{part_body, apply_body, apply_arm, apply_arms, parts_of, others_of, else_fail, parts_room, apply_act, apply_code, apply_procs, apply_act_room, apply_code_room};
 ghost use Rattle.points_to.specs.Found.{found};
 ghost use Rattle.apply_inline.specs.Applied.{arms_before};
-ghost use Rattle.apply_inline.specs.Parts.{Begin};
+ghost use Rattle.apply_inline.specs.Parts.{SearchStarts};
 
 use crate::known::Known;
 use crate::starts::part_tag;
@@ -24,7 +24,7 @@ pub(crate) struct Inlining<'a> {
     pub known: Known<'a>,
     /// For each procedure where its tags begin that lack arguments: none stands before.
     pub starts: &'a [usize],
-    ghost begin: { Begin known.program.now.tags starts.now 0 },
+    ghost begin: { SearchStarts known.program.now.tags starts.now 0 },
 }
 
 impl Inlining<'_> {
@@ -35,7 +35,9 @@ impl Inlining<'_> {
         fresh: &mut Fresh,
         procs: Seq<Proc>,
     ) -> Result<Seq<Proc>, AllocError>
-        ensures { IfOk result (λ made. map procedure_of made ≡ apply_procs (program_of self.now.known.program.now) (found self.now.known.flow.now) fresh.old.next (map procedure_of procs)) }
+        ensures { IfOk result (λ made. map procedure_of made
+            ≡ apply_procs (program_of self.now.known.program.now) (found self.now.known.flow.now)
+            fresh.old.next (map procedure_of procs)) }
     {
         let mut made = Seq::new(alloc);
         for proc in procs.into_vec() {
@@ -51,8 +53,12 @@ impl Inlining<'_> {
     // A block with its applications inlined.
     #[cycle(inline)]
     fn block(&self, alloc: Global, fresh: &mut Fresh, block: Block) -> Result<Block, AllocError>
-        ensures is { IfOk result (λ b. code_of b ≡ apply_code (program_of self.now.known.program.now) (found self.now.known.flow.now) fresh.old.next (code_of block)) }
-        ensures next { OnOk result (fresh.new.next ≡ fresh.old.next + apply_code_room (program_of self.now.known.program.now) (found self.now.known.flow.now) (code_of block)) }
+        ensures is { IfOk result (λ b. code_of b
+            ≡ apply_code (program_of self.now.known.program.now) (found self.now.known.flow.now)
+            fresh.old.next (code_of block)) }
+        ensures next { OnOk result (fresh.new.next
+            ≡ fresh.old.next + apply_code_room (program_of self.now.known.program.now)
+            (found self.now.known.flow.now) (code_of block)) }
     {
         let mut stmts = Seq::new(alloc);
         for stmt in block.stmts.into_vec() {
@@ -67,8 +73,16 @@ impl Inlining<'_> {
 
     #[cycle(inline)]
     fn stmt(&self, alloc: Global, fresh: &mut Fresh, stmt: Stmt) -> Result<Stmt, AllocError>
-        ensures is { IfOk result (λ s. (c : Code) → before_of s (apply_code (program_of self.now.known.program.now) (found self.now.known.flow.now) fresh.new.next c) ≡ apply_code (program_of self.now.known.program.now) (found self.now.known.flow.now) fresh.old.next (before_of stmt c)) }
-        ensures next { OnOk result ((c : Code) → fresh.new.next + apply_code_room (program_of self.now.known.program.now) (found self.now.known.flow.now) c ≡ fresh.old.next + apply_code_room (program_of self.now.known.program.now) (found self.now.known.flow.now) (before_of stmt c)) }
+        ensures is { IfOk result (λ s. (c : Code)
+            → before_of s (apply_code (program_of self.now.known.program.now)
+            (found self.now.known.flow.now) fresh.new.next c)
+            ≡ apply_code (program_of self.now.known.program.now) (found self.now.known.flow.now)
+            fresh.old.next (before_of stmt c)) }
+        ensures next { OnOk result ((c : Code)
+            → fresh.new.next + apply_code_room (program_of self.now.known.program.now)
+            (found self.now.known.flow.now) c
+            ≡ fresh.old.next + apply_code_room (program_of self.now.known.program.now)
+            (found self.now.known.flow.now) (before_of stmt c)) }
     {
         match stmt {
             Stmt::Store(cells) => Ok(Stmt::Store(cells)),
@@ -78,8 +92,12 @@ impl Inlining<'_> {
 
     #[cycle(inline)]
     fn op(&self, alloc: Global, fresh: &mut Fresh, op: Op) -> Result<Op, AllocError>
-        ensures is { IfOk result (λ o. act_of o ≡ apply_act (program_of self.now.known.program.now) (found self.now.known.flow.now) fresh.old.next (act_of op)) }
-        ensures next { OnOk result (fresh.new.next ≡ fresh.old.next + apply_act_room (program_of self.now.known.program.now) (found self.now.known.flow.now) (act_of op)) }
+        ensures is { IfOk result (λ o. act_of o
+            ≡ apply_act (program_of self.now.known.program.now) (found self.now.known.flow.now)
+            fresh.old.next (act_of op)) }
+        ensures next { OnOk result (fresh.new.next
+            ≡ fresh.old.next + apply_act_room (program_of self.now.known.program.now)
+            (found self.now.known.flow.now) (act_of op)) }
     {
         match op {
             Op::Apply(v, a) => self.application(alloc, fresh, v, a),
@@ -118,8 +136,17 @@ impl Inlining<'_> {
         v: Val,
         a: Word,
     ) -> Result<Op, AllocError>
-        ensures is { IfOk result (λ o. act_of o ≡ case v (apply_arms (program_of self.now.known.program.now) (found self.now.known.flow.now) a fresh.old.next (parts_of (program_of self.now.known.program.now) (found self.now.known.flow.now) v) (else_fail (program_of self.now.known.program.now) (found self.now.known.flow.now) (others_of (program_of self.now.known.program.now) (found self.now.known.flow.now) v)))) }
-        ensures next { OnOk result (fresh.new.next ≡ fresh.old.next + parts_room (program_of self.now.known.program.now) (found self.now.known.flow.now) (parts_of (program_of self.now.known.program.now) (found self.now.known.flow.now) v)) }
+        ensures is { IfOk result (λ o. act_of o
+            ≡ case v (apply_arms (program_of self.now.known.program.now)
+            (found self.now.known.flow.now) a fresh.old.next
+            (parts_of (program_of self.now.known.program.now) (found self.now.known.flow.now) v)
+            (else_fail (program_of self.now.known.program.now) (found self.now.known.flow.now)
+            (others_of (program_of self.now.known.program.now) (found self.now.known.flow.now)
+            v)))) }
+        ensures next { OnOk result (fresh.new.next
+            ≡ fresh.old.next + parts_room (program_of self.now.known.program.now)
+            (found self.now.known.flow.now)
+            (parts_of (program_of self.now.known.program.now) (found self.now.known.flow.now) v)) }
     {
         let mut alts = self.parts(alloc, fresh, &v, a)?;
         if self.known.has_other(&v) {
@@ -139,8 +166,15 @@ impl Inlining<'_> {
         v: &Val,
         a: Word,
     ) -> Result<Seq<Alt>, AllocError>
-        ensures are { IfOk result (λ alts. (last : Arms) → arms_before (map arm_of alts) last ≡ apply_arms (program_of self.now.known.program.now) (found self.now.known.flow.now) a fresh.old.next (parts_of (program_of self.now.known.program.now) (found self.now.known.flow.now) v.now) last) }
-        ensures next { OnOk result (fresh.new.next ≡ fresh.old.next + parts_room (program_of self.now.known.program.now) (found self.now.known.flow.now) (parts_of (program_of self.now.known.program.now) (found self.now.known.flow.now) v.now)) }
+        ensures are { IfOk result (λ alts. (last : Arms) → arms_before (map arm_of alts) last
+            ≡ apply_arms (program_of self.now.known.program.now) (found self.now.known.flow.now) a
+            fresh.old.next (parts_of (program_of self.now.known.program.now)
+            (found self.now.known.flow.now) v.now) last) }
+        ensures next { OnOk result (fresh.new.next
+            ≡ fresh.old.next + parts_room (program_of self.now.known.program.now)
+            (found self.now.known.flow.now)
+            (parts_of (program_of self.now.known.program.now) (found self.now.known.flow.now)
+            v.now)) }
     {
         let mut alts = Seq::new(alloc);
         for t in self.known.candidates(v) {
@@ -160,7 +194,9 @@ impl Inlining<'_> {
         tag: &Tag,
         a: Word,
     ) -> Result<Alt, AllocError>
-        ensures is { IfOk result (λ alt. (rest : Arms) → arm alt.pattern (code_of alt.body) rest ≡ apply_arm (program_of self.now.known.program.now) (found self.now.known.flow.now) a fresh.old.next t.0 (Some tag.now) rest) }
+        ensures is { IfOk result (λ alt. (rest : Arms) → arm alt.pattern (code_of alt.body) rest
+            ≡ apply_arm (program_of self.now.known.program.now) (found self.now.known.flow.now) a
+            fresh.old.next t.0 (Some tag.now) rest) }
         ensures next { OnOk result (fresh.new.next ≡ fresh.old.next + tag.now.fields) }
     {
         let fields = fresh.variables(alloc, tag.fields)?;
@@ -173,7 +209,9 @@ impl Inlining<'_> {
 
     // A function that lacks arguments, given one more: its call where it lacked this one alone, and otherwise its node with one argument more.
     fn applied(&self, alloc: Global, fields: &[VarId], tag: &Tag, a: Word) -> Result<Op, AllocError>
-        ensures { IfOk result (λ o. (x : ℕ) → fields.now ≡ variables x tag.now.fields → end (act_of o) ≡ part_body (program_of self.now.known.program.now) (found self.now.known.flow.now) x a tag.now tag.now.proc) }
+        ensures { IfOk result (λ o. (x : ℕ) → fields.now ≡ variables x tag.now.fields
+            → end (act_of o) ≡ part_body (program_of self.now.known.program.now)
+            (found self.now.known.flow.now) x a tag.now tag.now.proc) }
     {
         match tag.proc {
             Some(f) => self.given(f, tag.missing, with_argument(alloc, fields, a)?),
@@ -182,7 +220,9 @@ impl Inlining<'_> {
     }
 
     fn given(&self, f: ProcId, missing: u32, words: Seq<Word>) -> Result<Op, AllocError>
-        ensures { IfOk result (λ o. end (act_of o) ≡ apply_body (program_of self.now.known.program.now) (found self.now.known.flow.now) f.0 missing words) }
+        ensures { IfOk result (λ o. end (act_of o)
+            ≡ apply_body (program_of self.now.known.program.now) (found self.now.known.flow.now) f.0
+            missing words) }
     {
         match missing {
             0 => Ok(Op::Fail),
@@ -201,7 +241,8 @@ impl Inlining<'_> {
 
     // A place among the tags with none before it for this procedure that lacks arguments.
     fn start(&self, f: ProcId) -> usize
-        ensures { (r : ℕ) → part_from 0 self.now.known.program.now.tags f.0 r ≡ part_from result (drop result self.now.known.program.now.tags) f.0 r }
+        ensures { (r : ℕ) → part_from 0 self.now.known.program.now.tags f.0 r
+            ≡ part_from result (drop result self.now.known.program.now.tags) f.0 r }
     {
         match self.starts.get(f.0 as usize) {
             Some(start) => *start,

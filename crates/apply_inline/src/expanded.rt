@@ -18,7 +18,9 @@ use grin_syntax::{
 impl Known<'_> {
     /// The size of these procedures once they are inlined.
     pub(crate) fn procs_size(&self, procs: &[Proc]) -> u64
-        ensures { result ≡ capped (total (expanded_procedure (program_of self.now.program.now) (found self.now.flow.now)) (map procedure_of procs.now)) }
+        ensures { result ≡ capped
+            (total (expanded_procedure (program_of self.now.program.now) (found self.now.flow.now))
+            (map procedure_of procs.now)) }
     {
         let mut size = 0u64;
         for proc in procs {
@@ -28,7 +30,9 @@ impl Known<'_> {
     }
 
     fn proc_size(&self, proc: &Proc) -> u64
-        ensures { result ≡ capped (expanded_procedure (program_of self.now.program.now) (found self.now.flow.now) (procedure_of proc.now)) }
+        ensures { result ≡ capped
+            (expanded_procedure (program_of self.now.program.now) (found self.now.flow.now)
+            (procedure_of proc.now)) }
     {
         let params = proc.params.len() as u64;
         params.saturating_add(self.block_size(&proc.body))
@@ -36,7 +40,9 @@ impl Known<'_> {
 
     #[cycle(size)]
     fn block_size(&self, block: &Block) -> u64
-        ensures { result ≡ capped (expanded_code (program_of self.now.program.now) (found self.now.flow.now) (code_of block.now)) }
+        ensures { result ≡ capped
+            (expanded_code (program_of self.now.program.now) (found self.now.flow.now)
+            (code_of block.now)) }
     {
         let mut size = 0u64;
         for stmt in block.stmts.as_slice() {
@@ -47,7 +53,11 @@ impl Known<'_> {
 
     #[cycle(size)]
     fn stmt_size(&self, stmt: &Stmt) -> u64
-        ensures { (c : Code) → capped (expanded_code (program_of self.now.program.now) (found self.now.flow.now) (before_of stmt.now c)) ≡ capped (result + expanded_code (program_of self.now.program.now) (found self.now.flow.now) c) }
+        ensures { (c : Code) → capped
+            (expanded_code (program_of self.now.program.now) (found self.now.flow.now)
+            (before_of stmt.now c))
+            ≡ capped (result + expanded_code (program_of self.now.program.now)
+            (found self.now.flow.now) c) }
     {
         match stmt {
             Stmt::Store(cells) => cells_size(cells.as_slice()),
@@ -57,7 +67,9 @@ impl Known<'_> {
 
     #[cycle(size)]
     fn alts_size(&self, alts: &[Alt]) -> u64
-        ensures { result ≡ capped (expanded_arms (program_of self.now.program.now) (found self.now.flow.now) (arms_of (map arm_of alts.now))) }
+        ensures { result ≡ capped
+            (expanded_arms (program_of self.now.program.now) (found self.now.flow.now)
+            (arms_of (map arm_of alts.now))) }
     {
         let mut size = 0u64;
         for alt in alts {
@@ -69,7 +81,9 @@ impl Known<'_> {
 
     #[cycle(size)]
     fn op_size(&self, op: &Op) -> u64
-        ensures { result ≡ capped (expanded_act (program_of self.now.program.now) (found self.now.flow.now) (act_of op.now)) }
+        ensures { result ≡ capped
+            (expanded_act (program_of self.now.program.now) (found self.now.flow.now)
+            (act_of op.now)) }
     {
         match op {
             Op::Unit(v) => val_size(v).saturating_add(1),
@@ -93,7 +107,8 @@ impl Known<'_> {
 
     // The fetch that binds a node variable, and the case on it.
     fn evaluation_size(&self, word: &Word) -> u64
-        ensures { result ≡ capped (evaluation_size (program_of self.now.program.now) (found self.now.flow.now) word.now) }
+        ensures { result ≡ capped
+            (evaluation_size (program_of self.now.program.now) (found self.now.flow.now) word.now) }
     {
         let mut size = 5u64;
         let mut from = 0;
@@ -106,7 +121,9 @@ impl Known<'_> {
 
     // The alternative of an evaluation for a tag.
     fn eval_tag_size(&self, t: TagId) -> u64
-        ensures { result ≡ capped (eval_tag_size (program_of self.now.program.now) (found self.now.flow.now) (slice_get self.now.program.now.tags t.0)) }
+        ensures { result ≡ capped
+            (eval_tag_size (program_of self.now.program.now) (found self.now.flow.now)
+            (slice_get self.now.program.now.tags t.0)) }
     {
         match self.program.tags.get(t.0 as usize) {
             Some(tag) => u64::from(tag.fields).saturating_add(eval_body_size(tag)),
@@ -115,7 +132,8 @@ impl Known<'_> {
     }
 
     fn application_size(&self, v: &Val) -> u64
-        ensures { result ≡ capped (application_size (program_of self.now.program.now) (found self.now.flow.now) v.now) }
+        ensures { result ≡ capped
+            (application_size (program_of self.now.program.now) (found self.now.flow.now) v.now) }
     {
         let scrutinee = val_size(v).saturating_add(1);
         let last = u64::from(self.has_other(v));
@@ -126,7 +144,9 @@ impl Known<'_> {
 
     // The alternatives of an application.
     fn parts_size(&self, v: &Val) -> u64
-        ensures { result ≡ capped (parts_size (program_of self.now.program.now) (found self.now.flow.now) (parts_of (program_of self.now.program.now) (found self.now.flow.now) v.now)) }
+        ensures { result ≡ capped
+            (parts_size (program_of self.now.program.now) (found self.now.flow.now)
+            (parts_of (program_of self.now.program.now) (found self.now.flow.now) v.now)) }
     {
         let mut size = 0u64;
         for t in self.candidates(v) {

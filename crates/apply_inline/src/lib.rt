@@ -30,10 +30,13 @@ use std::mem;
 /// The program with each application as a case over the functions that the solution has for the applied value, and with a failing `else` where the solution has another tag for it.
 /// More variables than can be numbered are want of memory.
 pub fn inline(alloc: Global, mut g: Grin, flow: &Flow) -> Result<Grin, AllocError>
-    ensures inlined { IfOk result (λ h. program_of h ≡ apply_inlined (found flow.now) (program_of g)) }
-    ensures meaning { IsEvalInlined (found flow.now) (program_of g) → IfOk result (λ h. Keeps (program_of g) (program_of h)) }
+    ensures inlined { IfOk result (λ h. program_of h
+        ≡ apply_inlined (found flow.now) (program_of g)) }
+    ensures meaning { IsEvalInlined (found flow.now) (program_of g)
+        → IfOk result (λ h. Keeps (program_of g) (program_of h)) }
     ensures formed { Formed (program_of g) → IfOk result (λ h. Formed (program_of h)) }
-    ensures no_eval_or_apply { HasNoEval (program_of g) → IfOk result (λ h. IsInlined (program_of h)) }
+    ensures no_eval_or_apply { HasNoEval (program_of g)
+        → IfOk result (λ h. IsInlined (program_of h)) }
 {
     let mut fresh = Fresh::past(g.procs.as_slice());
     let procs = mem::replace(&mut g.procs, Seq::new(alloc));
@@ -48,7 +51,8 @@ pub fn inline(alloc: Global, mut g: Grin, flow: &Flow) -> Result<Grin, AllocErro
 
 /// The size that a well-formed program will have once its evaluations and applications are inlined, where it is below 2^64. It takes no memory.
 pub fn expanded_size(g: &Grin, flow: &Flow) -> u64
-    ensures { Formed (program_of g.now) → inlined_size (found flow.now) (program_of g.now) < 2 ^ 64 → result ≡ inlined_size (found flow.now) (program_of g.now) }
+    ensures { Formed (program_of g.now) → inlined_size (found flow.now) (program_of g.now) < 2 ^ 64
+        → result ≡ inlined_size (found flow.now) (program_of g.now) }
 {
     let known = Known { program: g, flow };
     known.procs_size(g.procs.as_slice())

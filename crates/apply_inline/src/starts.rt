@@ -6,7 +6,7 @@ ghost use Rattle.std.specs.Option.{option_map};
 ghost use Rattle.grin_syntax.specs.declared.program.Tag.{Tag as Tag'};
 ghost use Rattle.std.specs.Prelude.{List};
 ghost use Rattle.grin_syntax.specs.Tags.{part_from, is_part};
-ghost use Rattle.apply_inline.specs.Parts.{Begin};
+ghost use Rattle.apply_inline.specs.Parts.{SearchStarts};
 
 use crate::known::is_part;
 use grin_syntax::{ProcId, Tag, TagId};
@@ -18,7 +18,7 @@ pub(crate) fn part_starts(
     tags: &[Tag],
     procs: usize,
 ) -> Result<Vec<usize>, AllocError>
-    ensures { IfOk result (λ starts. Begin tags.now starts.items 0) }
+    ensures { IfOk result (λ starts. SearchStarts tags.now starts.items 0) }
 {
     let mut starts = vec![in alloc; tags.len(); procs]?;
     let mut at = tags.len();
@@ -31,7 +31,8 @@ pub(crate) fn part_starts(
 
 // Notes a tag that stands before those that were noted.
 fn note(starts: &mut Vec<usize>, tag: &Tag, at: usize)
-    ensures { (tags : List Tag') → slice_get tags at ≡ Some tag.now → Begin tags starts.old.items (suc at) → Begin tags starts.new.items at }
+    ensures { (tags : List Tag') → slice_get tags at ≡ Some tag.now
+        → SearchStarts tags starts.old.items (suc at) → SearchStarts tags starts.new.items at }
 {
     if let Some(f) = lacking(tag) {
         let f = f.0 as usize;
@@ -43,7 +44,8 @@ fn note(starts: &mut Vec<usize>, tag: &Tag, at: usize)
 
 // The procedure of a tag that lacks arguments.
 fn lacking(tag: &Tag) -> Option<ProcId>
-    ensures { MatchOption result ((f r : ℕ) → is_part f r tag.now ≡ false) (λ g. (f r : ℕ) → f ≢ g.0 → is_part f r tag.now ≡ false) }
+    ensures { MatchOption result ((f r : ℕ) → is_part f r tag.now ≡ false) (λ g. (f r : ℕ) → f ≢ g.0
+        → is_part f r tag.now ≡ false) }
 {
     if is_part(tag.kind) { tag.proc } else { None }
 }
@@ -55,8 +57,10 @@ pub(crate) fn part_tag(
     f: ProcId,
     missing: u32,
 ) -> Result<Option<TagId>, AllocError>
-    requires { part_from 0 tags.now f.0 missing ≡ part_from start (drop start tags.now) f.0 missing }
-    ensures { IfOk result (λ found. option_map (λ t. t.0) found ≡ part_from 0 tags.now f.0 missing) }
+    requires { part_from 0 tags.now f.0 missing
+        ≡ part_from start (drop start tags.now) f.0 missing }
+    ensures { IfOk result (λ found. option_map (λ t. t.0) found
+        ≡ part_from 0 tags.now f.0 missing) }
 {
     let mut place = start;
     'places: while place < tags.len() {

@@ -25,7 +25,8 @@ use Rattle.arity_check.specs.declared.normal.Con as constructors
 use Rattle.arity_check.specs.One.{SomeNormalForm}
 use Rattle.arity_check.specs.Tables.{first_of, second_of}
 use Rattle.arity_check.specs.Whole.{known_of, main_at, fields_at, constructor_at, header_faults, body_faults, functions_faults}
-use Rattle.arity_check.specs.Broken.{count, names_of, binders_of, bound_by}
+use Rattle.arity_check.specs.Standing.{count}
+use Rattle.arity_check.specs.Pieces.{names_of, binders_of, bound_by}
 use Rattle.arity_check.specs.Faults.{Seen, also, seen_with, is_none, size_faults, applied_to, meaning_faults, arity_faults, head_faults, args_faults, app_faults, members_faults, binders_faults, pattern_faults, patterns_faults, no_patterns, expr_faults, alts_faults}
 use Rattle.arity_check.specs.Program as normal
 use Rattle.arity_check.specs.Normal as form

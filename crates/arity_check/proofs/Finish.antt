@@ -21,7 +21,7 @@ use Rattle.arity_check.specs.Normal.{Pairwise}
 use Rattle.arity_check.proofs.In.{In, Here}
 use Rattle.arity_check.proofs.Names.{main_named}
 use Rattle.arity_check.proofs.NoFaults.{no_front, no_back}
-use Rattle.arity_check.proofs.Right.{sound}
+use Rattle.arity_check.proofs.Soundness.{sound}
 
 pub pairwise_snoc : {X Y : Type 0} (R : X → Y → Type 0) (xs : List X) (ys : List Y) (x : X) (y : Y) → Pairwise R xs ys → R x y → Pairwise R (xs ++ x ∷ []) (ys ++ y ∷ [])
 pairwise_snoc R [] [] x y h r = (r, tt)

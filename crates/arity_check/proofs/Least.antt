@@ -11,7 +11,7 @@ use Rattle.arity_check.specs.Refusal.{rule, rank_of, before, is_before, earlier,
 use Rattle.arity_check.specs.Whole.{whole_faults}
 use Rattle.arity_check.proofs.In.{In, Here, There}
 use Rattle.arity_check.proofs.Names.{two_ways}
-use Rattle.arity_check.proofs.Right.{sound, complete, Listed}
+use Rattle.arity_check.proofs.Soundness.{sound, complete, Listed}
 
 order : (m n : ℕ) → (m < n) ⊎ ((m ≡ n) ⊎ (n < m))
 order m n = elim (two_ways (nat_lt m n)) [
@@ -19,41 +19,43 @@ order m n = elim (two_ways (nat_lt m n)) [
   | inr e ↦ elim (two_ways (nat_lt n m)) [ inl f ↦ inr (inr (ltb-true n m f)) | inr f ↦ inr (inl (grind (arith, common_steps, e, f))) ]
 ]
 
-before_true : (a b : ℕ × ℕ × ℕ) → before a b ≡ true → IsBefore a b
-before_true a b e = elim (order a.0 b.0) [
-  | inl l ↦ inl l
+-- one comes before the other
+abbrev IsEarlier : ℕ × ℕ × ℕ → ℕ × ℕ × ℕ → Type 0
+IsEarlier a b = (a.0 < b.0) ⊎ ((a.0 ≡ b.0) × ((a.1 < b.1) ⊎ ((a.1 ≡ b.1) × (a.2 < b.2))))
+
+either : (a b : ℕ × ℕ × ℕ) → IsBefore a b ⊎ IsEarlier b a
+either a b = elim (order a.0 b.0) [
+  | inl l ↦ inl (inl l)
   | inr n ↦ elim n [
     | inl s ↦ elim (order a.1 b.1) [
-      | inl l ↦ inr (s, inl l)
+      | inl l ↦ inl (inr (s, inl l))
       | inr m ↦ elim m [
         | inl t ↦ elim (order a.2 b.2) [
-          | inl l ↦ inr (s, inr (t, omega (arith, l)))
-          | inr w ↦ elim w [ inl u ↦ inr (s, inr (t, omega (arith, u))) | inr g ↦ absurd (grind (arith, common_steps, e, s, t, g)) ]
+          | inl l ↦ inl (inr (s, inr (t, omega (arith, l))))
+          | inr w ↦ elim w [ inl u ↦ inl (inr (s, inr (t, omega (arith, u)))) | inr g ↦ inr (inr (sym s, inr (sym t, g))) ]
         ]
-        | inr g ↦ absurd (grind (arith, common_steps, e, s, g))
+        | inr g ↦ inr (inr (sym s, inl g))
       ]
     ]
-    | inr g ↦ absurd (grind (arith, common_steps, e, g))
+    | inr g ↦ inr (inl g)
   ]
 ]
 
+before_true : (a b : ℕ × ℕ × ℕ) → before a b ≡ true → IsBefore a b
+before_true a b e = elim (either a b) [ inl h ↦ h | inr l ↦ absurd (not_before l) ]
+  where
+    not_before : IsEarlier b a → ⊥
+    not_before (inl g) = grind (arith, common_steps, e, g)
+    not_before (inr (s, inl g)) = grind (arith, common_steps, e, s, g)
+    not_before (inr (s, inr (t, g))) = grind (arith, common_steps, e, s, t, g)
+
 before_false : (a b : ℕ × ℕ × ℕ) → before a b ≡ false → IsBefore b a
-before_false a b e = elim (order b.0 a.0) [
-  | inl l ↦ inl l
-  | inr n ↦ elim n [
-    | inl s ↦ elim (order b.1 a.1) [
-      | inl l ↦ inr (s, inl l)
-      | inr m ↦ elim m [
-        | inl t ↦ elim (order b.2 a.2) [
-          | inl l ↦ inr (s, inr (t, omega (arith, l)))
-          | inr w ↦ elim w [ inl u ↦ inr (s, inr (t, omega (arith, u))) | inr g ↦ absurd (grind (arith, common_steps, e, s, t, g)) ]
-        ]
-        | inr g ↦ absurd (grind (arith, common_steps, e, s, g))
-      ]
-    ]
-    | inr g ↦ absurd (grind (arith, common_steps, e, g))
-  ]
-]
+before_false a b e = elim (either b a) [ inl h ↦ h | inr l ↦ absurd (is_not l) ]
+  where
+    is_not : IsEarlier a b → ⊥
+    is_not (inl g) = grind (arith, common_steps, e, g)
+    is_not (inr (s, inl g)) = grind (arith, common_steps, e, s, g)
+    is_not (inr (s, inr (t, g))) = grind (arith, common_steps, e, s, t, g)
 
 before_trans : (a b c : ℕ × ℕ × ℕ) → IsBefore a b → IsBefore b c → IsBefore a c
 before_trans a b c (inl l) (inl m) = inl (omega (arith, l, m))

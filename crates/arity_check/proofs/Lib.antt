@@ -12,7 +12,7 @@ mod In
 mod Apps
 mod Exprs
 mod Patterns
-mod Right
+mod Soundness
 mod Least
 pub mod Building
 pub mod Rows

@@ -12,7 +12,8 @@ use Rattle.arity_check.specs.declared.globals.Kind.{Kind}
 use Rattle.arity_check.specs.declared.globals.Kind.TheVariants as kind
 use Rattle.arity_check.specs.Scope.{Scope, Meaning, Local, Function, Primitive, Unbound, is_named, primitives, primitive_from, function_from, found_in, means, binds, unless_primitive}
 use Rattle.arity_check.specs.Locals.{local_in}
-use Rattle.arity_check.specs.Broken.{first_named, within}
+use Rattle.arity_check.specs.Pieces.{within}
+use Rattle.arity_check.specs.Broken.{first_named}
 use Rattle.arity_check.specs.Known.{nameless_kind, reserved_kind, kind_meaning, is_nameless, is_reserved, local_meaning, function_meaning, meaning, all_entered}
 use Rattle.arity_check.specs.Whole.{kinds, kind_from, kind_of, kind_at, known_of, function_at, fields_at, has_fields, main_kind, int_kind, nil_kind, cons_kind}
 
@@ -116,11 +117,11 @@ module _ (p : Program) where
       go None e = refl
       go (Some b) e = chain_is b primitives
 
-  function_is : (x : ℕ) (fs : List tree.Function) (f : ℕ) → function_meaning (known_of p) x (function_at fs f x) ≡ function_from p fs f x
-  function_is x [] f = primitive_is x
+  function_is : (x : ℕ) (fs : List tree.Function) (f : ℕ) → function_meaning (function_at fs f x) ≡ function_from p fs f x
+  function_is x [] f = refl
   function_is x (g ∷ gs) f = go (function_is x gs (f + 1)) (g.name == x)
     where
-      go : function_meaning (known_of p) x (function_at gs (f + 1) x) ≡ function_from p gs (f + 1) x → (c : Bool) → function_meaning (known_of p) x (if c then Some (f, length g.params) else function_at gs (f + 1) x) ≡ (if c then Function f (length g.params) else function_from p gs (f + 1) x)
+      go : function_meaning (function_at gs (f + 1) x) ≡ function_from p gs (f + 1) x → (c : Bool) → function_meaning (if c then Some (f, length g.params) else function_at gs (f + 1) x) ≡ (if c then Function f (length g.params) else function_from p gs (f + 1) x)
       go rest true = refl
       go rest false = rest
 

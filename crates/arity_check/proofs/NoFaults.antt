@@ -17,7 +17,8 @@ use Rattle.arity_check.specs.Forms.{IsKnown}
 use Rattle.arity_check.specs.declared.refusal.CheckRefusal.{CheckRefusal}
 use Rattle.arity_check.specs.Scope.{Scope}
 use Rattle.arity_check.specs.Known.{Known, all_entered}
-use Rattle.arity_check.specs.Broken.{count, binders_of, bound_by}
+use Rattle.arity_check.specs.Standing.{count}
+use Rattle.arity_check.specs.Pieces.{binders_of, bound_by}
 use Rattle.arity_check.specs.Faults.{Seen, seen_with, is_none, size_faults, applied_to, arity_faults, head_faults, args_faults, app_faults, members_faults, binders_faults, pattern_faults, patterns_faults, no_patterns, expr_faults, alts_faults, alt_faults}
 use Rattle.std.proofs.lemmas.List.{length-map}
 use Rattle.arity_check.proofs.Counts.{count_terms}

@@ -16,7 +16,7 @@ use Rattle.arity_check.specs.declared.form.Locals.{Locals}
 use Rattle.arity_check.specs.Scope.{Scope, binds, binds_all}
 use Rattle.arity_check.specs.Known.{Known, is_nameless, named, all_named}
 use Rattle.arity_check.specs.Whole.{known_of}
-use Rattle.arity_check.specs.Broken.{names_of, binders_of}
+use Rattle.arity_check.specs.Pieces.{names_of, binders_of}
 use Rattle.arity_check.specs.Program as normal
 use Rattle.arity_check.specs.Normal.{IsGroup, IsNormal, PlainApp, BoundApp, Group, IsFlat, AreBranches, ConBranch, NamelessBranch, NamedBranch}
 use Rattle.arity_check.specs.Builds.{AddsFlat, AddsGroup}

@@ -8,7 +8,7 @@ use Rattle.arity_check.specs.Scope.{Scope, Meaning, Local, Function, Primitive, 
 use Rattle.arity_check.specs.Locals.{local_in}
 use Rattle.arity_check.specs.Known.{Known, is_nameless, local_meaning, meaning, named, all_named, entered, all_entered, kind_meaning}
 use Rattle.arity_check.specs.Whole.{known_of}
-use Rattle.arity_check.specs.Broken.{names_of, binders_of, bound_by}
+use Rattle.arity_check.specs.Pieces.{names_of, binders_of, bound_by}
 use Rattle.arity_check.specs.Faults.{meaning_faults, applied_to, size_faults, head_faults, args_faults, app_faults, members_faults, binders_faults, patterns_faults, no_patterns, expr_faults, alts_faults}
 use Rattle.arity_check.proofs.Names.{nameless_named}
 

@@ -7,7 +7,7 @@ use Rattle.arity_check.specs.declared.normal.Bound.{Bound}
 use Rattle.arity_check.specs.declared.form.Locals.{Locals}
 use Rattle.arity_check.specs.Known.{Known, all_named}
 use Rattle.arity_check.specs.Whole.{known_of}
-use Rattle.arity_check.specs.Broken.{names_of, binders_of}
+use Rattle.arity_check.specs.Pieces.{names_of, binders_of}
 use Rattle.arity_check.specs.Normal.{IsGroup}
 
 -- the constructor of a pattern is declared

@@ -25,6 +25,10 @@ abbrev pub kind_meaning : Kind → Meaning
 kind_meaning (kind.Primitive op) = Primitive op
 kind_meaning _ = Unbound
 
+abbrev pub function_meaning : Option (ℕ × ℕ) → Meaning
+function_meaning None = Unbound
+function_meaning (Some f) = Function f.0 f.1
+
 module _ (k : Known) where
   abbrev pub is_nameless : ℕ → Bool
   is_nameless x = nameless_kind (k.kind x)
@@ -32,13 +36,9 @@ module _ (k : Known) where
   abbrev pub is_reserved : ℕ → Bool
   is_reserved x = reserved_kind (k.kind x)
 
-  abbrev pub function_meaning : ℕ → Option (ℕ × ℕ) → Meaning
-  function_meaning x None = kind_meaning (k.kind x)
-  function_meaning x (Some f) = Function f.0 f.1
-
   -- what a name stands for where no local hides it
   abbrev pub global : ℕ → Meaning
-  global x = function_meaning x (k.function x)
+  global x = function_meaning (k.function x)
 
   abbrev pub local_meaning : ℕ → Option ℕ → Meaning
   local_meaning x None = global x

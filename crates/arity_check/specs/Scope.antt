@@ -31,9 +31,9 @@ module _ (p : tree.Program) where
   primitive_from [] x = Unbound
   primitive_from (q ∷ qs) x = if is_named q.0 x then Primitive q.1 else primitive_from qs x
 
-  -- the functions from number f on
+  -- the first function of this name, from number f on
   abbrev pub function_from : List tree.Function → ℕ → ℕ → Meaning
-  function_from [] f x = primitive_from primitives x
+  function_from [] f x = Unbound
   function_from (g ∷ gs) f x = if g.name == x then Function f (length g.params) else function_from gs (f + 1) x
 
   -- a local hides a function

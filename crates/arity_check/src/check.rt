@@ -1,4 +1,4 @@
-// The check of a whole program.
+//! The check of a whole program.
 
 ghost use Rattle.std.specs.Prelude.{◌≡◌, [], IfOk, IfErr, false, map};
 ghost use Rattle.std.specs.List.{All};
@@ -16,14 +16,15 @@ use crate::globals::Globals;
 use crate::normal::{Checked, Con, Fun};
 use crate::program::{first_refusal, main_number};
 use crate::refusal::CheckRefusal;
-use core_reader::syntax::Core;
+use core_reader::Core;
 use seq::Seq;
 use std::alloc::{AllocError, Global};
 
 /// The constructors, each with the text of its name.
 fn constructors(alloc: Global, core: &Core) -> Result<Seq<Con>, AllocError>
     requires { All (ReadableData (program core.now).names) (program core.now).constructors }
-    ensures { IfOk result (λ cons. Pairwise (IsConstructor (program core.now)) (program core.now).constructors cons) }
+    ensures { IfOk result (λ cons.
+        Pairwise (IsConstructor (program core.now)) (program core.now).constructors cons) }
 {
     let names = core.names.texts();
     let mut cons = Seq::new(alloc);
@@ -38,9 +39,11 @@ fn constructors(alloc: Global, core: &Core) -> Result<Seq<Con>, AllocError>
 /// The functions in normal form.
 fn functions(alloc: Global, globals: &Globals, core: &Core) -> Result<Seq<Fun>, AllocError>
     requires names { All (ReadableFunction (program core.now).names) (program core.now).functions }
-    requires faults { functions_faults (known globals.now) [] 0 (λ x. false) (program core.now).functions ≡ [] }
+    requires faults { functions_faults (known globals.now) [] 0 (λ x. false)
+        (program core.now).functions ≡ [] }
     requires tables { known globals.now ≡ known_of (program core.now) }
-    ensures { IfOk result (λ funs. Pairwise (IsFunction (program core.now)) (program core.now).functions (map fun_of funs)) }
+    ensures { IfOk result (λ funs.
+        Pairwise (IsFunction (program core.now)) (program core.now).functions (map fun_of funs)) }
 {
     let names = core.names.texts();
     let mut funs = Seq::new(alloc);

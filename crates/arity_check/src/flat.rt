@@ -1,4 +1,4 @@
-// The flat forms of applications.
+//! The flat forms of applications.
 
 ghost use Rattle.std.specs.Prelude.{◌≡◌, ◌∷◌, [], ◌<◌, IfOk, length, map};
 ghost use Rattle.core_reader.specs.Tree.{Program, term, terms_of, bind};
@@ -13,7 +13,7 @@ use crate::globals::Globals;
 use crate::meaning::{Meaning, stands_for};
 use crate::normal::{Bound, Flat, Var};
 use crate::scope::Scope;
-use core_reader::syntax::{Atom, Bind};
+use core_reader::{Atom, Bind};
 use seq::Seq;
 use std::alloc::{AllocError, Global};
 
@@ -43,7 +43,8 @@ fn variable(stands: Meaning) -> Option<Var>
 
 /// The variable that an argument is by itself: a local, or a function without parameters.
 fn find_itself(globals: &Globals, scope: &Scope, atom: &Atom) -> Option<Var>
-    ensures { (p : Program) → known globals.now ≡ known_of p → result ≡ itself p scope.now (term atom.now) }
+    ensures { (p : Program) → known globals.now ≡ known_of p → result
+        ≡ itself p scope.now (term atom.now) }
 {
     match atom {
         Atom::Name(name, _) => variable(stands_for(globals, scope, *name)),
@@ -95,7 +96,8 @@ impl Builder {
         args: &[Atom],
     ) -> Result<Flat, AllocError>
         requires { args_faults (known globals.now) scope.now (terms_of (map term args.now)) ≡ [] }
-        ensures { IfOk result (λ made. (p : Program) → known globals.now ≡ known_of p → AddsApplied p scope.now self.old self.new form (terms_of (map term args.now)) made) }
+        ensures { IfOk result (λ made. (p : Program) → known globals.now ≡ known_of p
+            → AddsApplied p scope.now self.old self.new form (terms_of (map term args.now)) made) }
     {
         let local = self.bind(form)?;
         let vars = self.args(alloc, globals, scope, args)?;
@@ -113,7 +115,8 @@ impl Builder {
     ) -> Result<Seq<Var>, AllocError>
         requires { args_faults (known globals.now) scope.now (terms_of (map term args.now)) ≡ [] }
         ensures count { IfOk result (λ xs. length xs ≡ length args.now) }
-        ensures adds { IfOk result (λ xs. (p : Program) → known globals.now ≡ known_of p → AddsArgs p scope.now self.old self.new (terms_of (map term args.now)) xs) }
+        ensures adds { IfOk result (λ xs. (p : Program) → known globals.now ≡ known_of p
+            → AddsArgs p scope.now self.old self.new (terms_of (map term args.now)) xs) }
     {
         let mut vars = Seq::new(alloc);
         for arg in args {
@@ -133,7 +136,8 @@ impl Builder {
         arg: &Atom,
     ) -> Result<Var, AllocError>
         requires { head_faults (known globals.now) scope.now 0 (term arg.now) ≡ [] }
-        ensures { IfOk result (λ x. (p : Program) → known globals.now ≡ known_of p → AddsArg p scope.now self.old self.new (term arg.now) x) }
+        ensures { IfOk result (λ x. (p : Program) → known globals.now ≡ known_of p
+            → AddsArg p scope.now self.old self.new (term arg.now) x) }
     {
         if let Some(var) = find_itself(globals, scope, arg) {
             return Ok(var);
@@ -153,9 +157,13 @@ impl Builder {
         head: &Atom,
         args: &[Atom],
     ) -> Result<Flat, AllocError>
-        requires head { head_faults (known globals.now) scope.now (length args.now) (term head.now) ≡ [] }
-        requires args { args_faults (known globals.now) scope.now (terms_of (map term args.now)) ≡ [] }
-        ensures { IfOk result (λ form. (p : Program) → known globals.now ≡ known_of p → AddsFlat p scope.now self.old self.new (term head.now) (terms_of (map term args.now)) form) }
+        requires head { head_faults (known globals.now) scope.now (length args.now) (term head.now)
+            ≡ [] }
+        requires args { args_faults (known globals.now) scope.now (terms_of (map term args.now))
+            ≡ [] }
+        ensures { IfOk result (λ form. (p : Program) → known globals.now ≡ known_of p
+            → AddsFlat p scope.now self.old self.new (term head.now) (terms_of (map term args.now))
+            form) }
     {
         match head {
             Atom::Int(number, _) => {
@@ -199,8 +207,10 @@ impl Builder {
         args: &[Atom],
     ) -> Result<Flat, AllocError>
         requires name { meaning_faults stands 0 (length args.now) ≡ [] }
-        requires args { args_faults (known globals.now) scope.now (terms_of (map term args.now)) ≡ [] }
-        ensures { IfOk result (λ form. (p : Program) → known globals.now ≡ known_of p → AddsNamed p scope.now self.old self.new stands (terms_of (map term args.now)) form) }
+        requires args { args_faults (known globals.now) scope.now (terms_of (map term args.now))
+            ≡ [] }
+        ensures { IfOk result (λ form. (p : Program) → known globals.now ≡ known_of p
+            → AddsNamed p scope.now self.old self.new stands (terms_of (map term args.now)) form) }
     {
         match stands {
             Meaning::Local(local) => {
@@ -233,7 +243,9 @@ impl Builder {
         args: &[Atom],
     ) -> Result<Flat, AllocError>
         requires { args_faults (known globals.now) scope.now (terms_of (map term args.now)) ≡ [] }
-        ensures { IfOk result (λ form. (p : Program) → known globals.now ≡ known_of p → AddsNamed p scope.now self.old self.new (Meaning.Function number params) (terms_of (map term args.now)) form) }
+        ensures { IfOk result (λ form. (p : Program) → known globals.now ≡ known_of p
+            → AddsNamed p scope.now self.old self.new (Meaning.Function number params)
+            (terms_of (map term args.now)) form) }
     {
         if params == 0 {
             let vars = self.args(alloc, globals, scope, args)?;
@@ -262,7 +274,8 @@ impl Builder {
     ) -> Result<Seq<u32>, AllocError>
         requires { members_faults (known globals.now) scope.now (map bind group.now) ≡ [] }
         ensures count { IfOk result (λ xs. length xs ≡ length group.now) }
-        ensures adds { IfOk result (λ xs. (p : Program) → known globals.now ≡ known_of p → AddsGroup p scope.now self.old self.new (map bind group.now) xs) }
+        ensures adds { IfOk result (λ xs. (p : Program) → known globals.now ≡ known_of p
+            → AddsGroup p scope.now self.old self.new (map bind group.now) xs) }
     {
         let mut locals = Seq::new(alloc);
         for member in group {

@@ -1,4 +1,4 @@
-// The normal forms of expressions and functions.
+//! The normal forms of expressions and functions.
 
 ghost use Rattle.std.specs.Prelude.{◌≡◌, ℕ, ◌+◌, [], ◌<◌, IfOk, length, map, slice_get, Some};
 ghost use Rattle.std.specs.List.{range_with_len};
@@ -7,7 +7,7 @@ ghost use Rattle.arity_check.specs.Program.{Branches, term, branch as branch_of,
 ghost use Rattle.arity_check.specs.Known.{named, all_named, all_entered};
 ghost use Rattle.arity_check.specs.Whole.{known_of, body_faults};
 ghost use Rattle.arity_check.specs.Tables.{known};
-ghost use Rattle.arity_check.specs.Broken.{names_of, binders_of};
+ghost use Rattle.arity_check.specs.Pieces.{names_of, binders_of};
 ghost use Rattle.arity_check.specs.Faults.{app_faults, members_faults, expr_faults, alt_faults};
 ghost use Rattle.arity_check.specs.Normal.{IsNormal, AreBranches, IsFunction};
 ghost use Rattle.arity_check.specs.Forms.{IsKnown, EntersGroup, NumbersGroup};
@@ -16,7 +16,7 @@ use crate::flat::Builder;
 use crate::globals::Globals;
 use crate::normal::{Body, Bound, Branch, Fun};
 use crate::scope::Scope;
-use core_reader::syntax::{Alt, App, Bind, Binder, Expr, Function, Pattern};
+use core_reader::{Alt, App, Bind, Binder, Expr, Function, Pattern};
 use seq::{Seq, Text};
 use std::alloc::{AllocError, Global};
 
@@ -44,7 +44,7 @@ fn numbers_from(alloc: Global, first: u32, count: usize) -> Result<Seq<u32>, All
 {
     let mut numbers = Seq::new(alloc);
     let mut next = first;
-    'numbering: for number in 0..count {
+    for number in 0..count {
         numbers.push(next)?;
         let Some(after) = next.checked_add(1) else {
             return Err(AllocError);
@@ -88,7 +88,8 @@ impl Locals {
 
     /// A binder's name stands for a local from here on, but `_` for none.
     fn enter(&mut self, globals: &Globals, binder: Binder, local: u32) -> Result<(), AllocError>
-        ensures scope { IfOk result (λ _. self.new.scope ≡ named (known globals.now) binder.name.0 local self.old.scope) }
+        ensures scope { IfOk result (λ _. self.new.scope
+            ≡ named (known globals.now) binder.name.0 local self.old.scope) }
         ensures next { IfOk result (λ _. self.new.next ≡ self.old.next) }
     {
         if !globals.is_nameless(binder.name) {
@@ -105,7 +106,8 @@ impl Locals {
         locals: &[u32],
     ) -> Result<(), AllocError>
         requires { length binders.now ≡ length locals.now }
-        ensures scope { IfOk result (λ _. self.new.scope ≡ all_named (known globals.now) (names_of binders.now) locals.now self.old.scope) }
+        ensures scope { IfOk result (λ _. self.new.scope
+            ≡ all_named (known globals.now) (names_of binders.now) locals.now self.old.scope) }
         ensures next { IfOk result (λ _. self.new.next ≡ self.old.next) }
     {
         for (i, binder) in binders.iter().enumerate() {
@@ -123,7 +125,9 @@ impl Locals {
     ) -> Result<Body, AllocError>
         requires { app_faults (known globals.now) self.old.scope 0 (application app.now) ≡ [] }
         ensures scope { IfOk result (λ _. self.new.scope ≡ self.old.scope) }
-        ensures form { IfOk result (λ e. (p : Program) → known globals.now ≡ known_of p → IsNormal p self.old.scope self.old.next (ExprApp (application app.now)) (term e) self.new.next) }
+        ensures form { IfOk result (λ e. (p : Program) → known globals.now ≡ known_of p
+            → IsNormal p self.old.scope self.old.next (ExprApp (application app.now)) (term e)
+            self.new.next) }
     {
         let mut builder = Builder::new(alloc, self.next);
         let form = builder.flat(alloc, globals, &self.scope, &app.head, app.args.as_slice())?;
@@ -145,10 +149,13 @@ impl Locals {
         group: &[Bind],
     ) -> Result<Seq<u32>, AllocError>
         requires binders { binders.now ≡ binders_of (map bind group.now) }
-        requires members { members_faults (known globals.now) (all_entered (known globals.now) (binders_of (map bind group.now)) self.old.scope) (map bind group.now) ≡ [] }
+        requires members { members_faults (known globals.now)
+            (all_entered (known globals.now) (binders_of (map bind group.now)) self.old.scope)
+            (map bind group.now) ≡ [] }
         ensures scope { IfOk result (λ _. self.new.scope ≡ self.old.scope) }
         ensures next { IfOk result (λ _. self.new.next ≡ self.old.next) }
-        ensures locals { IfOk result (λ xs. NumbersGroup (known globals.now) (map bind group.now) self.old xs) }
+        ensures locals { IfOk result (λ xs.
+            NumbersGroup (known globals.now) (map bind group.now) self.old xs) }
     {
         let depth = self.scope.len();
         let provisional = numbers_from(alloc, self.next, binders.len())?;
@@ -166,8 +173,11 @@ impl Locals {
         globals: &Globals,
         group: &[Bind],
     ) -> Result<Seq<Bound>, AllocError>
-        requires { members_faults (known globals.now) (all_entered (known globals.now) (binders_of (map bind group.now)) self.old.scope) (map bind group.now) ≡ [] }
-        ensures { IfOk result (λ bounds. EntersGroup (known globals.now) (map bind group.now) self.old self.new bounds) }
+        requires { members_faults (known globals.now)
+            (all_entered (known globals.now) (binders_of (map bind group.now)) self.old.scope)
+            (map bind group.now) ≡ [] }
+        ensures { IfOk result (λ bounds.
+            EntersGroup (known globals.now) (map bind group.now) self.old self.new bounds) }
     {
         let binders = binders(alloc, group)?;
         let locals = self.group_locals(alloc, globals, binders.as_slice(), group)?;
@@ -188,7 +198,8 @@ impl Locals {
     ) -> Result<Body, AllocError>
         requires { expr_faults (known globals.now) self.old.scope (expr_of expr.now) ≡ [] }
         ensures scope { IfOk result (λ _. self.new.scope ≡ self.old.scope) }
-        ensures form { IfOk result (λ e. (p : Program) → known globals.now ≡ known_of p → IsNormal p self.old.scope self.old.next (expr_of expr.now) (term e) self.new.next) }
+        ensures form { IfOk result (λ e. (p : Program) → known globals.now ≡ known_of p
+            → IsNormal p self.old.scope self.old.next (expr_of expr.now) (term e) self.new.next) }
     {
         match expr {
             Expr::App(app) => self.application(alloc, globals, app),
@@ -217,9 +228,14 @@ impl Locals {
     #[cycle(body)]
     fn branch(&mut self, alloc: Global, globals: &Globals, alt: &Alt) -> Result<Branch, AllocError>
         requires pattern { IsKnown (known globals.now) alt.now.pattern }
-        requires alt { alt_faults (known globals.now) self.old.scope alt.now.pattern (expr_of alt.now.body) ≡ [] }
+        requires alt { alt_faults (known globals.now) self.old.scope alt.now.pattern
+            (expr_of alt.now.body) ≡ [] }
         ensures scope { IfOk result (λ _. self.new.scope ≡ self.old.scope) }
-        ensures form { IfOk result (λ b. (p : Program) → known globals.now ≡ known_of p → (rest : Alts) (others : Branches) (m : ℕ) → AreBranches p self.old.scope self.new.next rest others m → AreBranches p self.old.scope self.old.next (alternative alt.now rest) (branch_of b others) m) }
+        ensures form { IfOk result (λ b. (p : Program) → known globals.now ≡ known_of p
+            → (rest : Alts) (others : Branches) (m : ℕ)
+            → AreBranches p self.old.scope self.new.next rest others m
+            → AreBranches p self.old.scope self.old.next (alternative alt.now rest)
+            (branch_of b others) m) }
     {
         let depth = self.scope.len();
         match &alt.pattern {
@@ -261,7 +277,8 @@ pub fn function(
 ) -> Result<Fun, AllocError>
     requires name { function.now.name.0 < length names.now }
     requires body { body_faults (known globals.now) [] (function_of function.now) ≡ [] }
-    ensures { IfOk result (λ f. (p : Program) → known globals.now ≡ known_of p → p.names ≡ names.now → IsFunction p (function_of function.now) (fun_of f)) }
+    ensures { IfOk result (λ f. (p : Program) → known globals.now ≡ known_of p → p.names ≡ names.now
+        → IsFunction p (function_of function.now) (fun_of f)) }
 {
     let mut locals = Locals {
         scope: Scope::new(alloc),

@@ -1,4 +1,4 @@
-// What the names of a program stand for, outside of its functions.
+//! What the names of a program stand for, outside of its functions.
 
 ghost use Rattle.std.specs.Prelude.{◌≡◌, ℕ, IfOk, map};
 ghost use Rattle.arity_check.specs.Known.{is_nameless, is_reserved, global};
@@ -10,7 +10,7 @@ ghost use Rattle.arity_check.specs.Whole.{known_of, kind_of, function_at, constr
 
 use crate::meaning::Meaning;
 use crate::normal::PrimOp;
-use core_reader::syntax::{Core, Data, Function, NameId};
+use core_reader::{Core, Data, Function, NameId};
 use seq::Seq;
 use std::alloc::{AllocError, Global};
 use std::collections::BTreeMap;
@@ -87,12 +87,9 @@ impl Globals {
     pub fn global(&self, name: NameId) -> Meaning
         ensures { result ≡ global (known self.now) name.0 }
     {
-        if let Some((number, params)) = self.functions.get(&name.0).copied() {
-            return Meaning::Function(number, params);
-        }
-        match self.kind(name) {
-            Kind::Primitive(op) => Meaning::Primitive(op),
-            _ => Meaning::Unbound,
+        match self.functions.get(&name.0).copied() {
+            Some((number, params)) => Meaning::Function(number, params),
+            None => Meaning::Unbound,
         }
     }
 
@@ -185,7 +182,8 @@ fn functions(
     alloc: Global,
     functions: &[Function],
 ) -> Result<BTreeMap<u32, (u32, usize)>, AllocError>
-    ensures { IfOk result (λ m. (x : ℕ) → get nat_cmp m x ≡ function_at (map function_of functions.now) 0 x) }
+    ensures { IfOk result (λ m. (x : ℕ) → get nat_cmp m x
+        ≡ function_at (map function_of functions.now) 0 x) }
 {
     let mut table = BTreeMap::new(alloc);
     for (i, function) in functions.iter().enumerate() {
@@ -204,7 +202,8 @@ fn constructors(
     alloc: Global,
     constructors: &[Data],
 ) -> Result<BTreeMap<u32, (u32, u32)>, AllocError>
-    ensures { IfOk result (λ m. (c : ℕ) → get nat_cmp m c ≡ constructor_at (map data_of constructors.now) 0 c) }
+    ensures { IfOk result (λ m. (c : ℕ) → get nat_cmp m c
+        ≡ constructor_at (map data_of constructors.now) 0 c) }
 {
     let mut table = BTreeMap::new(alloc);
     for (i, con) in constructors.iter().enumerate() {

@@ -1,4 +1,4 @@
-// Laws of the normal form.
+//! Laws of the normal form.
 
 ghost use Rattle.arity_check.specs.Numbered.{NewBindingsAreNumbered};
 ghost use Rattle.arity_check.specs.One.{OneFlatForm, OneNormalForm, SomeNormalForm, OneRefusal};

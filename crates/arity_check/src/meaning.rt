@@ -1,4 +1,4 @@
-// What a name stands for.
+//! What a name stands for.
 
 ghost use Rattle.std.specs.Prelude.{◌≡◌};
 ghost use Rattle.arity_check.specs.Known.{meaning, local_meaning};
@@ -8,7 +8,7 @@ ghost use Rattle.arity_check.specs.Tables.{known};
 use crate::globals::{Globals, Kind};
 use crate::normal::PrimOp;
 use crate::scope::Scope;
-use core_reader::syntax::NameId;
+use core_reader::NameId;
 
 /// A local with its number, a function with its number and its number of parameters, a primitive, or nothing.
 #[derive(Clone, Copy, Debug)]

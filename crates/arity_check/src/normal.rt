@@ -1,4 +1,4 @@
-// Programs in normal form.
+//! Programs in normal form.
 
 use seq::{Seq, Text};
 

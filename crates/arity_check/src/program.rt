@@ -1,4 +1,4 @@
-// The rules that a whole program has to keep.
+//! The rules that a whole program has to keep.
 
 ghost use Rattle.std.specs.Prelude.{◌≡◌, ◌<◌, ◌^◌, [], None, false, IfOk, map};
 ghost use Rattle.std.specs.Ordering.{nat_cmp};
@@ -14,15 +14,16 @@ use crate::globals::Globals;
 use crate::refusal::CheckRefusal;
 use crate::scope::Scope;
 use crate::walk::{Walk, see};
-use core_reader::size;
-use core_reader::syntax::{Core, Data, Function, NameId};
+use core_reader::{Core, Data, Function, NameId, size};
 use std::alloc::{AllocError, Global};
 use std::collections::BTreeSet;
 
 /// A constructor, behind so many others.
 fn check_constructor(walk: &mut Walk, globals: &Globals, number: usize, is_again: bool, con: &Data)
     ensures scope { walk.new.scope ≡ walk.old.scope }
-    ensures first { walk.new.first ≡ least walk.old.first (con_faults (known globals.now) number (λ x. is_again) (data_of con.now)) }
+    ensures first { walk.new.first
+        ≡ least walk.old.first
+        (con_faults (known globals.now) number (λ x. is_again) (data_of con.now)) }
 {
     walk.note_where(number == 1024, CheckRefusal::TooManyConstructors(con.at));
     walk.note_where(is_again, CheckRefusal::DuplicateConstructor(con.at));
@@ -38,7 +39,9 @@ fn check_constructors(
     constructors: &[Data],
 ) -> Result<(), AllocError>
     ensures scope { IfOk result (λ _. walk.new.scope ≡ walk.old.scope) }
-    ensures first { IfOk result (λ _. walk.new.first ≡ least walk.old.first (cons_faults (known globals.now) 0 (λ x. false) (map data_of constructors.now))) }
+    ensures first { IfOk result (λ _. walk.new.first
+        ≡ least walk.old.first
+        (cons_faults (known globals.now) 0 (λ x. false) (map data_of constructors.now))) }
 {
     let mut seen = BTreeSet::new(alloc);
     for (i, con) in constructors.iter().enumerate() {
@@ -57,7 +60,9 @@ fn check_header(
     function: &Function,
 )
     ensures scope { walk.new.scope ≡ walk.old.scope }
-    ensures first { walk.new.first ≡ least walk.old.first (header_faults (known globals.now) number (λ x. is_again) (function_of function.now)) }
+    ensures first { walk.new.first
+        ≡ least walk.old.first
+        (header_faults (known globals.now) number (λ x. is_again) (function_of function.now)) }
 {
     let params = function.params.as_slice().len();
     walk.note_where(number == 4096, CheckRefusal::TooManyFunctions(function.at));
@@ -82,7 +87,9 @@ fn check_body(
     function: &Function,
 ) -> Result<(), AllocError>
     ensures scope { IfOk result (λ _. walk.new.scope ≡ walk.old.scope) }
-    ensures first { IfOk result (λ _. walk.new.first ≡ least walk.old.first (body_faults (known globals.now) walk.old.scope (function_of function.now))) }
+    ensures first { IfOk result (λ _. walk.new.first
+        ≡ least walk.old.first
+        (body_faults (known globals.now) walk.old.scope (function_of function.now))) }
 {
     let depth = walk.scope.len();
     walk.binders(alloc, globals, function.params.as_slice())?;
@@ -99,7 +106,10 @@ fn check_functions(
     functions: &[Function],
 ) -> Result<(), AllocError>
     ensures scope { IfOk result (λ _. walk.new.scope ≡ walk.old.scope) }
-    ensures first { IfOk result (λ _. walk.new.first ≡ least walk.old.first (functions_faults (known globals.now) walk.old.scope 0 (λ x. false) (map function_of functions.now))) }
+    ensures first { IfOk result (λ _. walk.new.first
+        ≡ least walk.old.first
+        (functions_faults (known globals.now) walk.old.scope 0 (λ x. false)
+        (map function_of functions.now))) }
 {
     let mut seen = BTreeSet::new(alloc);
     for (i, function) in functions.iter().enumerate() {
@@ -166,7 +176,10 @@ fn has_cons(globals: &Globals, constructors: &[Data]) -> bool
 /// What a program has to declare.
 fn check_declared(walk: &mut Walk, globals: &Globals, core: &Core)
     ensures scope { walk.new.scope ≡ walk.old.scope }
-    ensures first { walk.new.first ≡ least walk.old.first (lacks_faults (known globals.now) (program core.now).constructors (program core.now).functions) }
+    ensures first { walk.new.first
+        ≡ least walk.old.first
+        (lacks_faults (known globals.now) (program core.now).constructors
+        (program core.now).functions) }
 {
     let has_main = has_main(globals, core.functions.as_slice());
     let has_nil = has_nil(globals, core.constructors.as_slice());

@@ -1,4 +1,4 @@
-// Why a program is refused.
+//! Why a program is refused.
 
 ghost use Rattle.std.specs.Prelude.{◌≡◌, alloc_error};
 ghost use Rattle.arity_check.specs.declared.refusal.CheckRefusal.TheVariants.{Memory};

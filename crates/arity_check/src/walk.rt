@@ -1,10 +1,11 @@
-// The rules that the parts of a function have to keep.
+//! The rules that the parts of a function have to keep.
 
 ghost use Rattle.std.specs.Prelude.{◌≡◌, true, not, ◌==◌, if◌then◌else◌, false, IfOk, map};
 ghost use Rattle.std.specs.Ordering.{nat_cmp};
 ghost use Rattle.std.specs.BTreeSet.{contains};
 ghost use Rattle.core_reader.specs.Tree.{term, application, bind, expr as expr_of, alternative, alts_of};
-ghost use Rattle.arity_check.specs.Broken.{place, binders_of, bound_by};
+ghost use Rattle.arity_check.specs.Standing.{place};
+ghost use Rattle.arity_check.specs.Pieces.{binders_of, bound_by};
 ghost use Rattle.arity_check.specs.Known.{meaning, entered, all_entered};
 ghost use Rattle.arity_check.specs.Tables.{known};
 ghost use Rattle.arity_check.specs.SeenOf.{seen_of};
@@ -15,7 +16,7 @@ use crate::globals::Globals;
 use crate::meaning::{Meaning, stands_for};
 use crate::refusal::CheckRefusal;
 use crate::scope::Scope;
-use core_reader::syntax::{Alt, App, Atom, Bind, Binder, Expr, NameId, Pattern};
+use core_reader::{Alt, App, Atom, Bind, Binder, Expr, NameId, Pattern};
 use std::alloc::{AllocError, Global};
 use std::collections::BTreeSet;
 
@@ -64,7 +65,8 @@ fn applied_to(own: usize, outer: usize) -> usize
 /// Adds a name to those that were seen, and says whether it is new.
 pub fn see(seen: &mut BTreeSet<u32>, name: u32) -> Result<bool, AllocError>
     ensures added { IfOk result (λ is_new. is_new ≡ not (contains nat_cmp seen.old name)) }
-    ensures seen { IfOk result (λ _. contains nat_cmp seen.new ≡ also name (contains nat_cmp seen.old)) }
+    ensures seen { IfOk result (λ _. contains nat_cmp seen.new
+        ≡ also name (contains nat_cmp seen.old)) }
 {
     Ok(seen.insert(name)?)
 }
@@ -107,7 +109,9 @@ impl Walk {
     /// A name that stands with some arguments.
     fn name(&mut self, globals: &Globals, name: NameId, at: u32, count: usize)
         ensures scope { self.new.scope ≡ self.old.scope }
-        ensures first { self.new.first ≡ least self.old.first (meaning_faults (meaning (known globals.now) self.old.scope name.0) at count) }
+        ensures first { self.new.first
+            ≡ least self.old.first
+            (meaning_faults (meaning (known globals.now) self.old.scope name.0) at count) }
     {
         match stands_for(globals, &self.scope, name) {
             Meaning::Local(_) | Meaning::Function(_, _) => {}
@@ -119,7 +123,8 @@ impl Walk {
     /// A constructor that stands with some arguments.
     fn constructor(&mut self, globals: &Globals, name: NameId, at: u32, count: usize)
         ensures scope { self.new.scope ≡ self.old.scope }
-        ensures first { self.new.first ≡ least self.old.first (arity_faults ((known globals.now).fields name.0) at count) }
+        ensures first { self.new.first
+            ≡ least self.old.first (arity_faults ((known globals.now).fields name.0) at count) }
     {
         match globals.fields(name) {
             Some(fields) => {
@@ -133,7 +138,9 @@ impl Walk {
     #[cycle(walk_app)]
     fn head(&mut self, globals: &Globals, atom: &Atom, count: usize)
         ensures scope { self.new.scope ≡ self.old.scope }
-        ensures first { self.new.first ≡ least self.old.first (head_faults (known globals.now) self.old.scope count (term atom.now)) }
+        ensures first { self.new.first
+            ≡ least self.old.first
+            (head_faults (known globals.now) self.old.scope count (term atom.now)) }
     {
         match atom {
             Atom::Name(name, at) => self.name(globals, *name, *at, count),
@@ -148,7 +155,9 @@ impl Walk {
     #[tactic(auto, using(crate::proofs::Counts::walks))]
     fn app(&mut self, globals: &Globals, app: &App, count: usize)
         ensures scope { self.new.scope ≡ self.old.scope }
-        ensures first { self.new.first ≡ least self.old.first (app_faults (known globals.now) self.old.scope count (application app.now)) }
+        ensures first { self.new.first
+            ≡ least self.old.first
+            (app_faults (known globals.now) self.old.scope count (application app.now)) }
     {
         let own = app.args.as_slice().len();
         self.note_where(own > 12, CheckRefusal::TooManyParameters(place(&app.head)));
@@ -165,9 +174,13 @@ impl Walk {
         seen: &mut BTreeSet<u32>,
         binder: &Binder,
     ) -> Result<(), AllocError>
-        ensures seen { IfOk result (λ _. contains nat_cmp seen.new ≡ also binder.now.name.0 (contains nat_cmp seen.old)) }
-        ensures scope { IfOk result (λ _. self.new.scope ≡ entered (known globals.now) binder.now self.old.scope) }
-        ensures first { IfOk result (λ _. self.new.first ≡ least self.old.first (binder_faults (known globals.now) (contains nat_cmp seen.old) binder.now)) }
+        ensures seen { IfOk result (λ _. contains nat_cmp seen.new
+            ≡ also binder.now.name.0 (contains nat_cmp seen.old)) }
+        ensures scope { IfOk result (λ _. self.new.scope
+            ≡ entered (known globals.now) binder.now self.old.scope) }
+        ensures first { IfOk result (λ _. self.new.first
+            ≡ least self.old.first
+            (binder_faults (known globals.now) (contains nat_cmp seen.old) binder.now)) }
     {
         let name = binder.name;
         let is_nameless = globals.is_nameless(name);
@@ -194,8 +207,10 @@ impl Walk {
         globals: &Globals,
         binders: &[Binder],
     ) -> Result<(), AllocError>
-        ensures scope { IfOk result (λ _. self.new.scope ≡ all_entered (known globals.now) binders.now self.old.scope) }
-        ensures first { IfOk result (λ _. self.new.first ≡ least self.old.first (binders_faults (known globals.now) (λ x. false) binders.now)) }
+        ensures scope { IfOk result (λ _. self.new.scope
+            ≡ all_entered (known globals.now) binders.now self.old.scope) }
+        ensures first { IfOk result (λ _. self.new.first
+            ≡ least self.old.first (binders_faults (known globals.now) (λ x. false) binders.now)) }
     {
         let mut seen = BTreeSet::new(alloc);
         for binder in binders {
@@ -207,8 +222,11 @@ impl Walk {
     /// The binders of a let group enter the scope.
     #[tactic(auto, using(crate::proofs::Counts::walks))]
     fn group(&mut self, alloc: Global, globals: &Globals, group: &[Bind]) -> Result<(), AllocError>
-        ensures scope { IfOk result (λ _. self.new.scope ≡ all_entered (known globals.now) (binders_of (map bind group.now)) self.old.scope) }
-        ensures first { IfOk result (λ _. self.new.first ≡ least self.old.first (binders_faults (known globals.now) (λ x. false) (binders_of (map bind group.now)))) }
+        ensures scope { IfOk result (λ _. self.new.scope
+            ≡ all_entered (known globals.now) (binders_of (map bind group.now)) self.old.scope) }
+        ensures first { IfOk result (λ _. self.new.first
+            ≡ least self.old.first
+            (binders_faults (known globals.now) (λ x. false) (binders_of (map bind group.now)))) }
     {
         let mut seen = BTreeSet::new(alloc);
         for member in group {
@@ -221,7 +239,9 @@ impl Walk {
     #[tactic(auto, using(crate::proofs::Counts::walks))]
     fn members(&mut self, globals: &Globals, group: &[Bind])
         ensures scope { self.new.scope ≡ self.old.scope }
-        ensures first { self.new.first ≡ least self.old.first (members_faults (known globals.now) self.old.scope (map bind group.now)) }
+        ensures first { self.new.first
+            ≡ least self.old.first
+            (members_faults (known globals.now) self.old.scope (map bind group.now)) }
     {
         for member in group {
             self.app(globals, &member.app, 0);
@@ -236,9 +256,13 @@ impl Walk {
         con: &Binder,
         fields: &[Binder],
     ) -> Result<(), AllocError>
-        ensures seen { IfOk result (λ _. seen_of seen.new ≡ seen_with (seen_of seen.old) (Pattern.Con con.now fields.now)) }
+        ensures seen { IfOk result (λ _. seen_of seen.new
+            ≡ seen_with (seen_of seen.old) (Pattern.Con con.now fields.now)) }
         ensures scope { IfOk result (λ _. self.new.scope ≡ self.old.scope) }
-        ensures first { IfOk result (λ _. self.new.first ≡ least self.old.first (pattern_faults (known globals.now) (seen_of seen.old) true (Pattern.Con con.now fields.now))) }
+        ensures first { IfOk result (λ _. self.new.first
+            ≡ least self.old.first
+            (pattern_faults (known globals.now) (seen_of seen.old) true
+            (Pattern.Con con.now fields.now))) }
     {
         let at = con.at;
         self.constructor(globals, con.name, at, fields.len());
@@ -259,9 +283,11 @@ impl Walk {
         number: i32,
         at: u32,
     ) -> Result<(), AllocError>
-        ensures seen { IfOk result (λ _. seen_of seen.new ≡ seen_with (seen_of seen.old) (Pattern.Int number at)) }
+        ensures seen { IfOk result (λ _. seen_of seen.new
+            ≡ seen_with (seen_of seen.old) (Pattern.Int number at)) }
         ensures scope { IfOk result (λ _. self.new.scope ≡ self.old.scope) }
-        ensures first { IfOk result (λ _. self.new.first ≡ least self.old.first (int_faults (seen_of seen.old) number at)) }
+        ensures first { IfOk result (λ _. self.new.first
+            ≡ least self.old.first (int_faults (seen_of seen.old) number at)) }
     {
         let is_new = seen.ints.insert(number)?;
         self.note_where(!is_new, CheckRefusal::DuplicateAlternative(at));
@@ -281,9 +307,12 @@ impl Walk {
         is_last: bool,
         pattern: &Pattern,
     ) -> Result<(), AllocError>
-        ensures seen { IfOk result (λ _. seen_of seen.new ≡ seen_with (seen_of seen.old) pattern.now) }
+        ensures seen { IfOk result (λ _. seen_of seen.new
+            ≡ seen_with (seen_of seen.old) pattern.now) }
         ensures scope { IfOk result (λ _. self.new.scope ≡ self.old.scope) }
-        ensures first { IfOk result (λ _. self.new.first ≡ least self.old.first (pattern_faults (known globals.now) (seen_of seen.old) is_last pattern.now)) }
+        ensures first { IfOk result (λ _. self.new.first
+            ≡ least self.old.first
+            (pattern_faults (known globals.now) (seen_of seen.old) is_last pattern.now)) }
     {
         match pattern {
             Pattern::Con(con, fields) => self.con_pattern(globals, seen, con, fields.as_slice()),
@@ -298,7 +327,10 @@ impl Walk {
     /// The patterns of a case.
     fn patterns(&mut self, alloc: Global, globals: &Globals, alts: &[Alt]) -> Result<(), AllocError>
         ensures scope { IfOk result (λ _. self.new.scope ≡ self.old.scope) }
-        ensures first { IfOk result (λ _. self.new.first ≡ least self.old.first (patterns_faults (known globals.now) no_patterns (alts_of (map alternative alts.now)))) }
+        ensures first { IfOk result (λ _. self.new.first
+            ≡ least self.old.first
+            (patterns_faults (known globals.now) no_patterns
+            (alts_of (map alternative alts.now)))) }
     {
         let mut seen = SeenPatterns {
             cons: BTreeSet::new(alloc),
@@ -318,8 +350,11 @@ impl Walk {
         globals: &Globals,
         pattern: &Pattern,
     ) -> Result<(), AllocError>
-        ensures scope { IfOk result (λ _. self.new.scope ≡ all_entered (known globals.now) (bound_by pattern.now) self.old.scope) }
-        ensures first { IfOk result (λ _. self.new.first ≡ least self.old.first (binders_faults (known globals.now) (λ x. false) (bound_by pattern.now))) }
+        ensures scope { IfOk result (λ _. self.new.scope
+            ≡ all_entered (known globals.now) (bound_by pattern.now) self.old.scope) }
+        ensures first { IfOk result (λ _. self.new.first
+            ≡ least self.old.first
+            (binders_faults (known globals.now) (λ x. false) (bound_by pattern.now))) }
     {
         match pattern {
             Pattern::Con(_, fields) => self.binders(alloc, globals, fields.as_slice()),
@@ -335,7 +370,9 @@ impl Walk {
     #[cycle(walk_expr)]
     pub fn expr(&mut self, alloc: Global, globals: &Globals, expr: &Expr) -> Result<(), AllocError>
         ensures scope { IfOk result (λ _. self.new.scope ≡ self.old.scope) }
-        ensures first { IfOk result (λ _. self.new.first ≡ least self.old.first (expr_faults (known globals.now) self.old.scope (expr_of expr.now))) }
+        ensures first { IfOk result (λ _. self.new.first
+            ≡ least self.old.first
+            (expr_faults (known globals.now) self.old.scope (expr_of expr.now))) }
     {
         match expr {
             Expr::App(app) => {
@@ -365,7 +402,10 @@ impl Walk {
     #[cycle(walk_expr)]
     fn alt(&mut self, alloc: Global, globals: &Globals, alt: &Alt) -> Result<(), AllocError>
         ensures scope { IfOk result (λ _. self.new.scope ≡ self.old.scope) }
-        ensures first { IfOk result (λ _. self.new.first ≡ least self.old.first (alt_faults (known globals.now) self.old.scope alt.now.pattern (expr_of alt.now.body))) }
+        ensures first { IfOk result (λ _. self.new.first
+            ≡ least self.old.first
+            (alt_faults (known globals.now) self.old.scope alt.now.pattern
+            (expr_of alt.now.body))) }
     {
         let depth = self.scope.len();
         self.bound(alloc, globals, &alt.pattern)?;

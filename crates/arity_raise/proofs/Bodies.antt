@@ -22,10 +22,10 @@ use Rattle.flow_system.specs.Inclusions.{Sink, value, to, flows}
 use Rattle.flow_system.specs.Tables.{tables, params_of}
 use Rattle.flow_system.specs.Solution.{Solution, Meets}
 use Rattle.flow_system.specs.System.{act_flows}
-use Rattle.arity_raise.specs.Taken.{act_takes, arms_take, word_is, val_uses}
+use Rattle.pass_ground.specs.Uses.{act_takes, arms_take, word_is, val_uses, act_mentions}
 use Rattle.arity_raise.specs.Raising.{Raising, Decisions, or_none, decisions_at, fetches_for, arguments_for, new_before, fetches_before, new_act, new_code, raised_act, raised_code, raised_arms}
 use Rattle.arity_raise.specs.Raisable.{Raisable}
-use Rattle.arity_raise.proofs.Facts.{bound_names}
+use Rattle.pass_ground.proofs.Bound.{bound_names}
 use Rattle.arity_raise.proofs.Related.{Agrees, ArgsFor, CellsReady, NewOnes, Plain, Related, related_bind, related_new}
 use Rattle.arity_raise.proofs.Caller.{Fetched, args_come}
 use Rattle.arity_raise.proofs.Arguments.{AllRaisable, arguments_ready}
@@ -110,7 +110,7 @@ module _ (g : Program) (A : Solution) (D : List Decisions) (top : ℕ) (F : List
 
       -- what comes before an operation
       first_like : (k : Sink) (n : ℕ) (o : Act) (b b' : Code) → top ≤ n → PieceAct N g A first k o → Begins o b → CodeFollows st (RelFor n o) Same b b' → CodeFollows st Rel Same b (fetches_before D n o b')
-      unfolding act_takes act_flows
+      unfolding act_mentions act_flows
       first_like k n (call f ws) b b' le p i h = call_first n f ws b b' le (words_ok N ws p.free) p.met.0 i h
       first_like k n (unit v) b b' le p i h = code_more st b b' (λ cells env env' r. (r, tt)) (λ v v' u. u) h
       first_like k n (fetch a) b b' le p i h = code_more st b b' (λ cells env env' r. (r, tt)) (λ v v' u. u) h
@@ -138,7 +138,7 @@ module _ (g : Program) (A : Solution) (D : List Decisions) (top : ℕ) (F : List
           }
 
       mutual
-        unfolding raised_act new_act act_takes EachAct
+        unfolding raised_act new_act act_mentions EachAct
 
         act_like : (k : Sink) (n : ℕ) (o : Act) → top ≤ n → PieceAct N g A first k o → ActFollows st (RelFor n o) Same o (raised_act D N n o)
         act_like k n (unit v) le p = on n (unit v) (unit v) (unit_like g A D top F c c' cb cf N new v (val_ok N v p.free))

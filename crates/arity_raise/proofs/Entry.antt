@@ -8,7 +8,9 @@ use Rattle.grin_syntax.proofs.Counted.{counts, one_at, fresh}
 use Rattle.grin_meaning.specs.Values.{Datum, Value, words, Env, HeapCell, and_then, Binding, with_vars, one_each}
 use Rattle.arity_raise.specs.Raising.{Raising, Decisions, fields_of, raised_params, decided}
 use Rattle.arity_raise.specs.Decided.{new_params}
-use Rattle.arity_raise.proofs.Facts.{equal_so, equal_self, equal_not, never_both, times_vars, fresh_in, names_of, vars_out, vars_in, vars_append, one_each_names}
+use Rattle.pass_ground.proofs.Tests.{equal_so, equal_self, equal_not, never_both, times_vars}
+use Rattle.pass_ground.proofs.Bound.{names_of, vars_out, vars_in, vars_append, one_each_names}
+use Rattle.arity_raise.proofs.Facts.{fresh_in}
 use Rattle.arity_raise.proofs.Related.{EachIs, each_same, Held, ArgsFor, FieldsOf}
 
 -- ---- variables in a row

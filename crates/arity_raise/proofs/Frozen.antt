@@ -17,9 +17,9 @@ use Rattle.flow_system.specs.Tables.{tables}
 use Rattle.flow_system.specs.Solution.{Solution, StandsFor}
 use Rattle.flow_system.specs.Covers.{site_at, Lies}
 use Rattle.flow_system.proofs.Lying.{from_some, place_lies}
-use Rattle.arity_raise.specs.Taken.{act_updated, code_updated, arms_updated, updated_of}
+use Rattle.arity_raise.specs.UpdatedCells.{act_updated, code_updated, arms_updated, updated_of}
 use Rattle.arity_raise.specs.Raisable.{NeverUpdated}
-use Rattle.arity_raise.proofs.Facts.{equal_so, differ_so, all_front, all_back}
+use Rattle.pass_ground.proofs.Tests.{equal_so, differ_so, all_front, all_back}
 
 -- ---- places in heaps
 

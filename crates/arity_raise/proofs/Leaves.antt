@@ -32,7 +32,8 @@ use Rattle.flow_system.specs.Covers.{ValueIn, Lies}
 use Rattle.flow_system.proofs.Lying.{from_some}
 use Rattle.arity_raise.specs.Raising.{Raising, Decisions, word_at, fetched_of, fetched, decisions_at, raised_act, raised_procs}
 use Rattle.arity_raise.specs.Raisable.{Raisable}
-use Rattle.arity_raise.proofs.Facts.{places_names, fit_names}
+use Rattle.pass_ground.proofs.Bound.{places_names}
+use Rattle.arity_raise.proofs.Facts.{fit_names}
 use Rattle.arity_raise.proofs.Frozen.{site_is, Later}
 use Rattle.arity_raise.proofs.Related.{EachIs, Held, ArgsFor, FieldsOf, NewOnes, Plain, Related, related_bind}
 use Rattle.arity_raise.proofs.Piece.{Stays}

@@ -14,9 +14,8 @@ pub mod Scoped
 pub mod Shape
 pub mod Choices
 pub mod Well
-pub mod Whole
+pub mod PassContract
 pub mod Each
-pub mod Uses
 pub mod Fields
 pub mod Rewritten
 pub mod Sites

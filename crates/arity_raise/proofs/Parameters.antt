@@ -10,7 +10,8 @@ use Rattle.flow_system.specs.Solution.{Solution}
 use Rattle.arity_raise.specs.Raising.{Raising, Decisions, fields_of, decided}
 use Rattle.arity_raise.specs.Raisable.{Raisable}
 use Rattle.arity_raise.specs.Decided.{AllStay, Decided, ProcedureDecided, AllDecided, new_params, all_new_params, Numbered}
-use Rattle.arity_raise.proofs.Facts.{equal_so, equal_self, differ_so, times_vars, fresh_in, fresh_past}
+use Rattle.pass_ground.proofs.Tests.{equal_so, equal_self, differ_so, times_vars}
+use Rattle.arity_raise.proofs.Facts.{fresh_in, fresh_past}
 use Rattle.arity_raise.proofs.Related.{ArgsFor, NewOnes}
 use Rattle.arity_raise.proofs.Arguments.{AllRaisable}
 

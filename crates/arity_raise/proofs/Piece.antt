@@ -17,9 +17,9 @@ use Rattle.flow_system.specs.Tables.{tables}
 use Rattle.flow_system.specs.System.{cells_flow, shape_flows, act_flows, code_flows, arms_flow}
 use Rattle.flow_system.specs.Solution.{Solution, AllMet}
 use Rattle.flow_system.proofs.Heap.{met_front, met_back}
-use Rattle.arity_raise.specs.Taken.{word_is, words_use, val_uses, cells_use, act_takes, code_takes, arms_take}
+use Rattle.pass_ground.specs.Uses.{word_is, words_use, val_uses, cells_use, act_takes, code_takes, arms_take, act_mentions}
 use Rattle.arity_raise.specs.Raising.{Raising}
-use Rattle.arity_raise.proofs.Facts.{no_left, no_right, equal_self, never_both, all_front, all_back}
+use Rattle.pass_ground.proofs.Tests.{no_left, no_right, equal_self, never_both, all_front, all_back}
 use Rattle.arity_raise.proofs.Related.{Plain}
 
 module _ (N : ℕ → Option Raising) where
@@ -84,19 +84,19 @@ module _ (N : ℕ → Option Raising) where
       pub met : AllMet (tables g) A (arms_flow g k v as')
 
     pub of_nested : (k : Sink) (b : Code) → PieceAct k (nested b) → PieceCode k b
-    unfolding act_takes act_vars EachAct act_flows
+    unfolding act_mentions act_vars EachAct act_flows
     of_nested k b p = record { free = p.free; plain = p.plain; inlined = p.inlined.1; by_words = p.by_words.1; met = p.met }
 
     pub of_case : (k : Sink) (v : V.Val) (as' : Arms) → PieceAct k (case v as') → PieceArms k v as'
-    unfolding act_takes act_vars EachAct act_flows
+    unfolding act_mentions act_vars EachAct act_flows
     of_case k v as' p = record { free = free_right (λ y. val_uses y v) (λ y. arms_take y as') p.free; plain = p.plain; inlined = p.inlined.2; by_words = p.by_words.2; met = p.met }
 
     pub of_end : (k : Sink) (o : Act) → PieceCode k (end o) → PieceAct k o
-    unfolding act_takes act_vars EachAct act_flows
+    unfolding act_mentions act_vars EachAct act_flows
     of_end k o p = record { free = p.free; plain = p.plain; inlined = p.inlined; by_words = p.by_words; met = p.met }
 
     pub of_store : (k : Sink) (cs : List Cell) (b : Code) → PieceCode k (store cs b) → PieceCode k b
-    unfolding act_takes act_vars EachAct act_flows
+    unfolding act_mentions act_vars EachAct act_flows
     of_store k cs b p = record {
       free = free_right (λ y. cells_use y cs) (λ y. code_takes y b) p.free;
       plain = all_back (Plain base N) (cell_vars cs) (code_vars b) p.plain;
@@ -106,11 +106,11 @@ module _ (N : ℕ → Option Raising) where
     }
 
     pub of_cells : (k : Sink) (cs : List Cell) (b : Code) → PieceCode k (store cs b) → CellsOk Stays cs × AllOf (Plain base N) (cell_vars cs)
-    unfolding act_takes act_vars
+    unfolding act_mentions act_vars
     of_cells k cs b p = (cells_ok cs (free_left (λ y. cells_use y cs) (λ y. code_takes y b) p.free), all_front (Plain base N) (cell_vars cs) (code_vars b) p.plain)
 
     pub of_first : (k : Sink) (t : Target) (o : Act) (b : Code) → PieceCode k (bind t o b) → PieceAct (to t) o
-    unfolding act_takes act_vars EachAct act_flows
+    unfolding act_mentions act_vars EachAct act_flows
     of_first k t o b p = record {
       free = free_left (λ y. act_takes y o) (λ y. code_takes y b) p.free;
       plain = all_front (Plain base N) (act_vars o) (code_vars b) (all_back (Plain base N) (target_vars t) (act_vars o ++ code_vars b) p.plain);
@@ -124,7 +124,7 @@ module _ (N : ℕ → Option Raising) where
     of_target k t o b p = all_front (Plain base N) (target_vars t) (act_vars o ++ code_vars b) p.plain
 
     pub of_rest : (k : Sink) (t : Target) (o : Act) (b : Code) → PieceCode k (bind t o b) → PieceCode k b
-    unfolding act_takes act_vars EachAct act_flows
+    unfolding act_mentions act_vars EachAct act_flows
     of_rest k t o b p = record {
       free = free_right (λ y. act_takes y o) (λ y. code_takes y b) p.free;
       plain = all_back (Plain base N) (act_vars o) (code_vars b) (all_back (Plain base N) (target_vars t) (act_vars o ++ code_vars b) p.plain);
@@ -138,7 +138,7 @@ module _ (N : ℕ → Option Raising) where
     of_shape k v s b as' p = all_front (Plain base N) (shape_vars s) (code_vars b ++ arms_vars as') p.plain
 
     pub of_arm : (k : Sink) (v : V.Val) (s : Shape) (b : Code) (as' : Arms) → PieceArms k v (arm s b as') → PieceCode k b
-    unfolding act_takes act_vars EachAct act_flows
+    unfolding act_mentions act_vars EachAct act_flows
     of_arm k v s b as' p = record {
       free = free_left (λ y. code_takes y b) (λ y. arms_take y as') p.free;
       plain = all_front (Plain base N) (code_vars b) (arms_vars as') (all_back (Plain base N) (shape_vars s) (code_vars b ++ arms_vars as') p.plain);
@@ -148,7 +148,7 @@ module _ (N : ℕ → Option Raising) where
     }
 
     pub of_others : (k : Sink) (v : V.Val) (s : Shape) (b : Code) (as' : Arms) → PieceArms k v (arm s b as') → PieceArms k v as'
-    unfolding act_takes act_vars EachAct act_flows
+    unfolding act_mentions act_vars EachAct act_flows
     of_others k v s b as' p = record {
       free = free_right (λ y. code_takes y b) (λ y. arms_take y as') p.free;
       plain = all_back (Plain base N) (code_vars b) (arms_vars as') (all_back (Plain base N) (shape_vars s) (code_vars b ++ arms_vars as') p.plain);

@@ -5,7 +5,8 @@ use Rattle.grin_syntax.specs.Formed.{AllOf}
 use Rattle.grin_meaning.specs.Values.{Datum, cell, Value, words, Env, HeapCell, Binding, with_vars}
 use Rattle.grin_meaning.proofs.Plain.{Has, vars_have}
 use Rattle.arity_raise.specs.Raising.{Raising, Decisions}
-use Rattle.arity_raise.proofs.Facts.{equal_so, equal_not, names_of}
+use Rattle.pass_ground.proofs.Tests.{equal_so, equal_not}
+use Rattle.pass_ground.proofs.Bound.{names_of}
 
 -- variables in a row have these words
 abbrev pub EachIs : Env → ℕ → List Datum → Type 0

@@ -34,7 +34,8 @@ use Rattle.pass_ground.specs.Vectors.{OfVectors}
 use Rattle.arity_raise.specs.Raising.{Decisions, or_none, decided, decisions_at, new_code, raised_params, raised_procedure, raised_procs, raised}
 use Rattle.arity_raise.specs.Raisable.{Raisable}
 use Rattle.arity_raise.specs.Decided.{AllDecided, new_params, IsDecided}
-use Rattle.arity_raise.proofs.Facts.{all_in, vars_out, one_each_names}
+use Rattle.pass_ground.proofs.Bound.{vars_out, one_each_names}
+use Rattle.arity_raise.proofs.Facts.{all_in}
 use Rattle.arity_raise.proofs.Frozen.{every_both, Later, all_frozen}
 use Rattle.arity_raise.proofs.Related.{ArgsFor, Plain, Related}
 use Rattle.arity_raise.proofs.Entry.{Enters, enters}

@@ -16,26 +16,12 @@ use Rattle.grin_syntax.specs.Fresh.{variable, variables}
 use Rattle.grin_syntax.proofs.Counted.{times_append, counts, one_at}
 use Rattle.grin_syntax.proofs.Scopes.{Within, within_self, within_chain, within_words, still_in, with_procs, known_again, word_stays, words_stay, shape_stays}
 use Rattle.grin_meaning.specs.Ready.{Any, ByWords, EachAct, EachCode, EachArms}
-use Rattle.arity_raise.specs.Taken.{word_is, words_use, val_uses, cells_use, act_takes, code_takes, arms_take}
+use Rattle.pass_ground.specs.Uses.{word_is, words_use, val_uses, cells_use, act_takes, code_takes, arms_take, act_mentions}
 use Rattle.arity_raise.specs.Raising.{Raising, Decisions, raised_param, raised_params, decided, word_at, fetched_of, fetched, new_of, field_fetches, fetches_for, argument_for, arguments_for, decisions_at, new_before, fetches_before, new_act, new_code, raised_act, raised_code, raised_arms}
+use Rattle.pass_ground.proofs.Tests.{no_left, no_right, equal_self, all_both}
 use Rattle.arity_raise.proofs.Counts.{numbers_append}
 
 -- ---- small facts
-
-no_left : (a b : Bool) → (a || b) ≡ false → a ≡ false
-no_left true b e = e
-no_left false b e = refl
-
-no_right : (a b : Bool) → (a || b) ≡ false → b ≡ false
-no_right true b e = cc
-no_right false b e = e
-
-equal_self : (x : ℕ) → nat_eq x x ≡ true
-equal_self x = grind (arith, nat_tests)
-
-all_both : {X : Type 0} (P : X → Type 0) (xs ys : List X) → AllOf P xs → AllOf P ys → AllOf P (xs ++ ys)
-all_both P [] ys h k = k
-all_both P (x ∷ xs) ys h k = (h.0, all_both P xs ys h.1 k)
 
 in_left : (xs ys : List ℕ) (y : ℕ) → InScope xs y → InScope (xs ++ ys) y
 in_left xs ys y i = let e : times y (xs ++ ys) ≡ times y xs + times y ys = times_append y xs ys in omega (arith, e, i)
@@ -231,7 +217,7 @@ module _ (g : Program) (procs : List Procedure) (same_count : length procs ≡ l
     Made n o s = (c : Code) → ((s' : Scope) → Within s s' → ActFormed after s' (raised_act D N n o) → CodeFormed after s' c) → CodeFormed after s (fetches_before D n o c)
 
     mutual
-      unfolding raised_act ActFormed EachAct act_takes new_act
+      unfolding raised_act ActFormed EachAct act_mentions new_act
 
       act_formed : (o : Act) (n : ℕ) (s s' : Scope) → Fits N s s' → EachAct ByWords Any Any Any o → Spared N (λ y. act_takes y o) → ActFormed g s o → Made n o s'
       act_formed (unit v) n s s' x e p h = λ c k. k s' (within_self s') (val_formed s s' x v p h)

@@ -13,7 +13,7 @@ use Rattle.grin_syntax.specs.Binders.{target_vars, act_sites, code_sites, arms_s
 use Rattle.grin_syntax.specs.Formed.{AllOf}
 use Rattle.grin_syntax.specs.SameOutside.{names_of}
 use Rattle.grin_meaning.specs.Ready.{Any, Inlined, ByWords, NoNodeTarget, NoNodeVar, BindsNothing, EachAct, EachCode, EachArms, NarrowAct, NarrowCode, NarrowArms}
-use Rattle.update_special.specs.Updated.{act_sum, code_sum, arms_sum, procs_sum}
+use Rattle.pass_ground.specs.OpenUpdates.{act_sum, code_sum, arms_sum, procs_sum}
 use Rattle.arity_raise.specs.Raising.{Raising, Decisions, decided, fetched_of, fetched, new_of, field_fetches, fetches_for, decisions_at, new_before, fetches_before, new_act, new_code, raised_act, raised_code, raised_arms, raised_procs}
 
 -- what is asked of an operation doesn't look into its blocks and the words of a call, and a fetch of a

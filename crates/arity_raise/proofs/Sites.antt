@@ -32,8 +32,7 @@ use Rattle.flow_system.specs.Solution.{Solution, At, StandsFor, variable, global
 use Rattle.points_to.specs.Held.{In, here, there}
 use Rattle.points_to.specs.Joined.{Joined}
 use Rattle.points_to.proofs.Member.{none_in, cons_in, one_in, in_split, in_left, in_right}
-use Rattle.points_to.proofs.Order.{nat_equal}
-use Rattle.arity_raise.specs.Taken.{act_updated, code_updated, arms_updated, updated_of}
+use Rattle.arity_raise.specs.UpdatedCells.{act_updated, code_updated, arms_updated, updated_of}
 use Rattle.arity_raise.specs.Raisable.{NeverUpdated}
 use Rattle.arity_raise.specs.Fixed.{SitesJoin, UpdatedSites}
 
@@ -91,6 +90,9 @@ proc_words_next ps i p old new lt e n o =
 
 nat_self : (n : ℕ) → is_eq (nat_cmp n n) ≡ true
 nat_self n = grind (arith, nat_tests)
+
+nat_equal : (m n : ℕ) → nat_cmp m n ≡ Equal → m ≡ n
+nat_equal m n e = grind (arith, nat_tests)
 
 any_in : (n : ℕ) (ks : List ℕ) → list_any (is_at (nat_cmp n)) ks ≡ true → In n ks
 any_in n [] e = cc

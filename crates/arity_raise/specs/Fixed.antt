@@ -10,7 +10,7 @@ use Rattle.flow_system.specs.declared.fact.Part.TheVariants.{Tags as tags, Word 
 use Rattle.flow_system.specs.Tables.{tables}
 use Rattle.flow_system.specs.Solution.{Solution, At, StandsFor}
 use Rattle.points_to.specs.Held.{In}
-use Rattle.arity_raise.specs.Taken.{updated_of}
+use Rattle.arity_raise.specs.UpdatedCells.{updated_of}
 use Rattle.arity_raise.specs.Raisable.{IsCell, NeverUpdated, IsValueTag}
 
 module _ (A : Solution) where

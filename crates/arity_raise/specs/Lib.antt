@@ -1,4 +1,4 @@
-pub mod Taken
+pub mod UpdatedCells
 pub mod Raisable
 pub mod Raising
 pub mod Decided

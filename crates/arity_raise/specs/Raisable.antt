@@ -10,7 +10,8 @@ use Rattle.flow_system.specs.declared.fact.Place.TheVariants.{Site as site, Var 
 use Rattle.flow_system.specs.declared.fact.Part.TheVariants.{Tags as tags, Word as word}
 use Rattle.flow_system.specs.Tables.{tables}
 use Rattle.flow_system.specs.Solution.{Solution, At, StandsFor}
-use Rattle.arity_raise.specs.Taken.{code_takes, updated_of}
+use Rattle.pass_ground.specs.Uses.{code_takes}
+use Rattle.arity_raise.specs.UpdatedCells.{updated_of}
 
 abbrev pub IsCell : AbstractWord → Type 0
 IsCell (cell_of s) = Unit {0}

@@ -8,9 +8,10 @@ use Rattle.flow_system.specs.Tables.{tables}
 use Rattle.flow_system.specs.System.{system}
 use Rattle.flow_system.specs.Solution.{Solution, IsLeast}
 use Rattle.pass_ground.specs.Vectors.{OfVectors, NarrowTargets}
-use Rattle.update_special.specs.Updated.{open_updates}
+use Rattle.pass_ground.specs.OpenUpdates.{open_updates}
 use Rattle.arity_raise.specs.Raisable.{Raisable}
-use Rattle.arity_raise.specs.Decided.{IsRoom, Stays}
+use Rattle.arity_raise.specs.Raising.{Decisions, raised}
+use Rattle.arity_raise.specs.Decided.{IsRoom, Stays, IsDecided}
 
 module _ (A : Solution) (g : Program) where
   -- Parameters of q, where it has so many at their turn, and those that stand in their place: each
@@ -46,3 +47,12 @@ pub record Raised (g h : Program) : Type 0 where
   pub least : IsLeast (tables g) (system g) solution
   pub procedures : ProceduresRaised solution g 0 g.procs h.procs
   pub no_more_open : open_updates h ≤ open_updates g
+
+-- h is what the pass makes of g, whatever program this is; its new variables end before `next`
+pub record ByLeast (g h : Program) : Type 0 where
+  pub solution : Solution
+  pub least : IsLeast (tables g) (system g) solution
+  pub decisions : List Decisions
+  pub next : ℕ
+  pub decided : IsDecided solution g decisions next
+  pub made : h ≡ raised decisions next g

@@ -38,7 +38,8 @@ impl Within<'_> {
 
     // A fetch of a word.
     fn fetch_word(&self, cell: Word, i: u32) -> Result<Op, AllocError>
-        ensures { IfOk result (λ o. act_of o ≡ fetched (decided self.now.own.now self.now.params.now) cell i) }
+        ensures { IfOk result (λ o. act_of o
+            ≡ fetched (decided self.now.own.now self.now.params.now) cell i) }
     {
         match cell {
             Word::Var(x) => fetched(decided(self.own, self.params, x), cell, i),
@@ -57,9 +58,15 @@ impl Within<'_> {
         op: Op,
         made: &mut Seq<Stmt>,
     ) -> Result<Op, AllocError>
-        ensures stmts { OnOk result ((c : Code) → all_before (map before_of made.new) c ≡ all_before (map before_of made.old) (fetches_before self.now.all.now fresh.old.next (act_of op) c)) }
-        ensures is { IfOk result (λ o. act_of o ≡ raised_act self.now.all.now (decided self.now.own.now self.now.params.now) fresh.old.next (act_of op)) }
-        ensures next { OnOk result (fresh.new.next ≡ fresh.old.next + (new_before self.now.all.now (act_of op) + new_act self.now.all.now (act_of op))) }
+        ensures stmts { OnOk result ((c : Code) → all_before (map before_of made.new) c
+            ≡ all_before (map before_of made.old)
+            (fetches_before self.now.all.now fresh.old.next (act_of op) c)) }
+        ensures is { IfOk result (λ o. act_of o
+            ≡ raised_act self.now.all.now (decided self.now.own.now self.now.params.now)
+            fresh.old.next (act_of op)) }
+        ensures next { OnOk result (fresh.new.next
+            ≡ fresh.old.next + (new_before self.now.all.now (act_of op) + new_act self.now.all.now
+            (act_of op))) }
     {
         match op {
             Op::FetchWord(cell, i) => self.fetch_word(cell, i),
@@ -94,8 +101,11 @@ impl Within<'_> {
     #[cycle(raise)]
     fn alt(&self, alloc: Global, fresh: &mut Fresh, alt: Alt) -> Result<Alt, AllocError>
         ensures pattern { IfOk result (λ a. a.pattern ≡ alt.pattern) }
-        ensures body { IfOk result (λ a. code_of a.body ≡ raised_code self.now.all.now (decided self.now.own.now self.now.params.now) fresh.old.next (code_of alt.body)) }
-        ensures next { OnOk result (fresh.new.next ≡ fresh.old.next + new_code self.now.all.now (code_of alt.body)) }
+        ensures body { IfOk result (λ a. code_of a.body
+            ≡ raised_code self.now.all.now (decided self.now.own.now self.now.params.now)
+            fresh.old.next (code_of alt.body)) }
+        ensures next { OnOk result (fresh.new.next
+            ≡ fresh.old.next + new_code self.now.all.now (code_of alt.body)) }
     {
         Ok(Alt {
             pattern: alt.pattern,
@@ -111,8 +121,14 @@ impl Within<'_> {
         stmt: Stmt,
         made: &mut Seq<Stmt>,
     ) -> Result<(), AllocError>
-        ensures is { OnOk result ((c : Code) → all_before (map before_of made.new) (raised_code self.now.all.now (decided self.now.own.now self.now.params.now) fresh.new.next c) ≡ all_before (map before_of made.old) (raised_code self.now.all.now (decided self.now.own.now self.now.params.now) fresh.old.next (before_of stmt c))) }
-        ensures next { OnOk result ((c : Code) → fresh.new.next + new_code self.now.all.now c ≡ fresh.old.next + new_code self.now.all.now (before_of stmt c)) }
+        ensures is { OnOk result ((c : Code)
+            → all_before (map before_of made.new)
+            (raised_code self.now.all.now (decided self.now.own.now self.now.params.now)
+            fresh.new.next c) ≡ all_before (map before_of made.old)
+            (raised_code self.now.all.now (decided self.now.own.now self.now.params.now)
+            fresh.old.next (before_of stmt c))) }
+        ensures next { OnOk result ((c : Code) → fresh.new.next + new_code self.now.all.now c
+            ≡ fresh.old.next + new_code self.now.all.now (before_of stmt c)) }
     {
         match stmt {
             Stmt::Store(cells) => {
@@ -135,8 +151,11 @@ impl Within<'_> {
         fresh: &mut Fresh,
         block: Block,
     ) -> Result<Block, AllocError>
-        ensures is { IfOk result (λ b. code_of b ≡ raised_code self.now.all.now (decided self.now.own.now self.now.params.now) fresh.old.next (code_of block)) }
-        ensures next { OnOk result (fresh.new.next ≡ fresh.old.next + new_code self.now.all.now (code_of block)) }
+        ensures is { IfOk result (λ b. code_of b
+            ≡ raised_code self.now.all.now (decided self.now.own.now self.now.params.now)
+            fresh.old.next (code_of block)) }
+        ensures next { OnOk result (fresh.new.next
+            ≡ fresh.old.next + new_code self.now.all.now (code_of block)) }
     {
         let mut stmts = Seq::new(alloc);
         for stmt in block.stmts.into_vec() {

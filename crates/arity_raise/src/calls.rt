@@ -23,7 +23,9 @@ fn put_field(
     made: &mut Seq<Stmt>,
     args: &mut Seq<Word>,
 ) -> Result<(), AllocError>
-    ensures stmts { OnOk result ((c : Code) → all_before (map before_of made.new) c ≡ all_before (map before_of made.old) (bind (One (variable fresh.old.next)) (fetch_word cell at) c)) }
+    ensures stmts { OnOk result ((c : Code) → all_before (map before_of made.new) c
+        ≡ all_before (map before_of made.old)
+        (bind (One (variable fresh.old.next)) (fetch_word cell at) c)) }
     ensures args { OnOk result (args.new ≡ args.old ++ Var (variable fresh.old.next) ∷ []) }
     ensures next { OnOk result (fresh.new.next ≡ suc fresh.old.next) }
 {
@@ -41,7 +43,8 @@ fn put_fields(
     made: &mut Seq<Stmt>,
     args: &mut Seq<Word>,
 ) -> Result<(), AllocError>
-    ensures stmts { OnOk result ((c : Code) → all_before (map before_of made.new) c ≡ all_before (map before_of made.old) (field_fetches cell fresh.old.next 0 count c)) }
+    ensures stmts { OnOk result ((c : Code) → all_before (map before_of made.new) c
+        ≡ all_before (map before_of made.old) (field_fetches cell fresh.old.next 0 count c)) }
     ensures args { OnOk result (args.new ≡ args.old ++ map Var (variables fresh.old.next count)) }
     ensures next { OnOk result (fresh.new.next ≡ fresh.old.next + count) }
 {
@@ -59,7 +62,9 @@ fn put_argument(
     made: &mut Seq<Stmt>,
     args: &mut Seq<Word>,
 ) -> Result<(), AllocError>
-    ensures stmts { OnOk result ((c : Code) → all_before (map before_of made.new) c ≡ all_before (map before_of made.old) (field_fetches word fresh.old.next 0 (new_of decision) c)) }
+    ensures stmts { OnOk result ((c : Code) → all_before (map before_of made.new) c
+        ≡ all_before (map before_of made.old)
+        (field_fetches word fresh.old.next 0 (new_of decision) c)) }
     ensures args { OnOk result (args.new ≡ args.old ++ argument_for fresh.old.next decision word) }
     ensures next { OnOk result (fresh.new.next ≡ fresh.old.next + new_of decision) }
 {
@@ -78,7 +83,9 @@ pub(crate) fn arguments(
     words: &[Word],
     made: &mut Seq<Stmt>,
 ) -> Result<Seq<Word>, AllocError>
-    ensures stmts { OnOk result ((c : Code) → all_before (map before_of made.new) c ≡ all_before (map before_of made.old) (fetches_for fresh.old.next decisions.now words.now c)) }
+    ensures stmts { OnOk result ((c : Code) → all_before (map before_of made.new) c
+        ≡ all_before (map before_of made.old)
+        (fetches_for fresh.old.next decisions.now words.now c)) }
     ensures args { IfOk result (λ ws. ws ≡ arguments_for fresh.old.next decisions.now words.now) }
     ensures next { OnOk result (fresh.new.next ≡ fresh.old.next + new_for decisions.now words.now) }
 {

@@ -30,7 +30,8 @@ pub(crate) struct Known<'a> {
 }
 
 fn first_tag(tags: &[TagId]) -> Option<TagId>
-    ensures { MatchOption result ((t : ℕ) → In t (map (λ t. t.0) tags.now) → ⊥) (λ t. In t.0 (map (λ t. t.0) tags.now)) }
+    ensures { MatchOption result ((t : ℕ) → In t (map (λ t. t.0) tags.now)
+        → ⊥) (λ t. In t.0 (map (λ t. t.0) tags.now)) }
 {
     if tags.len() == 0 {
         return None;
@@ -56,7 +57,8 @@ impl Known<'_> {
 
     // No cell that the variable may stand for is updated.
     fn is_unchanged(&self, x: VarId) -> bool
-        ensures { IsTrue result ↔ Unchanged (found self.now.flow.now) (program_of self.now.g.now) x.0 }
+        ensures { IsTrue result ↔ Unchanged (found self.now.flow.now) (program_of self.now.g.now)
+            x.0 }
     {
         for site in self.flow.locs_of(x) {
             if self.updated.contains(&site.0) {
@@ -68,7 +70,8 @@ impl Known<'_> {
 
     // A tag that is in one of the variable's cells.
     fn some_tag(&self, x: VarId) -> Option<TagId>
-        ensures { MatchOption result ((t : ℕ) → HasTag (found self.now.flow.now) x.0 t → ⊥) (λ t. HasTag (found self.now.flow.now) x.0 t.0) }
+        ensures { MatchOption result ((t : ℕ) → HasTag (found self.now.flow.now) x.0 t
+            → ⊥) (λ t. HasTag (found self.now.flow.now) x.0 t.0) }
     {
         for site in self.flow.locs_of(x) {
             match first_tag(self.flow.tags_at(*site)) {
@@ -104,7 +107,10 @@ impl Known<'_> {
 
     // The tag, where it is one of values.
     fn value_node(&self, tag: TagId) -> Option<Node>
-        ensures { MatchOption result ((k : ℕ) → IsValueTag (found self.now.flow.now) (program_of self.now.g.now) tag.0 k → ⊥) (λ n. (n.tag ≡ tag) × IsValueTag (found self.now.flow.now) (program_of self.now.g.now) tag.0 n.fields) }
+        ensures { MatchOption result ((k : ℕ)
+            → IsValueTag (found self.now.flow.now) (program_of self.now.g.now) tag.0 k
+            → ⊥) (λ n. (n.tag ≡ tag)
+            × IsValueTag (found self.now.flow.now) (program_of self.now.g.now) tag.0 n.fields) }
     {
         match self.g.tags.get(tag.0 as usize) {
             Some(info) => match info.kind {
@@ -124,7 +130,10 @@ impl Known<'_> {
 
     /// The one tag of the cells that a variable stands for, where it is one of values, and nothing updates these cells.
     pub(crate) fn node_of(&self, x: VarId) -> Option<Node>
-        ensures { MatchOption result ((t k : ℕ) → Fixed (found self.now.flow.now) (program_of self.now.g.now) x.0 t k → ⊥) (λ n. Fixed (found self.now.flow.now) (program_of self.now.g.now) x.0 n.tag.0 n.fields) }
+        ensures { MatchOption result ((t k : ℕ)
+            → Fixed (found self.now.flow.now) (program_of self.now.g.now) x.0 t k
+            → ⊥) (λ n. Fixed (found self.now.flow.now) (program_of self.now.g.now) x.0 n.tag.0
+            n.fields) }
     {
         if !self.has_cells_alone(x) {
             return None;

@@ -10,10 +10,10 @@ ghost use Rattle.arity_raise.specs.Turns.{count_after, Turn, InRow, NoneRaised};
 
 use crate::cells::{Known, Node};
 use crate::raising::Raising;
-use crate::taken::block_takes;
 use crate::updated::updated_sites;
 use grin_syntax::fresh::Fresh;
 use grin_syntax::{Grin, Proc, VarId};
+use pass_ground::uses::block_takes;
 use points_to::Flow;
 use seq::Seq;
 use std::alloc::{AllocError, Global};
@@ -84,7 +84,10 @@ fn all_stay(alloc: Global, params: &[VarId]) -> Result<Decisions, AllocError>
 impl Known<'_> {
     // The fields that can stand in place of a parameter.
     fn raisable(&self, proc: &Proc, x: VarId) -> Option<Node>
-        ensures { MatchOption result ((t k : ℕ) → Raisable (found self.now.flow.now) (program_of self.now.g.now) (procedure_of proc.now) x.0 t k → ⊥) (λ n. Raisable (found self.now.flow.now) (program_of self.now.g.now) (procedure_of proc.now) x.0 n.tag.0 n.fields) }
+        ensures { MatchOption result ((t k : ℕ)
+            → Raisable (found self.now.flow.now) (program_of self.now.g.now) (procedure_of proc.now)
+            x.0 t k → ⊥) (λ n. Raisable (found self.now.flow.now) (program_of self.now.g.now)
+            (procedure_of proc.now) x.0 n.tag.0 n.fields) }
     {
         if block_takes(x, &proc.body) {
             return None;
@@ -103,7 +106,9 @@ impl Known<'_> {
         x: VarId,
         count: u64,
     ) -> Result<Option<Raising>, AllocError>
-        ensures turn { IfOk result (λ d. Turn (found self.now.flow.now) (program_of self.now.g.now) (procedure_of proc.now) x count d) }
+        ensures turn { IfOk result (λ d.
+            Turn (found self.now.flow.now) (program_of self.now.g.now) (procedure_of proc.now) x
+            count d) }
         ensures row { IfOk result (λ d. InRow (new_params (d ∷ [])) fresh.old.next fresh.new.next) }
     {
         match self.raisable(proc, x) {
@@ -124,7 +129,9 @@ impl Known<'_> {
 
     // What is decided of the parameters of a procedure, from the left.
     fn turns(&self, alloc: Global, fresh: &mut Fresh, proc: &Proc) -> Result<Decisions, AllocError>
-        ensures decided { IfOk result (λ ds. Decided (found self.now.flow.now) (program_of self.now.g.now) (procedure_of proc.now) (length proc.now.params) proc.now.params ds) }
+        ensures decided { IfOk result (λ ds.
+            Decided (found self.now.flow.now) (program_of self.now.g.now) (procedure_of proc.now)
+            (length proc.now.params) proc.now.params ds) }
         ensures row { IfOk result (λ ds. InRow (new_params ds) fresh.old.next fresh.new.next) }
     {
         let mut count = proc.params.len() as u64;
@@ -145,7 +152,9 @@ impl Known<'_> {
         f: u32,
         proc: &Proc,
     ) -> Result<Decisions, AllocError>
-        ensures decided { IfOk result (λ ds. ProcedureDecided (found self.now.flow.now) (program_of self.now.g.now) f (procedure_of proc.now) ds) }
+        ensures decided { IfOk result (λ ds.
+            ProcedureDecided (found self.now.flow.now) (program_of self.now.g.now) f
+            (procedure_of proc.now) ds) }
         ensures row { IfOk result (λ ds. InRow (new_params ds) fresh.old.next fresh.new.next) }
     {
         if f == self.g.start.0 {
@@ -165,7 +174,8 @@ fn next_number(f: u32) -> Result<u32, AllocError>
 
 /// What is decided of the parameters of each procedure. Running out of procedure numbers counts as want of memory.
 pub(crate) fn plan(alloc: Global, g: &Grin, flow: &Flow) -> Result<Planned, AllocError>
-    ensures decided { IfOk result (λ p. IsDecided (found flow.now) (program_of g.now) p.procs p.fresh.next) }
+    ensures decided { IfOk result (λ p.
+        IsDecided (found flow.now) (program_of g.now) p.procs p.fresh.next) }
     ensures as_many { IfOk result (λ p. length p.procs ≡ length g.now.procs) }
 {
     let updated = updated_sites(alloc, g, flow)?;

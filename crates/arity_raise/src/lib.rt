@@ -8,10 +8,6 @@ mod decide;
 mod params;
 mod pass;
 mod raising;
-mod taken;
 mod updated;
 
-pub use pass::Raise;
-
-#[cfg(test)]
-mod tests;
+pub use pass::{Raise, with_raised_params};

@@ -4,23 +4,18 @@
 ghost use Rattle.std.specs.Prelude.{◌≡◌, ◌+◌, length, IfOk, OnOk};
 ghost use Rattle.grin_syntax.specs.Tree.{code_of, procedure_of, program_of};
 ghost use Rattle.grin_meaning.specs.Ready.{IsFetchedByWords};
-ghost use Rattle.flow_system.specs.Tables.{tables};
-ghost use Rattle.flow_system.specs.System.{system};
-ghost use Rattle.flow_system.specs.Solution.{IsLeast};
-ghost use Rattle.points_to.specs.Found.{found};
 ghost use Rattle.pass_ground.specs.Vectors.{OfVectors};
 ghost use Rattle.arity_raise.specs.Raising.{new_code, raised_procedure, raised};
-ghost use Rattle.arity_raise.specs.Raised.{Raised};
+ghost use Rattle.arity_raise.specs.Raised.{Raised, ByLeast};
 
 use crate::blocks::Within;
 use crate::decide::{Decisions, Planned, plan};
 use crate::params::raised_params;
 use crate::raising::Raising;
-use flow_system::system::system;
 use grin_meaning::Pass;
 use grin_syntax::fresh::Fresh;
 use grin_syntax::{Grin, Proc};
-use points_to::{Flow, solve};
+use least_flow::least;
 use seq::Seq;
 use std::alloc::{AllocError, Global};
 
@@ -36,20 +31,19 @@ impl Pass for Raise {
     ghost gives = { λ g h. Raised (program_of g) (program_of h) };
 
     fn apply(&self, alloc: Global, g: Grin) -> Result<Grin, AllocError> {
-        let flow = least(alloc, &g)?;
-        let plan = plan(alloc, &g, &flow)?;
-        let h = with_fields(alloc, g, plan)?;
+        let h = with_raised_params(alloc, g)?;
         Ok(h)
     }
 }
 
-// The least solution of a program's flow system.
-pub(crate) fn least(alloc: Global, g: &Grin) -> Result<Flow, AllocError>
-    ensures { IfOk result (λ f. IsLeast (tables (program_of g.now)) (system (program_of g.now)) (found f)) }
+/// What the pass makes of any program, whatever its runs do.
+pub fn with_raised_params(alloc: Global, g: Grin) -> Result<Grin, AllocError>
+    ensures { IfOk result (λ h. ByLeast (program_of g) (program_of h)) }
 {
-    let system = system(alloc, g)?;
-    let flow = solve(alloc, &system)?;
-    Ok(flow)
+    let flow = least(alloc, &g)?;
+    let plan = plan(alloc, &g, &flow)?;
+    let h = with_fields(alloc, g, plan)?;
+    Ok(h)
 }
 
 // A procedure with its parameters raised, where this is decided of those of all procedures, and of its own.
@@ -60,8 +54,10 @@ fn raised_proc(
     own: &[Option<Raising>],
     proc: Proc,
 ) -> Result<Proc, AllocError>
-    ensures is { IfOk result (λ p. procedure_of p ≡ raised_procedure all.now fresh.old.next own.now (procedure_of proc)) }
-    ensures next { OnOk result (fresh.new.next ≡ fresh.old.next + new_code all.now (code_of proc.body)) }
+    ensures is { IfOk result (λ p. procedure_of p
+        ≡ raised_procedure all.now fresh.old.next own.now (procedure_of proc)) }
+    ensures next { OnOk result (fresh.new.next
+        ≡ fresh.old.next + new_code all.now (code_of proc.body)) }
 {
     let Proc { name, params, body } = proc;
     let old = params.as_slice();
@@ -76,7 +72,7 @@ fn raised_proc(
 }
 
 // The program with the parameters raised of which that is decided.
-pub(crate) fn with_fields(alloc: Global, g: Grin, plan: Planned) -> Result<Grin, AllocError>
+fn with_fields(alloc: Global, g: Grin, plan: Planned) -> Result<Grin, AllocError>
     requires { length plan.procs ≡ length g.procs }
     ensures { IfOk result (λ h. program_of h ≡ raised plan.procs plan.fresh.next (program_of g)) }
 {

@@ -1,11 +1,11 @@
 // The cells that a program's updates may go to.
-#![tactic(auto, using(grin_syntax::proofs::TreeOf::tree_of), unfolding(crate::specs::Taken::act_updated))]
+#![tactic(auto, using(grin_syntax::proofs::TreeOf::tree_of), unfolding(crate::specs::UpdatedCells::act_updated))]
 
 ghost use Rattle.std.specs.Prelude.{◌≡◌, ◌++◌, [], ◌∷◌, map, IfOk, OnOk};
 ghost use Rattle.grin_syntax.specs.Tree.{Code, act_of, before_of, arms_of, arm_of, code_of, procedure_of, program_of};
 ghost use Rattle.points_to.specs.Found.{found};
 ghost use Rattle.points_to.specs.Joined.{Joined};
-ghost use Rattle.arity_raise.specs.Taken.{act_updated, code_updated, arms_updated, updated_of};
+ghost use Rattle.arity_raise.specs.UpdatedCells.{act_updated, code_updated, arms_updated, updated_of};
 ghost use Rattle.arity_raise.specs.Fixed.{SitesJoin, UpdatedSites};
 
 use grin_syntax::{Alt, Block, Grin, Op, Proc, Site, Stmt, Word};
@@ -55,7 +55,8 @@ fn alts_updated(alts: &[Alt], words: &mut Seq<Word>) -> Result<(), AllocError>
 
 #[cycle(updated)]
 fn stmt_updated(stmt: &Stmt, words: &mut Seq<Word>) -> Result<(), AllocError>
-    ensures { OnOk result ((c : Code) → words.old ++ code_updated (before_of stmt.now c) ≡ words.new ++ code_updated c) }
+    ensures { OnOk result ((c : Code) → words.old ++ code_updated (before_of stmt.now c) ≡ words.new
+        ++ code_updated c) }
 {
     match stmt {
         Stmt::Store(_) => Ok(()),
@@ -106,7 +107,8 @@ fn put_sites(more: &[Site], sites: &mut BTreeSet<u32>) -> Result<(), AllocError>
 
 // The sites of the cells that a word may stand for.
 fn put_word(g: &Grin, flow: &Flow, word: Word, sites: &mut BTreeSet<u32>) -> Result<(), AllocError>
-    ensures { OnOk result (SitesJoin (found flow.now) (program_of g.now) word sites.old.keys sites.new.keys) }
+    ensures { OnOk result (SitesJoin (found flow.now) (program_of g.now) word sites.old.keys
+        sites.new.keys) }
 {
     match word {
         Word::Var(x) => {

@@ -6,4 +6,4 @@ pub mod Simulated
 pub mod Cases
 pub mod Standing
 pub mod Shape
-pub mod Whole
+pub mod PassContract

@@ -48,7 +48,8 @@ fn simple_alts(
     v: &Val,
     alts: Seq<Alt>,
 ) -> Result<Seq<Alt>, AllocError>
-    ensures { IfOk result (λ made. map arm_of made ≡ map (simple_arm (facts_of facts.now) v.now) (map arm_of alts)) }
+    ensures { IfOk result (λ made. map arm_of made
+        ≡ map (simple_arm (facts_of facts.now) v.now) (map arm_of alts)) }
 {
     let mut made = Seq::new(alloc);
     for alt in alts.into_vec() {
@@ -71,7 +72,8 @@ fn simple_alt(alloc: Global, facts: &[Fact], v: &Val, alt: Alt) -> Result<Alt, A
 
 #[cycle(simplify)]
 fn simple_stmt(alloc: Global, facts: &[Fact], stmt: Stmt) -> Result<Stmt, AllocError>
-    ensures { IfOk result (λ s. (c : Code) → before_of s (simple_code (facts_of facts.now) c) ≡ simple_code (facts_of facts.now) (before_of stmt c)) }
+    ensures { IfOk result (λ s. (c : Code) → before_of s (simple_code (facts_of facts.now) c)
+        ≡ simple_code (facts_of facts.now) (before_of stmt c)) }
 {
     match stmt {
         Stmt::Store(cells) => Ok(Stmt::Store(cells)),
@@ -97,7 +99,8 @@ pub(crate) fn simple_block(alloc: Global, facts: &[Fact], block: Block) -> Resul
 
 // What a case becomes, whose alternatives are simple.
 fn simple_case(alloc: Global, facts: &[Fact], v: Val, alts: Seq<Alt>) -> Result<Op, AllocError>
-    ensures { IfOk result (λ o. act_of o ≡ simple_case (facts_of facts.now) v (arms_of (map arm_of alts))) }
+    ensures { IfOk result (λ o. act_of o
+        ≡ simple_case (facts_of facts.now) v (arms_of (map arm_of alts))) }
 {
     let first = told_first(facts, &v);
     let second = told_second(facts, &v);

@@ -99,7 +99,8 @@ pub(crate) fn choose(first: Option<Known>, second: Option<Known>, alts: &[Alt]) 
 // The value that a block only gives.
 #[tactic(auto, using(grin_syntax::proofs::TreeOf::tree_of, crate::proofs::Loops::none_given))]
 fn value_given(block: &Block) -> Option<&Val>
-    ensures { MatchOption result (value_given (code_of block.now) ≡ None) (λ u. value_given (code_of block.now) ≡ Some u.now) }
+    ensures { MatchOption result (value_given (code_of block.now)
+        ≡ None) (λ u. value_given (code_of block.now) ≡ Some u.now) }
 {
     if block.stmts.is_empty() {
         unit_of(&block.last)
@@ -109,7 +110,8 @@ fn value_given(block: &Block) -> Option<&Val>
 }
 
 fn unit_of(op: &Op) -> Option<&Val>
-    ensures { MatchOption result (value_given (end (act_of op.now)) ≡ None) (λ u. value_given (end (act_of op.now)) ≡ Some u.now) }
+    ensures { MatchOption result (value_given (end (act_of op.now))
+        ≡ None) (λ u. value_given (end (act_of op.now)) ≡ Some u.now) }
 {
     match op {
         Op::Unit(u) => Some(u),
@@ -150,7 +152,8 @@ fn all_give(u: &Val, alts: &[Alt]) -> bool
 
 // Whether this block gives back the value of a case, or its first words, and all alternatives the same.
 fn all_like(v: &Val, block: &Block, alts: &[Alt]) -> bool
-    ensures { result ≡ is_some_and (value_given (code_of block.now)) (λ u. is_front_val u v.now && all_give u (arms_of (map arm_of alts.now))) }
+    ensures { result ≡ is_some_and (value_given (code_of block.now)) (λ u.
+        is_front_val u v.now && all_give u (arms_of (map arm_of alts.now))) }
 {
     match value_given(block) {
         Some(u) => is_front_val(u, v) && all_give(u, alts),

@@ -8,7 +8,4 @@ mod known;
 mod pass;
 mod words;
 
-pub use pass::Simplify;
-
-#[cfg(test)]
-mod tests;
+pub use pass::{Simplify, with_fewer_cases};

@@ -29,7 +29,8 @@ impl Pass for Simplify {
     }
 }
 
-pub(crate) fn with_fewer_cases(alloc: Global, g: Grin) -> Result<Grin, AllocError>
+/// What the pass makes of any program, whatever its runs do.
+pub fn with_fewer_cases(alloc: Global, g: Grin) -> Result<Grin, AllocError>
     ensures { IfOk result (λ h. program_of h ≡ simplified (program_of g)) }
 {
     let mut procs = Seq::new(alloc);

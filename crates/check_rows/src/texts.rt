@@ -1,7 +1,8 @@
 //! Texts with their answers.
 
-use core_reader::laws::reread;
-use core_reader::{Core, Names, ReadRefusal, print, read};
+use core_print::laws::reread;
+use core_print::print;
+use core_reader::{Core, Names, ReadRefusal, read};
 use std::alloc::{AllocError, Global};
 use std::test::Fail;
 

@@ -1,4 +1,4 @@
-//! The words behind a command, taken apart.
+//! The words after a command, taken apart.
 
 ghost use Rattle.std.specs.Prelude.{◌≡◌, map, string_bytes};
 ghost use Rattle.std.specs.Option.{option_map, option_and_then};

@@ -13,9 +13,9 @@ pub(crate) enum Word<'a> {
     Joined { name: &'a str, value: &'a str },
     /// `--name`, whose value is the next word.
     Named(&'a str),
-    /// `--`, behind which every word is an operand.
+    /// `--`, after which every word is an operand.
     End,
-    /// A dash with more behind it, which no command has.
+    /// A dash with more after it, which no command has.
     Unknown,
 }
 

@@ -220,7 +220,7 @@ fail
 ";
 
 /// The normal form of a text that breaks no rule.
-fn checked(alloc: Global, text: &str) -> Result<Checked, Fail>
+pub(crate) fn checked(alloc: Global, text: &str) -> Result<Checked, Fail>
     ensures { IfOk result (λ p. IsValid (program p)) }
 {
     let core = read(alloc, text.as_bytes())?;

@@ -6,6 +6,6 @@ pub mod Via
 pub mod ResolvedSame
 pub mod ResolvedFormed
 pub mod LeanFormed
-pub mod Whole
+pub mod PassContract
 pub mod Loops
 pub mod Backward

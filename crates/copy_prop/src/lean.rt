@@ -94,8 +94,10 @@ fn thin_stmt(
     from: u64,
     stmt: Stmt,
 ) -> Result<Option<Stmt>, AllocError>
-    ensures tree { IfOk result (λ s. (c : Code) (m : List ℕ) → length m ≡ from → uses.old ≡ m ++ code_uses (lean_code c) → kept s (lean_code c) ≡ lean_code (before_of stmt c)) }
-    ensures uses { IfOk result (λ s. (c : Code) (m : List ℕ) → uses.old ≡ m ++ code_uses c → uses.new ≡ m ++ code_uses (kept s c)) }
+    ensures tree { IfOk result (λ s. (c : Code) (m : List ℕ) → length m ≡ from → uses.old ≡ m
+        ++ code_uses (lean_code c) → kept s (lean_code c) ≡ lean_code (before_of stmt c)) }
+    ensures uses { IfOk result (λ s. (c : Code) (m : List ℕ) → uses.old ≡ m ++ code_uses c
+        → uses.new ≡ m ++ code_uses (kept s c)) }
 {
     match stmt {
         Stmt::Store(cells) => {

@@ -6,7 +6,4 @@ mod pass;
 mod resolve;
 mod uses;
 
-pub use pass::Copies;
-
-#[cfg(test)]
-mod tests;
+pub use pass::{Copies, without_copies, without_idle};

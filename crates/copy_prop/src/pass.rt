@@ -33,7 +33,8 @@ impl Pass for Copies {
     }
 }
 
-pub(crate) fn without_copies(alloc: Global, g: Grin) -> Result<Grin, AllocError>
+/// The first half of the pass, of any program: words stand for their copies.
+pub fn without_copies(alloc: Global, g: Grin) -> Result<Grin, AllocError>
     ensures { IfOk result (λ h. program_of h ≡ resolved (program_of g)) }
 {
     let mut aliases = Aliases::new(alloc);
@@ -54,7 +55,8 @@ pub(crate) fn without_copies(alloc: Global, g: Grin) -> Result<Grin, AllocError>
     })
 }
 
-pub(crate) fn without_idle(alloc: Global, g: Grin) -> Result<Grin, AllocError>
+/// The second half, of any program: statements that change nothing and bind what nobody uses go.
+pub fn without_idle(alloc: Global, g: Grin) -> Result<Grin, AllocError>
     ensures { IfOk result (λ h. program_of h ≡ lean (program_of g)) }
 {
     let mut uses = Uses::new(alloc);

@@ -136,7 +136,8 @@ impl Aliases {
 
     #[cycle(resolve)]
     fn alt(&mut self, alloc: Global, alt: Alt) -> Result<Alt, AllocError>
-        ensures tree { IfOk result (λ a. arm_of a ≡ ((arm_of alt).0, resolved_code self.old.table (arm_of alt).1)) }
+        ensures tree { IfOk result (λ a. arm_of a
+            ≡ ((arm_of alt).0, resolved_code self.old.table (arm_of alt).1)) }
         ensures table { OnOk result (self.new.table ≡ noted_code (arm_of alt).1 self.old.table) }
     {
         Ok(Alt {
@@ -148,8 +149,10 @@ impl Aliases {
     // A statement, or none where it is a copy.
     #[cycle(resolve)]
     fn stmt(&mut self, alloc: Global, stmt: Stmt) -> Result<Option<Stmt>, AllocError>
-        ensures tree { IfOk result (λ s. (c : Code) → kept s (resolved_code self.new.table c) ≡ resolved_code self.old.table (before_of stmt c)) }
-        ensures table { OnOk result ((c : Code) → noted_code c self.new.table ≡ noted_code (before_of stmt c) self.old.table) }
+        ensures tree { IfOk result (λ s. (c : Code) → kept s (resolved_code self.new.table c)
+            ≡ resolved_code self.old.table (before_of stmt c)) }
+        ensures table { OnOk result ((c : Code) → noted_code c self.new.table
+            ≡ noted_code (before_of stmt c) self.old.table) }
     {
         match stmt {
             Stmt::Store(cells) => Ok(Some(Stmt::Store(self.cells(alloc, cells)?))),

@@ -3,4 +3,5 @@ mod Enough
 mod Longer
 mod Steady
 mod Lookups
+pub mod Shared
 pub mod Valid

@@ -1,7 +1,6 @@
 -- In a well-formed program no lookup fails: whatever a failed one gave, the evaluation is the same.
-use Rattle.std.proofs.Common.{◌≡◌, ◌≢◌, ℕ, zero, suc, ◌+◌, ◌≤◌, ◌<◌, Bool, true, false, cond, nat_eq, nat_lt, List, [], ◌∷◌, ◌++◌, map, take, length, get_or, fold, Some, None, slice_get, refl, sym, ap, ◌∙◌, subst, arith, eqb-true, length-append, inl, inr}
+use Rattle.std.proofs.Common.{◌≡◌, ◌≢◌, ℕ, zero, suc, ◌+◌, ◌≤◌, ◌<◌, Bool, true, false, cond, nat_eq, nat_lt, List, [], ◌∷◌, ◌++◌, map, length, get_or, Some, None, slice_get, refl, sym, ap, ◌∙◌, subst, arith, eqb-true, length-append, inl, inr}
 use Rattle.std.specs.Prelude.{◌⊎◌, ◌==◌, ℤ, pos, slice_set, if◌then◌else◌}
-use Rattle.std.specs.List.{count_by}
 use Rattle.std.proofs.lemmas.Bool.{eq-eqb, ltb-true, ltb-false}
 use Rattle.std.proofs.lemmas.List.{length-map, length-set}
 use Rattle.std.proofs.lemmas.Option.{same_Some, none-some}
@@ -17,6 +16,7 @@ use Rattle.numbers.specs.Numbers.{low_byte}
 use Rattle.core_meaning.specs.Looking as looking
 use Rattle.core_meaning.specs.Evaluation.{State, Answer, Gives, NoAlternative, OutOfBound, and_then, with_number, is_con, fields_of, is_int, spend_of, append, update, taken, Onward, nil, global, params_of, params, name, names, binding, with_group, give, give_all, next_byte, globals, start, parameters, force_binding, force, apply, prim, form, eval, select, enter_body, proceed, within}
 use Rattle.core_meaning.specs.Printing.{Printed, on_value, on_list, on_byte, print, printed}
+use Rattle.core_meaning.proofs.Shared.{global_below}
 use Rattle.core_meaning.specs.WellFormed.{In, InGroup, AllOf, HasFields, HasParams, VarOk, FormOk, TermOk, BranchesOk, FunOk, WellFormed}
 
 -- ---- lists
@@ -206,34 +206,6 @@ module _ (p : Program) where
 
   -- ---- functions without parameters
 
-  from_one : (k a : ℕ) (gs : List Function) → fold (λ a g. a + cond (nat_eq g.params 0) 1 0) (k + a) gs ≡ k + fold (λ a g. a + cond (nat_eq g.params 0) 1 0) a gs
-  from_one k a [] = refl
-  from_one k a (g ∷ gs) =
-      let e : k + a + cond (nat_eq g.params 0) 1 0 ≡ k + (a + cond (nat_eq g.params 0) 1 0) = omega arith in
-      rw e (from_one k (a + cond (nat_eq g.params 0) 1 0) gs)
-
-  count_more : (g : Function) (gs : List Function) → count_by (λ g. nat_eq g.params 0) (g ∷ gs) ≡ cond (nat_eq g.params 0) 1 0 + count_by (λ g. nat_eq g.params 0) gs
-  count_more g gs =
-      let e : 0 + cond (nat_eq g.params 0) 1 0 ≡ cond (nat_eq g.params 0) 1 0 + 0 = omega arith in
-      rw e (from_one (cond (nat_eq g.params 0) 1 0) 0 gs)
-
-  global_from : (gs : List Function) (k f : ℕ) (fun : Function) → slice_get gs f ≡ Some fun → fun.params ≡ 0 → count_by (λ g. nat_eq g.params 0) (take f gs) < length (globals p gs k)
-  global_from [] k f fun e z = absurd (none-some fun e)
-  global_from (g ∷ gs) k zero fun e z =
-      let same : g ≡ fun = same_Some g fun e in
-      rw (eq-eqb g.params 0 (ap (λ g. g.params) same ∙ z)) (omega arith)
-  global_from (g ∷ gs) k (suc f) fun e z =
-      let more = count_more g (take f gs) in
-      let less = global_from gs (suc k) f fun e z in
-      rw more (by_test (nat_eq g.params 0) less)
-    where
-      by_test : (b : Bool) → count_by (λ g. nat_eq g.params 0) (take f gs) < length (globals p gs (suc k)) → cond b 1 0 + count_by (λ g. nat_eq g.params 0) (take f gs) < length (cond b (Waiting (Global k) ∷ []) [] ++ globals p gs (suc k))
-      by_test true lt = omega (arith, lt)
-      by_test false lt = omega (arith, lt)
-
-  global_below : (f : ℕ) → HasParams p f (λ n. n ≡ 0) → global p f < shared
-  global_below f h = global_from p.funs 0 f h.0 h.1 h.2
-
   globals_in : (m k : ℕ) (gs : List Function) → ((j : ℕ) (g : Function) → slice_get gs j ≡ Some g → slice_get p.funs (k + j) ≡ Some g) → AllOf (BindingIn m) (globals p gs k)
   globals_in m k [] at = tt
   globals_in m k (g ∷ gs) at =
@@ -255,7 +227,7 @@ module _ (p : Program) where
 
     name_in : (x : Var) → VarOk p S x → name p env x < m
     name_in (var.Local x) h = k.below x h
-    name_in (var.Global f) h = omega (arith, global_below f h, room)
+    name_in (var.Global f) h = omega (arith, global_below p f h, room)
 
     names_same : (xs : List Var) → AllOf (VarOk p S) xs → names p env' xs ≡ names p env xs
     names_same [] h = refl
@@ -526,7 +498,7 @@ module _ (p : Program) where
               ≡ elim b as (λ _. Printed) [ true ↦ looking.print 0 NoAlternative p n (global p p.main) [] (start p i n) | false ↦ looking.printed_from_input 0 NoAlternative p i n ]
           by_test true e n =
               let none : w.main.0.params ≡ 0 = sym main_params ∙ eqb-true (params p p.main) 0 e in
-              printing n (global p p.main) [] (start p i n) (sound_start i n) (global_below p.main (w.main.0, w.main.1, none))
+              printing n (global p p.main) [] (start p i n) (sound_start i n) (global_below p p.main (w.main.0, w.main.1, none))
           by_test false e zero = refl
           by_test false e (suc n) =
               let s : State = start p i n in

@@ -87,7 +87,7 @@ module _ (p : tree.Program) (q : Program) (nf : IsNormalForm p q) where
       by_test false h = h
 
   function_ok : (s : Scope) (gs : List tree.Function) (hs : List normal.Function) (f x : ℕ) → Pairwise (IsFunction p) gs hs → ((i : ℕ) (h : normal.Function) → slice_get hs i ≡ Some h → slice_get q.funs (f + i) ≡ Some h) → MeaningOk s (function_from p gs f x)
-  function_ok s [] hs f x w at = primitive_ok s primitives x
+  function_ok s [] hs f x w at = tt
   function_ok s (g ∷ gs) [] f x w at = absurd w
   function_ok s (g ∷ gs) (h ∷ hs) f x w at =
       let z : f + 0 ≡ f = omega arith in

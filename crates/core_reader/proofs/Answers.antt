@@ -8,8 +8,11 @@ use Rattle.core_reader.specs.declared.refusal.ReadRefusal.TheVariants.{BadByte, 
 use Rattle.core_reader.specs.Tree.{Program, data_of, function}
 use Rattle.core_reader.specs.Grammar.{anywhere, at_most_200}
 use Rattle.core_reader.specs.Tokens.{Piece, Reads, Stops, Passes, Takes, IsTokens}
-use Rattle.core_reader.specs.Text.{said, said_by, said_by_letters, sign_token, names_of, IsProgram, IsText, IsCause, IsUnbroken, IsFirstUnread}
-use Rattle.core_reader.specs.Text as text-rules
+use Rattle.core_reader.specs.Words.{said}
+use Rattle.core_reader.specs.Names.{names_of}
+use Rattle.core_reader.specs.Programs.{IsProgram, IsText}
+use Rattle.core_reader.specs.Rules.{IsCause, IsUnbroken, IsFirstUnread}
+use Rattle.core_reader.specs.Rules as text-rules
 use Rattle.core_reader.specs.Lexed.{StopsAt, AtEnd, AtBad, AtLarge, IsLexed}
 use Rattle.core_reader.specs.Parsed.{ReadsProgram}
 use Rattle.core_reader.specs.Readable.{IsReadable}

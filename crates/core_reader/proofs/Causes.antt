@@ -10,7 +10,10 @@ use Rattle.core_reader.specs.declared.refusal.ReadRefusal.TheVariants as refusal
 use Rattle.core_reader.specs.Tree.{Program}
 use Rattle.core_reader.specs.Grammar.{Room, anywhere, at_most_200}
 use Rattle.core_reader.specs.Tokens.{Piece, Reads, Stops, Takes, Longest, NothingBegins, kind_of}
-use Rattle.core_reader.specs.Text.{said, said_by, names_of, with_piece, digits_from, has_minus, number_of, IsInRange, IsProgram, Viable, BeginsWith, IsBadByte, AtToken, AtEnd, IsUnread, BadByte, Syntax, NumberRange, TooDeep, TextTooLong, NoLater, IsFirstUnread, IsCause}
+use Rattle.core_reader.specs.Words.{said, said_by, digits_from, has_minus, number_of, IsInRange}
+use Rattle.core_reader.specs.Names.{names_of, with_piece}
+use Rattle.core_reader.specs.Programs.{IsProgram, Viable}
+use Rattle.core_reader.specs.Rules.{BeginsWith, IsBadByte, AtToken, AtEnd, IsUnread, BadByte, Syntax, NumberRange, TooDeep, TextTooLong, NoLater, IsFirstUnread, IsCause}
 use Rattle.core_reader.specs.Lexed as lexed
 use Rattle.core_reader.specs.Lexed.{StopsAt, AtBad, AtLarge, AreInRange}
 use Rattle.core_reader.specs.Machine.{State, go, stop, step}

@@ -11,9 +11,9 @@ use Rattle.core_reader.specs.Grammar.{Room, lexeme, name_id, Decl, SpellsDecls}
 use Rattle.core_reader.specs.Machine.{Cont, InFunction, LetBody, Scrutinee, AltBody, Frame, InBody, InBind, Inside, BindName, BindEquals, Ended, Brace, AltStart, AltNames, AltArrow, starts_atom, State, Top, DataName, Count, DataEnd, Params, Apply, Step, go, done, stop, step, follow, run, with_last, ◌⊹◌, binding, applied, defined}
 use Rattle.core_reader.specs.Machine.{front}
 use Rattle.core_reader.specs.Tokens.{Piece}
-use Rattle.core_reader.specs.Text.{said, number_in}
+use Rattle.core_reader.specs.Words.{said, number_in}
 use Rattle.core_reader.proofs.Sound.{Consumed, Good, sound_step}
-use Rattle.core_reader.proofs.Turns.{ended_app, let_ends}
+use Rattle.core_reader.proofs.Taking.{ended_app, let_ends}
 use Rattle.core_reader.proofs.Proper.{no_end}
 
 -- ---- the tokens that complete what was read

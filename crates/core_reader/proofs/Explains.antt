@@ -14,12 +14,14 @@ use Rattle.core_reader.specs.Grammar.{Room, anywhere, at_most_200, lexeme, Decl,
 use Rattle.core_reader.specs.Machine.{Cont, InFunction, LetBody, Scrutinee, AltBody, nests, InBody, InBind, Inside, opens, BindName, BindEquals, Ended, Brace, AltStart, AltNames, AltArrow, give, refused, State, Top, DataName, Count, DataEnd, Params, Apply, Step, go, done, stop, step, follow, run, with_last, applied}
 use Rattle.core_reader.specs.Tree.{Program}
 use Rattle.core_reader.specs.Tokens.{Piece}
-use Rattle.core_reader.specs.Text.{said, names_of, IsProgram, Viable}
+use Rattle.core_reader.specs.Words.{said}
+use Rattle.core_reader.specs.Names.{names_of}
+use Rattle.core_reader.specs.Programs.{IsProgram, Viable}
 use Rattle.core_reader.proofs.Complete.{reads_program}
 use Rattle.core_reader.proofs.Sound.{Consumed, Good, sound_step}
 use Rattle.core_reader.proofs.Ending.{ending, ends, sound_run, last_same}
 use Rattle.core_reader.proofs.Proper.{no_end, no_large}
-use Rattle.core_reader.proofs.Turns.{map_last}
+use Rattle.core_reader.proofs.Taking.{map_last}
 use Rattle.core_reader.proofs.Naming.{Texts, stable}
 
 -- ---- what the other limits do at a step of the reading

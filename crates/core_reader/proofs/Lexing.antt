@@ -16,11 +16,12 @@ use Rattle.core_reader.specs.declared.token.Lexeme.{Lexeme}
 use Rattle.core_reader.specs.Grammar.{lexeme}
 use Rattle.core_reader.specs.Look.{looks}
 use Rattle.core_reader.specs.Tokens.{Piece, Reads, Stops, Passes, Takes, Longest, IsGap, NothingBegins, kind_of}
-use Rattle.core_reader.specs.Text.{said, said_by, names_of, with_name, with_piece, is_numbered_by, number_in, number_of, digits_from, has_minus, IsInRange}
+use Rattle.core_reader.specs.Words.{said, said_by, number_in, number_of, digits_from, has_minus, IsInRange}
+use Rattle.core_reader.specs.Names.{names_of, with_name, with_piece, is_numbered_by}
 use Rattle.core_reader.specs.Lexed.{texts_of, is_large, IsSigned, IsTokenOf, Says, StopsAt, AtEnd, AtBad, AtLarge, AreInRange, IsLexed}
-use Rattle.core_reader.proofs.Right.{Right, right}
+use Rattle.core_reader.proofs.Looking.{StandsAtFront, front_stands}
 use Rattle.core_reader.proofs.Naming.{Texts, has, itself, fold_append, one_more, each_held, map_grows}
-use Rattle.core_reader.proofs.Turns.{map_last}
+use Rattle.core_reader.proofs.Taking.{map_last}
 use Rattle.core_reader.proofs.Proper.{IsProper, proper}
 use Rattle.core_reader.proofs.Unique.{gap_within, longest_some}
 
@@ -28,16 +29,16 @@ rest_is : (text : List ℕ) (at : ℕ) → take (length text - at) (drop at text
 rest_is text at = take_all (length text - at) (drop at text) (omega (arith, length-drop at text))
 
 pub gap_here : (text : List ℕ) (at : ℕ) (n : ℕ) (r : Found) → r ≡ looks (take (length text - at) (drop at text)) → r ≡ found.Gap n → IsGap n (drop at text) × (0 < n) × (n ≤ length (drop at text))
-gap_here text at n r e f = subst (Right (drop at text)) (ap looks (sym (rest_is text at)) ∙ sym e ∙ f) (right (drop at text))
+gap_here text at n r e f = subst (StandsAtFront (drop at text)) (ap looks (sym (rest_is text at)) ∙ sym e ∙ f) (front_stands (drop at text))
 
 pub token_here : (text : List ℕ) (at : ℕ) (n : ℕ) (kind : Kind) (r : Found) → r ≡ looks (take (length text - at) (drop at text)) → r ≡ found.Token n kind → Longest n (drop at text) kind × (0 < n)
-token_here text at n kind r e f = subst (Right (drop at text)) (ap looks (sym (rest_is text at)) ∙ sym e ∙ f) (right (drop at text))
+token_here text at n kind r e f = subst (StandsAtFront (drop at text)) (ap looks (sym (rest_is text at)) ∙ sym e ∙ f) (front_stands (drop at text))
 
 pub bad_here : (text : List ℕ) (at : ℕ) (r : Found) → r ≡ looks (take (length text - at) (drop at text)) → r ≡ found.Bad → NothingBegins (drop at text)
-bad_here text at r e f = subst (Right (drop at text)) (ap looks (sym (rest_is text at)) ∙ sym e ∙ f) (right (drop at text))
+bad_here text at r e f = subst (StandsAtFront (drop at text)) (ap looks (sym (rest_is text at)) ∙ sym e ∙ f) (front_stands (drop at text))
 
 pub end_here : (text : List ℕ) (at : ℕ) (r : Found) → r ≡ looks (take (length text - at) (drop at text)) → r ≡ found.End → drop at text ≡ []
-end_here text at r e f = subst (Right (drop at text)) (ap looks (sym (rest_is text at)) ∙ sym e ∙ f) (right (drop at text))
+end_here text at r e f = subst (StandsAtFront (drop at text)) (ap looks (sym (rest_is text at)) ∙ sym e ∙ f) (front_stands (drop at text))
 
 pub fits_text : (text : List ℕ) (at n : ℕ) → at ≤ length text → n ≤ length (drop at text) → at + n ≤ length text
 fits_text text at n h g = omega (arith, length-drop at text)

@@ -1,9 +1,9 @@
 pub mod TreeOf
 pub mod Runs
-pub mod Right
+pub mod Looking
 pub mod Complete
 pub mod Sound
-pub mod Turns
+pub mod Taking
 pub mod Proper
 pub mod Ending
 pub mod Naming
@@ -15,7 +15,3 @@ pub mod Readability
 pub mod Answers
 pub mod Unbroken
 pub mod OnlyOne
-pub mod Numerals
-pub mod Rereading
-pub mod Reprinted
-pub mod RoundTrip

@@ -12,7 +12,8 @@ use Rattle.core_reader.specs.declared.token.Token.{Token}
 use Rattle.core_reader.specs.declared.token.Token.TheVariants as word
 use Rattle.core_reader.specs.Grammar.{lexeme, name_id}
 use Rattle.core_reader.specs.Tokens.{Piece, kind_of}
-use Rattle.core_reader.specs.Text.{said, said_by, said_by_letters, keyword_of, number_in, with_piece, names_of, is_numbered, is_numbered_by}
+use Rattle.core_reader.specs.Words.{said, said_by, said_by_letters, keyword_of, number_in}
+use Rattle.core_reader.specs.Names.{with_piece, names_of, is_numbered, is_numbered_by}
 
 abbrev pub Texts : Type 0
 Texts = List (List ℕ)

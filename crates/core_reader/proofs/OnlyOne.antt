@@ -6,7 +6,9 @@ use Rattle.core_reader.specs.declared.refusal.ReadRefusal.{ReadRefusal}
 use Rattle.core_reader.specs.Tree.{Program}
 use Rattle.core_reader.specs.Grammar.{anywhere, lexeme, Decl, constructors_of, functions_of}
 use Rattle.core_reader.specs.Tokens.{Piece}
-use Rattle.core_reader.specs.Text.{said, IsProgram, IsUnread, BadByte, Syntax, NumberRange, TooDeep, TextTooLong, NoLater}
+use Rattle.core_reader.specs.Words.{said}
+use Rattle.core_reader.specs.Programs.{IsProgram}
+use Rattle.core_reader.specs.Rules.{IsUnread, BadByte, Syntax, NumberRange, TooDeep, TextTooLong, NoLater}
 use Rattle.core_reader.specs.Laws.{OneRefusal, OneReading, OneProgram}
 use Rattle.core_reader.specs.Machine.{Top, run}
 use Rattle.core_reader.proofs.Complete.{reads_program}

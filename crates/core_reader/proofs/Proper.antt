@@ -6,7 +6,7 @@ use Rattle.core_reader.specs.declared.look.Sign.TheVariants as signs
 use Rattle.core_reader.specs.declared.token.Token.{Token}
 use Rattle.core_reader.specs.declared.token.Token.TheVariants as word
 use Rattle.core_reader.specs.Tokens.{Piece, kind_of}
-use Rattle.core_reader.specs.Text.{said, said_by, said_by_letters, sign_token}
+use Rattle.core_reader.specs.Words.{said, said_by, said_by_letters, sign_token}
 
 abbrev pub IsProper : Token → Type 0
 IsProper (word.Large minus) = ⊥

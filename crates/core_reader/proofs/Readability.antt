@@ -20,7 +20,9 @@ use Rattle.core_reader.specs.Tree.{Term, Terms, NoTerms, AndTerm, Application, B
 use Rattle.core_reader.specs.Tree as tree
 use Rattle.core_reader.specs.Grammar.{Room, lexeme, SpellsTerm, SpellsTerms, SpellsApp, binders, SpellsBind, SpellsBinds, SpellsPattern, SpellsExpr, SpellsAlts, Decl, Declares, Defines, SpellsDecl, SpellsDecls, constructors_of, functions_of}
 use Rattle.core_reader.specs.Tokens.{Piece, kind_of}
-use Rattle.core_reader.specs.Text.{said, said_by, said_by_letters, keyword_of, sign_token, number_in, with_piece, is_numbered, is_numbered_by, number_of, IsInRange, IsProgram}
+use Rattle.core_reader.specs.Words.{said, said_by, said_by_letters, keyword_of, sign_token, number_in, number_of, IsInRange}
+use Rattle.core_reader.specs.Names.{with_piece, is_numbered, is_numbered_by}
+use Rattle.core_reader.specs.Programs.{IsProgram}
 use Rattle.core_reader.specs.Lexed.{AreInRange}
 use Rattle.core_reader.specs.Size.{term_size, terms_size, bind_size, pattern_size, expr_size, alts_size, function_size}
 use Rattle.core_reader.specs.Readable.{IsConstructor, IsTextAt, IsNamed, IsBound, ReadableTerm, ReadableTerms, ReadableApp, ReadableBind, ReadablePattern, ReadableExpr, ReadableAlts, ReadableData, ReadableFunction, AreDifferent, IsReadable}

@@ -5,7 +5,8 @@ use Rattle.std.proofs.lemmas.Bool.Decides.{nat_tests}
 use Rattle.std.proofs.lemmas.Int.{ints}
 use Rattle.core_reader.specs.Grammar.{anywhere}
 use Rattle.core_reader.specs.Tokens.{Piece, IsTokens}
-use Rattle.core_reader.specs.Text.{IsInRange, NumberRange, TextTooLong, number_of, IsUnbroken}
+use Rattle.core_reader.specs.Words.{IsInRange, number_of}
+use Rattle.core_reader.specs.Rules.{NumberRange, TextTooLong, IsUnbroken}
 use Rattle.core_reader.specs.Lexed.{AreInRange}
 use Rattle.core_reader.specs.Laws.{UnbrokenIsReadable}
 use Rattle.core_reader.proofs.Causes.{one_last, begins_at}

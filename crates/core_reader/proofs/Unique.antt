@@ -8,7 +8,7 @@ use Rattle.core_reader.specs.declared.look.Found.TheVariants as found
 use Rattle.core_reader.specs.Bytes.{is_space, is_in_line}
 use Rattle.core_reader.specs.Look.{looks}
 use Rattle.core_reader.specs.Tokens.{kind_of, Longest, IsGap, Piece, Reads, Stops, Passes, Takes, NothingBegins}
-use Rattle.core_reader.proofs.Right.{Right, right}
+use Rattle.core_reader.proofs.Looking.{StandsAtFront, front_stands}
 use Rattle.core_reader.proofs.Runs.{len_run, within_run}
 
 -- the reading ends there, at the end of the text or before a byte at which nothing begins
@@ -136,7 +136,7 @@ pub record Reading (at : ℕ) (bytes : List ℕ) : Type 0 where
 shorter : (bytes : List ℕ) (k n : ℕ) → length bytes ≤ suc n → 0 < k → k ≤ length bytes → length (drop k bytes) ≤ n
 shorter bytes k n h g f = omega (arith, length-drop k bytes)
 
-reading_by : (at n : ℕ) (bytes : List ℕ) (f : Found) → Right bytes f → length bytes ≤ suc n → ((m : ℕ) (bs : List ℕ) → length bs ≤ n → Reading m bs) → Reading at bytes
+reading_by : (at n : ℕ) (bytes : List ℕ) (f : Found) → StandsAtFront bytes f → length bytes ≤ suc n → ((m : ℕ) (bs : List ℕ) → length bs ≤ n → Reading m bs) → Reading at bytes
 reading_by at n bytes (found.Gap k) h w later =
     let r = later (at + k) (drop k bytes) (shorter bytes k n w h.1 h.2) in
     record { all = r.all; end = r.end; rest = r.rest; reads = Passes at k bytes r.all r.end r.rest h.0 r.reads; stop = r.stop }
@@ -152,7 +152,7 @@ empty (b ∷ bs) h = absurd (omega arith)
 
 reading_from : (n at : ℕ) (bytes : List ℕ) → length bytes ≤ n → Reading at bytes
 reading_from zero at bytes h = record { all = []; end = at; rest = bytes; reads = Stops at bytes; stop = inl (empty bytes h) }
-reading_from (suc n) at bytes h = reading_by at n bytes (looks bytes) (right bytes) h (λ m bs g. reading_from n m bs g)
+reading_from (suc n) at bytes h = reading_by at n bytes (looks bytes) (front_stands bytes) h (λ m bs g. reading_from n m bs g)
 
 pub reading : (text : List ℕ) → Reading 0 text
 reading text = reading_from (length text) 0 text (omega arith)

@@ -9,7 +9,8 @@ use Rattle.core_reader.specs.declared.token.Token.TheVariants as word
 use Rattle.core_reader.specs.declared.token.Lexeme.{Lexeme}
 use Rattle.core_reader.specs.Grammar.{lexeme}
 use Rattle.core_reader.specs.Tokens.{Piece, Reads, Longest, NothingBegins, kind_of}
-use Rattle.core_reader.specs.Text.{has_minus, number_of, said, said_by, names_of, with_name, is_numbered_by, number_in, IsInRange}
+use Rattle.core_reader.specs.Words.{has_minus, number_of, said, said_by, number_in, IsInRange}
+use Rattle.core_reader.specs.Names.{names_of, with_name, is_numbered_by}
 
 -- the bytes of the names that the table holds
 abbrev pub texts_of : List (Bor (List ℕ)) → List (List ℕ)

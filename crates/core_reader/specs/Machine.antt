@@ -227,15 +227,19 @@ ReadsAlts depth old new result = (k : Cont) (e : Expr) → suc (nests k) ≡ dep
 abbrev pub ReadsPattern : List Lexeme → List Lexeme → Result Pattern ReadRefusal → Type 0
 ReadsPattern old new result = (k : Cont) (e : Expr) (xs : Alts) → Goes result (run at_most_200 (AltStart k e xs) old) (λ p. run at_most_200 (Apply (InBody (AltBody k e xs p)) NoTerms) new)
 
-abbrev pub ReadsNames : List Lexeme → List Lexeme → Result (Vec Binder) ReadRefusal → Type 0
-ReadsNames old new result = (k : Cont) (e : Expr) (xs : Alts) (n : NameId) (p : ℕ) → Goes result (run at_most_200 (AltNames k e xs n p []) old) (λ names. run at_most_200 (AltNames k e xs n p names.items) new)
+-- A state that keeps names takes one more.
+abbrev pub KeepsNames : (List Binder → State) → Type 0
+KeepsNames state = (names : List Binder) (n : NameId) (at : ℕ)
+    → step at_most_200 (state names) at (word.Name n) ≡ go (state (names ++ record { name = n; at = at } ∷ []))
 
--- A count was read, and the parameters of a function.
+-- The names of a list were read, by whatever keeps them.
+abbrev pub ReadsNames : List Lexeme → List Lexeme → Result (Vec Binder) ReadRefusal → Type 0
+ReadsNames old new result = (state : List Binder → State) → KeepsNames state
+    → Goes result (run at_most_200 (state []) old) (λ names. run at_most_200 (state names.items) new)
+
+-- A count was read.
 abbrev pub ReadsCount : List Lexeme → List Lexeme → Result ℕ ReadRefusal → Type 0
 ReadsCount old new result = (ds : List Decl) (n : NameId) (p : ℕ) → Goes result (run at_most_200 (Count ds n p) old) (λ size. run at_most_200 (DataEnd ds n p size) new)
-
-abbrev pub ReadsParams : List Lexeme → List Lexeme → Result (Vec Binder) ReadRefusal → Type 0
-ReadsParams old new result = (ds : List Decl) (n : NameId) (p : ℕ) → Goes result (run at_most_200 (Params ds n p []) old) (λ params. run at_most_200 (Params ds n p params.items) new)
 
 abbrev pub ReadsDecl : {X : Type 0} → (X → Decl) → List Lexeme → List Lexeme → Result X ReadRefusal → Type 0
 ReadsDecl view old new result = (ds : List Decl) → Goes result (run at_most_200 (Top ds) old) (λ x. run at_most_200 (Top (ds ++ view x ∷ [])) new)

@@ -7,7 +7,7 @@ use Rattle.core_reader.specs.declared.look.Kind.TheVariants.{Lower, Upper}
 use Rattle.core_reader.specs.Tree.{Term, Terms, NoTerms, AndTerm, Application, Bind, Expr, App, Let, Case, Alts, NoAlts, AndAlt, Data, Function, Program}
 use Rattle.core_reader.specs.Tree as tree
 use Rattle.core_reader.specs.Tokens.{kind_of}
-use Rattle.core_reader.specs.Text.{keyword_of, IsInRange}
+use Rattle.core_reader.specs.Words.{keyword_of, IsInRange}
 use Rattle.core_reader.specs.Grammar.{IsGroup, IsSomeAlts}
 use Rattle.core_reader.specs.Size.{program_size}
 pub use Rattle.core_reader.specs.Different.{AreDifferent}

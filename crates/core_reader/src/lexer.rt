@@ -2,7 +2,7 @@
 
 ghost use Rattle.std.specs.Prelude.{◌≡◌, ◌<◌, ◌≤◌, ◌^◌, ℕ, length, IfOk, IfSome, pos, neg_ℤ, true, false};
 ghost use Rattle.indexmap.specs.IndexSet.{index_set_len};
-ghost use Rattle.core_reader.specs.Text.{digits_from, has_minus, keyword_of, number_of, sign_token};
+ghost use Rattle.core_reader.specs.Words.{digits_from, has_minus, keyword_of, number_of, sign_token};
 ghost use Rattle.core_reader.specs.Lexed.{texts_of, is_large, IsSize, IsSigned, IsNumberOf, IsTokenOf, IsLexed};
 
 use crate::look::{Found, Kind, Sign, look};
@@ -116,7 +116,8 @@ impl Token {
 /// The number of a name, which is put at the end of the names where it is new.
 fn name_id<'a>(names: &mut IndexSet<&'a [u8]>, word: &'a [u8]) -> Result<NameId, AllocError>
     requires { index_set_len names.old < 2 ^ 32 }
-    ensures { IfOk result (λ id. IsNumberOf (texts_of names.old.keys) (texts_of names.new.keys) word.now id) }
+    ensures { IfOk result (λ id.
+        IsNumberOf (texts_of names.old.keys) (texts_of names.new.keys) word.now id) }
 {
     let (index, _) = names.insert_full(word)?;
     Ok(NameId(index as u32))
@@ -129,7 +130,8 @@ fn token_of<'a>(
     kind: Kind,
 ) -> Result<Token, AllocError>
     requires { index_set_len names.old < 2 ^ 32 }
-    ensures { IfOk result (λ token. IsTokenOf (texts_of names.old.keys) (texts_of names.new.keys) word.now kind token) }
+    ensures { IfOk result (λ token.
+        IsTokenOf (texts_of names.old.keys) (texts_of names.new.keys) word.now kind token) }
 {
     match kind {
         Kind::Lower => match keyword(word) {

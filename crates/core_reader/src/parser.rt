@@ -1,7 +1,7 @@
 //! From tokens to a tree.
 
 ghost use Rattle.std.specs.Prelude.{◌≡◌, ◌<◌, ◌≤◌, true, false, length, OnOk};
-ghost use Rattle.core_reader.specs.Machine.{front, behind, is_name, starts_atom, refusal, ReadsAtom, ReadsApp, ReadsHeaded, ReadsBind, ReadsBinds, ReadsExpr, ReadsAlts, ReadsPattern, ReadsNames, ReadsCount, ReadsParams, ReadsDecl, Takes, data_decl, function_decl};
+ghost use Rattle.core_reader.specs.Machine.{front, behind, is_name, starts_atom, refusal, ReadsAtom, ReadsApp, ReadsHeaded, ReadsBind, ReadsBinds, ReadsExpr, ReadsAlts, ReadsPattern, ReadsNames, ReadsCount, ReadsDecl, Takes, data_decl, function_decl};
 ghost use Rattle.core_reader.specs.Parsed.{ReadsProgram};
 ghost use Rattle.core_reader.specs.declared.token.Token.TheVariants as word;
 
@@ -357,7 +357,7 @@ impl<'a> Parser<'a> {
         }
     }
 
-    /// The names behind a constructor.
+    /// The names of a list: the parameters of a function, or the variables of a pattern.
     fn names(&mut self) -> Result<Vec<Binder>, ReadRefusal>
         ensures reads { ReadsNames self.old.rest.now self.new.rest.now result }
         ensures depth { self.new.depth ≡ self.old.depth }
@@ -429,26 +429,6 @@ impl<'a> Parser<'a> {
         }
     }
 
-    /// The parameters of a function.
-    fn params(&mut self) -> Result<Vec<Binder>, ReadRefusal>
-        ensures reads { ReadsParams self.old.rest.now self.new.rest.now result }
-        ensures depth { self.new.depth ≡ self.old.depth }
-        ensures whole { OnOk result (is_name (front self.new.rest.now).token ≡ false) }
-        ensures shorter { OnOk result (length self.new.rest.now ≤ length self.old.rest.now) }
-    {
-        let mut params = Vec::new(self.alloc);
-        loop {
-            let next = self.peek();
-            match next.token {
-                Token::Name(name) => {
-                    self.advance();
-                    params.push(Binder { name, at: next.at })?;
-                }
-                _ => return Ok(params),
-            }
-        }
-    }
-
     /// A function's declaration, at its name.
     fn function(&mut self, name: NameId, at: u32) -> Result<Function, ReadRefusal>
         requires name { (front self.old.rest.now).token ≡ word.Name name }
@@ -459,7 +439,7 @@ impl<'a> Parser<'a> {
         ensures shorter { OnOk result (length self.new.rest.now < length self.old.rest.now) }
     {
         self.advance();
-        let params = self.params()?;
+        let params = self.names()?;
         self.take(Token::Equals)?;
         let body = self.expr()?;
         self.take(Token::Semicolon)?;

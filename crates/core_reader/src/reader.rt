@@ -2,7 +2,8 @@
 
 ghost use Rattle.std.specs.Prelude.{◌≡◌, OnOk, IfOk, IfErr};
 ghost use Rattle.core_reader.specs.Tree.{program};
-ghost use Rattle.core_reader.specs.Text.{IsText, IsUnbroken, IsCause};
+ghost use Rattle.core_reader.specs.Programs.{IsText};
+ghost use Rattle.core_reader.specs.Rules.{IsUnbroken, IsCause};
 ghost use Rattle.core_reader.specs.Different.{AreDifferent};
 ghost use Rattle.core_reader.specs.Readable.{IsReadable};
 ghost use Rattle.core_reader.specs.Lexed.{texts_of};

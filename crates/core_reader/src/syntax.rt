@@ -1,4 +1,4 @@
-// The syntax of Core.
+//! The syntax of Core.
 
 ghost use Rattle.std.specs.Prelude.{◌≡◌};
 ghost use Rattle.core_reader.specs.Different.{AreDifferent};

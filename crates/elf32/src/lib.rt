@@ -6,8 +6,6 @@ pub mod image;
 mod overlap;
 mod reader;
 mod refusal;
-#[cfg(test)]
-mod tests;
 mod writer;
 
 pub use image::{Loaded, Segment};

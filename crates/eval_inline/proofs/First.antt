@@ -9,7 +9,7 @@ use Rattle.std.proofs.lemmas.Option.{slice_get_cases}
 use Rattle.grin_syntax.specs.declared.program.TagId.{TagId}
 use Rattle.eval_inline.specs.Inlining.{those}
 use Rattle.points_to.specs.Wanted.{is_in}
-use Rattle.eval_inline.specs.Met.{IsFirst, none, first, NextBelow}
+use Rattle.eval_inline.specs.Met.{IsFirst, none, first, FirstInRange}
 
 or_true : (b : Bool) → (b || true) ≡ true
 or_true true = refl
@@ -25,22 +25,6 @@ not_both b h k = cc
 pub same_first : (test test' : ℕ → Bool) (from : ℕ) (o : Option TagId) → ((t : ℕ) → test t ≡ test' t) → IsFirst test from o → IsFirst test' from o
 same_first test test' from None h (none f) = none (λ t le. sym (h t) ∙ f t le)
 same_first test test' from (Some r) h (first le e f) = first le (sym (h r.0) ∙ e) (λ t a b. sym (h t) ∙ f t a b)
-
--- ---- the lower of two
-
-module _ (p q : ℕ → Bool) (from : ℕ) where
-  pub left_first : (s t : TagId) → s.0 ≤ t.0 → IsFirst p from (Some s) → IsFirst q from (Some t) → IsFirst (λ u. p u || q u) from (Some s)
-  left_first s t le (first a e f) (first b d g) = first a (ap (λ x. x || q s.0) e) (λ u l m. let n : u < t.0 = omega arith in λ i. f u l m i || g u l n i)
-
-  pub right_first : (s t : TagId) → t.0 ≤ s.0 → IsFirst p from (Some s) → IsFirst q from (Some t) → IsFirst (λ u. p u || q u) from (Some t)
-  right_first s t le (first a e f) (first b d g) = first b (ap (λ x. p t.0 || x) d ∙ or_true (p t.0)) (λ u l m. let n : u < s.0 = omega arith in λ i. f u l n i || g u l m i)
-
-  pub left_alone : (s : TagId) → IsFirst p from (Some s) → IsFirst q from None → IsFirst (λ u. p u || q u) from (Some s)
-  left_alone s (first a e f) (none g) = first a (ap (λ x. x || q s.0) e) (λ u l m. λ i. f u l m i || g u l i)
-
-  pub right_given : (o : Option TagId) → IsFirst p from None → IsFirst q from o → IsFirst (λ u. p u || q u) from o
-  right_given None (none f) (none g) = none (λ u l. λ i. f u l i || g u l i)
-  right_given (Some t) (none f) (first b d g) = first b (ap (λ x. p t.0 || x) d ∙ or_true (p t.0)) (λ u l m. λ i. f u l i || g u l m i)
 
 -- ---- the numbers after one
 
@@ -61,7 +45,7 @@ module _ (test : ℕ → Bool) where
       let more : those test (suc from) (j + suc k) ≡ r ∷ those test (suc r) k = one_next j (suc from) (j + suc k) k r refl m (λ t x y. h t (omega arith) y) e in
       ap (those test from) d ∙ ap (λ b. cond b (from ∷ those test (suc from) (j + suc k)) (those test (suc from) (j + suc k))) a ∙ more
 
-  pub next_in : (from end : ℕ) (t : TagId) → IsFirst test from (Some t) → t.0 < end → NextBelow test from end (Some t)
+  pub next_in : (from end : ℕ) (t : TagId) → IsFirst test from (Some t) → t.0 < end → FirstInRange test from end (Some t)
   next_in from end t (first le e f) lt = record {
     next = let n : end - from ≡ (t.0 - from) + suc (end - suc t.0) = omega arith in
         let r : t.0 ≡ from + (t.0 - from) = omega arith in
@@ -69,13 +53,13 @@ module _ (test : ℕ → Bool) where
     within = (le, lt);
   }
 
-  pub next_past : (from end : ℕ) (t : TagId) → IsFirst test from (Some t) → end ≤ t.0 → NextBelow test from end None
+  pub next_past : (from end : ℕ) (t : TagId) → IsFirst test from (Some t) → end ≤ t.0 → FirstInRange test from end None
   next_past from end t (first le e f) past = record {
     next = none_among (end - from) from (λ u a b. f u a (omega arith));
     within = tt;
   }
 
-  pub next_none : (from end : ℕ) → IsFirst test from None → NextBelow test from end None
+  pub next_none : (from end : ℕ) → IsFirst test from None → FirstInRange test from end None
   next_none from end (none f) = record {
     next = none_among (end - from) from (λ u a b. f u a);
     within = tt;
@@ -169,5 +153,5 @@ rising_tags ts rising i j d le lt = go (nat_eq i j) refl
         let b : get_or (map (λ t. t.0) ts) j 0 ≡ (get_or ts j d).0 = get_or-map (λ t. t.0) ts j d 0 lt in
         omega arith
 
-pub same_end : (test : ℕ → Bool) (from n m : ℕ) (o : Option TagId) → n ≡ m → NextBelow test from n o → NextBelow test from m o
-same_end test from n m o e h = subst (λ k. NextBelow test from k o) e h
+pub same_end : (test : ℕ → Bool) (from n m : ℕ) (o : Option TagId) → n ≡ m → FirstInRange test from n o → FirstInRange test from m o
+same_end test from n m o e h = subst (λ k. FirstInRange test from k o) e h

@@ -1,16 +1,13 @@
 -- What the readers of a solution say of the tags that a word may meet.
-use Rattle.std.proofs.Common.{◌≡◌, ℕ, ◌+◌, ◌<◌, length, take, get_or, slice_get, Bool, true, false, ◌||◌, nat_eq, List, [], ◌∷◌, ◌++◌, map, Option, Some, None, refl, sym, ap, ◌∙◌, subst, inl, inr, ⊎_elim, arith}
+use Rattle.std.proofs.Common.{◌≡◌, ℕ, slice_get, Bool, true, false, ◌||◌, nat_eq, List, [], ◌∷◌, Option, Some, None, refl, sym, ap, ◌∙◌, subst, inl, inr, ⊎_elim, arith}
 use Rattle.std.specs.Prelude.{◌⊎◌, ◌↔◌}
 use Rattle.std.proofs.lemmas.Bool.Decides.{nat_tests}
-use Rattle.std.proofs.lemmas.List.{take_more}
 use Rattle.grin_syntax.specs.declared.program.TagId.{TagId}
 use Rattle.grin_syntax.specs.declared.program.VarId.{VarId}
-use Rattle.grin_syntax.specs.declared.program.Site.{Site}
 use Rattle.grin_syntax.specs.declared.program.GlobalCell.{GlobalCell}
 use Rattle.grin_syntax.specs.declared.program.Word as W
 use Rattle.grin_syntax.specs.declared.program.Word.TheVariants as of_word
 use Rattle.grin_syntax.specs.Tree.{Program}
-use Rattle.grin_syntax.proofs.Pieces.{map_push}
 use Rattle.flow_system.specs.declared.fact.Element.{Element}
 use Rattle.flow_system.specs.declared.fact.Element.TheVariants.{Cell, Tag as tag, Number}
 use Rattle.flow_system.specs.declared.fact.Place.TheVariants.{Site as site, Var as var}
@@ -56,14 +53,6 @@ tags_met A s ts exact t = same_bool _ _ (λ e. ((exact t).0 (in_from t ts e)).th
 
 -- ---- the cells of a variable
 
-in_some : (test : ℕ → Bool) (s : ℕ) (xs : List ℕ) → In s xs → test s ≡ true → some_of test xs ≡ true
-in_some test s [] h e = none_in h
-in_some test s (x ∷ xs) h e = ⊎_elim (λ q. or_true (test x) (some_of test xs) (inl (subst (λ k. test k ≡ true) q e))) (λ t. or_true (test x) (some_of test xs) (inr (in_some test s xs t e))) (cons_in x xs h)
-
-some_in : (test : ℕ → Bool) (xs : List ℕ) → some_of test xs ≡ true → (s : ℕ) × In s xs × (test s ≡ true)
-some_in test [] e = cc
-some_in test (x ∷ xs) e = ⊎_elim (λ a. (x, here, a)) (λ b. let r = some_in test xs b in (r.0, there r.1, r.2)) (or_cases (test x) (some_of test xs) e)
-
 cell_some : (test : ℕ → Bool) (p : Program) (A : Solution) (us : List Element) → some_of test (cells_in p A us) ≡ true → (s : ℕ) × (among (Cell s) us ≡ true) × (test s ≡ true)
 cell_some test p A [] e = cc
 cell_some test p A (Cell s ∷ us) e = ⊎_elim
@@ -73,39 +62,31 @@ cell_some test p A (Cell s ∷ us) e = ⊎_elim
 cell_some test p A (tag t ∷ us) e = cell_some test p A us e
 cell_some test p A (Number ∷ us) e = cell_some test p A us e
 
-pub cells_met : (p : Program) (A : Solution) (x : ℕ) (ss : List ℕ) → ((s : ℕ) → In s ss ↔ At A (var x) (word 0) (Cell s)) → (test : ℕ → Bool) → some_of test ss ≡ some_of test (cells_in p A (A (var x) (word 0)))
-cells_met p A x ss exact test = same_bool _ _
-    (λ e. let r = some_in test ss e in some_cell test r.0 r.2 p A (A (var x) (word 0)) ((exact r.0).0 r.1).there)
-    (λ e. let r = cell_some test p A (A (var x) (word 0)) e in in_some test r.0 ss ((exact r.0).1 (record { there = r.1 })) r.2)
-
--- ---- a loop over sites
-
-or_assoc : (a b c : Bool) → (a || (b || c)) ≡ ((a || b) || c)
-or_assoc true b c = refl
-or_assoc false b c = refl
-
-pub some_push : (test : ℕ → Bool) (xs : List ℕ) (x : ℕ) → (some_of test xs || test x) ≡ some_of test (xs ++ x ∷ [])
-some_push test [] x = sym (or_false (test x))
-some_push test (y ∷ xs) x = sym (or_assoc (test y) (some_of test xs) (test x)) ∙ ap (λ b. test y || b) (some_push test xs x)
-
 -- ---- what a word may meet
 
 -- whether the solution has a tag at one of the sites
 abbrev pub has_tag : Solution → List ℕ → ℕ → Bool
 has_tag A ss t = some_of (λ s. among (tag t) (A (site s) tags)) ss
 
-module _ (A : Solution) (from : ℕ) (o : Option TagId) where
-  pub site_more : (sites : List Site) (i : ℕ) (d : Site) → i < length sites → IsFirst (λ t. has_tag A (map (λ s. s.0) (take i sites)) t || among (tag t) (A (site (get_or sites i d).0) tags)) from o
-      → IsFirst (has_tag A (map (λ s. s.0) (take (i + 1) sites))) from o
-  site_more sites i d lt = same_first _ _ from o (λ t.
-      some_push (λ s. among (tag t) (A (site s) tags)) (map (λ s. s.0) (take i sites)) (get_or sites i d).0
-      ∙ ap (λ ss. has_tag A ss t) (sym (map_push (λ s. s.0) (take i sites) (get_or sites i d)) ∙ ap (map (λ s. s.0)) (sym (take_more sites i d lt))))
+-- the tags in the cells of a variable
+tags_in_cells : (p : Program) (A : Solution) (x : ℕ) (ts : List ℕ)
+    → ((t : ℕ) → In t ts ↔ ((s : ℕ) × At A (var x) (word 0) (Cell s) × At A (site s) tags (tag t)))
+    → (t : ℕ) → is_in t ts ≡ has_tag A (cells_in p A (A (var x) (word 0))) t
+tags_in_cells p A x ts exact t =
+    let test : ℕ → Bool = λ s. among (tag t) (A (site s) tags) in
+    let us : List Element = A (var x) (word 0) in
+    same_bool _ _
+    (λ e. let r = (exact t).0 (in_from t ts e) in some_cell test r.0 r.2.there p A us r.1.there)
+    (λ e. let r = cell_some test p A us e in from_in t ts ((exact t).1 (r.0, record { there = r.1 }, record { there = r.2 })))
 
+module _ (A : Solution) (from : ℕ) (o : Option TagId) where
   pub global_meets : (p : Program) (i : ℕ) (c : GlobalCell) → slice_get p.globals i ≡ Some c → IsFirst (λ t. among (tag t) (A (site c.site.0) tags)) from o → IsFirst (has_tag A (sites_of p A (of_word.Global i))) from o
   global_meets p i c e = same_first _ _ from o (λ t. sym (or_false (among (tag t) (A (site c.site.0) tags))) ∙ ap (λ g. has_tag A (site_of p A g) t) (sym e))
 
-  pub variable_meets : (p : Program) (x : VarId) (a : W.Word) (ss : List ℕ) → a ≡ of_word.Var x → ((s : ℕ) → In s ss ↔ At A (var x.0) (word 0) (Cell s)) → IsFirst (has_tag A ss) from o → IsFirst (has_tag A (sites_of p A a)) from o
-  variable_meets p x a ss e exact = same_first _ _ from o (λ t. cells_met p A x.0 ss exact (λ s. among (tag t) (A (site s) tags)) ∙ ap (λ w. has_tag A (sites_of p A w) t) (sym e))
+  pub variable_meets : (p : Program) (x : VarId) (a : W.Word) (ts : List ℕ) → a ≡ of_word.Var x
+      → ((t : ℕ) → In t ts ↔ ((s : ℕ) × At A (var x.0) (word 0) (Cell s) × At A (site s) tags (tag t)))
+      → IsFirst (λ t. is_in t ts) from o → IsFirst (has_tag A (sites_of p A a)) from o
+  variable_meets p x a ts e exact = same_first _ _ from o (λ t. tags_in_cells p A x.0 ts exact t ∙ ap (λ w. has_tag A (sites_of p A w) t) (sym e))
 
   pub same_word_meets : (p : Program) (a b : W.Word) → a ≡ b → IsFirst (has_tag A (sites_of p A b)) from o → IsFirst (has_tag A (sites_of p A a)) from o
   same_word_meets p a b e h = subst (λ w. IsFirst (has_tag A (sites_of p A w)) from o) (sym e) h

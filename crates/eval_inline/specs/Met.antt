@@ -19,6 +19,6 @@ pub data IsFirst (test : ℕ → Bool) (from : ℕ) : Option TagId → Type 0 wh
   first : {r : TagId} → from ≤ r.0 → test r.0 ≡ true → ((t : ℕ) → from ≤ t → t < r.0 → test t ≡ false) → IsFirst test from (Some r)
 
 -- the numbers below `end`, from `from` on, for which a test holds: none, or this one and those after it
-pub record NextBelow (test : ℕ → Bool) (from end : ℕ) (o : Option TagId) : Type 0 where
+pub record FirstInRange (test : ℕ → Bool) (from end : ℕ) (o : Option TagId) : Type 0 where
   pub next : MatchOption o (those test from (end - from) ≡ []) (λ t. those test from (end - from) ≡ t.0 ∷ those test (suc t.0) (end - suc t.0))
   pub within : IfSome o (λ t. (from ≤ t.0) × (t.0 < end))

@@ -35,8 +35,12 @@ impl Inlining<'_> {
         fresh: &mut Fresh,
         block: Block,
     ) -> Result<Block, AllocError>
-        ensures is { IfOk result (λ b. code_of b ≡ eval_code (program_of self.now.program.now) (found self.now.flow.now) fresh.old.next (code_of block)) }
-        ensures next { OnOk result (fresh.new.next ≡ fresh.old.next + code_room (program_of self.now.program.now) (found self.now.flow.now) (code_of block)) }
+        ensures is { IfOk result (λ b. code_of b
+            ≡ eval_code (program_of self.now.program.now) (found self.now.flow.now) fresh.old.next
+            (code_of block)) }
+        ensures next { OnOk result (fresh.new.next
+            ≡ fresh.old.next + code_room (program_of self.now.program.now) (found self.now.flow.now)
+            (code_of block)) }
     {
         let mut stmts = Seq::new(alloc);
         for stmt in block.stmts.into_vec() {
@@ -58,8 +62,16 @@ impl Inlining<'_> {
         stmt: Stmt,
         made: &mut Seq<Stmt>,
     ) -> Result<(), AllocError>
-        ensures is { OnOk result ((c : Code) → all_before (map before_of made.new) (eval_code (program_of self.now.program.now) (found self.now.flow.now) fresh.new.next c) ≡ all_before (map before_of made.old) (eval_code (program_of self.now.program.now) (found self.now.flow.now) fresh.old.next (before_of stmt c))) }
-        ensures next { OnOk result ((c : Code) → fresh.new.next + code_room (program_of self.now.program.now) (found self.now.flow.now) c ≡ fresh.old.next + code_room (program_of self.now.program.now) (found self.now.flow.now) (before_of stmt c)) }
+        ensures is { OnOk result ((c : Code)
+            → all_before (map before_of made.new)
+            (eval_code (program_of self.now.program.now) (found self.now.flow.now) fresh.new.next c)
+            ≡ all_before (map before_of made.old)
+            (eval_code (program_of self.now.program.now) (found self.now.flow.now) fresh.old.next
+            (before_of stmt c))) }
+        ensures next { OnOk result ((c : Code)
+            → fresh.new.next + code_room (program_of self.now.program.now) (found self.now.flow.now)
+            c ≡ fresh.old.next + code_room (program_of self.now.program.now)
+            (found self.now.flow.now) (before_of stmt c)) }
     {
         match stmt {
             Stmt::Store(cells) => made.push(Stmt::Store(cells))?,
@@ -80,8 +92,12 @@ impl Inlining<'_> {
         op: Op,
         before: &mut Seq<Stmt>,
     ) -> Result<Op, AllocError>
-        ensures is { IfOk result (λ o. Follows (program_of self.now.program.now) (found self.now.flow.now) fresh.old.next (act_of op) before.old before.new (act_of o)) }
-        ensures next { OnOk result (fresh.new.next ≡ fresh.old.next + act_room (program_of self.now.program.now) (found self.now.flow.now) (act_of op)) }
+        ensures is { IfOk result (λ o.
+            Follows (program_of self.now.program.now) (found self.now.flow.now) fresh.old.next
+            (act_of op) before.old before.new (act_of o)) }
+        ensures next { OnOk result (fresh.new.next
+            ≡ fresh.old.next + act_room (program_of self.now.program.now) (found self.now.flow.now)
+            (act_of op)) }
     {
         match op {
             Op::Eval(word) => {
@@ -124,8 +140,14 @@ impl Inlining<'_> {
         node: VarId,
         word: Word,
     ) -> Result<Op, AllocError>
-        ensures is { IfOk result (λ o. act_of o ≡ case (NodeVar node) (eval_arms (program_of self.now.program.now) (found self.now.flow.now) word node.0 fresh.old.next (tags_of (program_of self.now.program.now) (found self.now.flow.now) word))) }
-        ensures next { OnOk result (fresh.new.next ≡ fresh.old.next + arms_room (program_of self.now.program.now) (found self.now.flow.now) (tags_of (program_of self.now.program.now) (found self.now.flow.now) word)) }
+        ensures is { IfOk result (λ o. act_of o
+            ≡ case (NodeVar node)
+            (eval_arms (program_of self.now.program.now) (found self.now.flow.now) word node.0
+            fresh.old.next (tags_of (program_of self.now.program.now) (found self.now.flow.now)
+            word))) }
+        ensures next { OnOk result (fresh.new.next
+            ≡ fresh.old.next + arms_room (program_of self.now.program.now) (found self.now.flow.now)
+            (tags_of (program_of self.now.program.now) (found self.now.flow.now) word)) }
     {
         let mut alts = Seq::new(alloc);
         let mut from = 0;
@@ -146,8 +168,12 @@ impl Inlining<'_> {
         tag: TagId,
     ) -> Result<Alt, AllocError>
         requires { tag.0 < length self.now.program.now.tags }
-        ensures is { IfOk result (λ a. (rest : Arms) → arm a.pattern (code_of a.body) rest ≡ eval_arm (program_of self.now.program.now) (found self.now.flow.now) word node.0 fresh.old.next tag.0 (slice_get self.now.program.now.tags tag.0) rest) }
-        ensures next { OnOk result (fresh.new.next ≡ suc (fresh.old.next + fields_at (program_of self.now.program.now) (found self.now.flow.now) (slice_get self.now.program.now.tags tag.0))) }
+        ensures is { IfOk result (λ a. (rest : Arms) → arm a.pattern (code_of a.body) rest
+            ≡ eval_arm (program_of self.now.program.now) (found self.now.flow.now) word node.0
+            fresh.old.next tag.0 (slice_get self.now.program.now.tags tag.0) rest) }
+        ensures next { OnOk result (fresh.new.next
+            ≡ suc (fresh.old.next + fields_at (program_of self.now.program.now)
+            (found self.now.flow.now) (slice_get self.now.program.now.tags tag.0))) }
     {
         let known = &self.program.tags.as_slice()[tag.0 as usize];
         let fields = fresh.variables(alloc, known.fields)?;
@@ -195,7 +221,9 @@ fn updating(
     word: Word,
     given: VarId,
 ) -> Result<Block, AllocError>
-    ensures { IfOk result (λ b. code_of b ≡ bind (NodeTarget given) (call f (map Var fields.now)) (bind Nothing (update word (NodeVar given)) (end (unit (NodeVar given))))) }
+    ensures { IfOk result (λ b. code_of b
+        ≡ bind (NodeTarget given) (call f (map Var fields.now))
+        (bind Nothing (update word (NodeVar given)) (end (unit (NodeVar given))))) }
 {
     let mut stmts = Seq::new(alloc);
     let words = as_words(alloc, fields)?;

@@ -29,8 +29,10 @@ pub fn inlining_keeps()
 
 /// The program with each evaluation as a fetch and a case over the tags that the solution has where it looks. More variables than can be numbered are want of memory.
 pub fn inline(alloc: Global, mut g: Grin, flow: &Flow) -> Result<Grin, AllocError>
-    ensures inlined { IfOk result (λ h. program_of h ≡ eval_inlined (found flow.now) (program_of g)) }
-    ensures meaning { IsAnalysed (found flow.now) (program_of g) → IfOk result (λ h. Keeps (program_of g) (program_of h)) }
+    ensures inlined { IfOk result (λ h. program_of h
+        ≡ eval_inlined (found flow.now) (program_of g)) }
+    ensures meaning { IsAnalysed (found flow.now) (program_of g)
+        → IfOk result (λ h. Keeps (program_of g) (program_of h)) }
     ensures formed { Formed (program_of g) → IfOk result (λ h. Formed (program_of h)) }
     ensures no_eval { IfOk result (λ h. HasNoEval (program_of h)) }
 {

@@ -1,6 +1,6 @@
 // The tags that an evaluation may meet, one after the other.
 
-ghost use Rattle.std.specs.Prelude.{◌≡◌, ◌<◌, ◌≤◌, ◌||◌, suc, length, [], ◌∷◌, map, MatchOption, IfSome, ℕ, Bool};
+ghost use Rattle.std.specs.Prelude.{◌≡◌, ◌<◌, ◌≤◌, suc, length, [], ◌∷◌, map, MatchOption, IfSome, ℕ, Bool};
 ghost use Rattle.std.specs.List.Sorted.{IsStrictlyIncreasing};
 ghost use Rattle.grin_syntax.specs.Tree.{program_of};
 ghost use Rattle.flow_system.specs.Solution.{among};
@@ -10,18 +10,20 @@ ghost use Rattle.flow_system.specs.declared.fact.Part.TheVariants.{Tags as tags}
 ghost use Rattle.eval_inline.specs.Inlining.{some_of, sites_of};
 ghost use Rattle.points_to.specs.Found.{found};
 ghost use Rattle.points_to.specs.Wanted.{is_in};
-ghost use Rattle.eval_inline.specs.Met.{tags_from, IsFirst, NextBelow};
+ghost use Rattle.eval_inline.specs.Met.{tags_from, IsFirst, FirstInRange};
 
 use grin_syntax::{Grin, Site, TagId, Word};
 use points_to::Flow;
 
 /// The first tag of the program, from number `from` on, that the solution has at a cell that the word may stand for.
 pub fn next_tag(g: &Grin, flow: &Flow, word: &Word, from: usize) -> Option<TagId>
-    ensures next { MatchOption result (tags_from (program_of g.now) (found flow.now) word.now from ≡ []) (λ t. tags_from (program_of g.now) (found flow.now) word.now from ≡ t.0 ∷ tags_from (program_of g.now) (found flow.now) word.now (suc t.0)) }
+    ensures next { MatchOption result (tags_from (program_of g.now) (found flow.now) word.now from
+        ≡ []) (λ t. tags_from (program_of g.now) (found flow.now) word.now from ≡ t.0
+        ∷ tags_from (program_of g.now) (found flow.now) word.now (suc t.0)) }
     ensures within { IfSome result (λ t. (from ≤ t.0) × (t.0 < length g.now.tags)) }
 {
     let first = match word {
-        Word::Var(x) => first_of(flow, flow.locs_of(*x), from),
+        Word::Var(x) => first_from(flow.tags_met(*x), from),
         Word::Global(i) => first_of_global(g, flow, *i, from),
         Word::Lit(_) => None,
         Word::TagWord(_) => None,
@@ -31,23 +33,13 @@ pub fn next_tag(g: &Grin, flow: &Flow, word: &Word, from: usize) -> Option<TagId
 
 // The first tag, from number `from` on, at a global cell.
 fn first_of_global(g: &Grin, flow: &Flow, global: u32, from: usize) -> Option<TagId>
-    ensures { IsFirst (λ t. some_of (λ s. among (tag t) (found flow.now (site s) tags)) (sites_of (program_of g.now) (found flow.now) (Word.Global global))) from result }
+    ensures { IsFirst (λ t. some_of (λ s. among (tag t) (found flow.now (site s) tags))
+        (sites_of (program_of g.now) (found flow.now) (Word.Global global))) from result }
 {
     match g.globals.get(global as usize) {
         Some(cell) => first_at(flow, cell.site, from),
         None => None,
     }
-}
-
-// The first tag, from number `from` on, at the cells of some sites.
-fn first_of(flow: &Flow, sites: &[Site], from: usize) -> Option<TagId>
-    ensures { IsFirst (λ t. some_of (λ s. among (tag t) (found flow.now (site s) tags)) (map (λ s. s.0) sites.now)) from result }
-{
-    let mut first = None;
-    for site in sites {
-        first = earlier(first, first_at(flow, *site, from));
-    }
-    first
 }
 
 // The first tag, from number `from` on, at the cells of a site.
@@ -70,22 +62,10 @@ fn first_from(ascending: &[TagId], from: usize) -> Option<TagId>
     }
 }
 
-// The lower of two tags, where there are any.
-fn earlier(a: Option<TagId>, b: Option<TagId>) -> Option<TagId>
-    ensures { (p q : ℕ → Bool) (from : ℕ) → IsFirst p from a → IsFirst q from b → IsFirst (λ t. p t || q t) from result }
-{
-    match a {
-        Some(s) => match b {
-            Some(t) => Some(if s.0 <= t.0 { s } else { t }),
-            None => Some(s),
-        },
-        None => b,
-    }
-}
-
 // A tag, where it is below this number.
 fn below(tag: Option<TagId>, end: usize) -> Option<TagId>
-    ensures { (test : ℕ → Bool) (from : ℕ) → IsFirst test from tag → NextBelow test from end result }
+    ensures { (test : ℕ → Bool) (from : ℕ) → IsFirst test from tag
+        → FirstInRange test from end result }
 {
     match tag {
         Some(t) => { if (t.0 as usize) < end { Some(t) } else { None } }

@@ -12,7 +12,7 @@ use Rattle.grin_syntax.specs.Fresh.{variable, variables, past_procs}
 use Rattle.grin_syntax.proofs.Counted.{times_append, counts, fresh, fresh_below, fresh_once, fresh_next, fresh_split}
 use Rattle.grin_syntax.proofs.Unbound.{past_procs_none}
 use Rattle.grin_meaning.specs.Ready.{most_fields}
-use Rattle.fetch_passes.specs.Uses.{code_uses}
+use Rattle.pass_ground.specs.Uses.{code_uses}
 use Rattle.fetch_passes.specs.Windows.{outside}
 use Rattle.fetch_passes.specs.Names.{Names, Wait, as_word, as_cells}
 use Rattle.fetch_passes.specs.Split.{fetched_if, word_fetches, front, front_names, names_after, waits_after, cell_after, all_words, node_arms, whole_node, split_act, split_code, split_arms, split_procs, made_act, made_code, made_arms}

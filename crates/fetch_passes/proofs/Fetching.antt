@@ -18,7 +18,7 @@ use Rattle.grin_meaning.proofs.Beside.{no_deeper, Beside, beside}
 use Rattle.grin_meaning.proofs.Rules.{Relation, Plan, Setting, CallsFollow, CodeFollows, code_more}
 use Rattle.grin_meaning.proofs.Procedures.{side_by_side}
 use Rattle.grin_meaning.proofs.OneSided.{right_follows}
-use Rattle.fetch_passes.specs.Uses.{word_is, code_uses}
+use Rattle.pass_ground.specs.Uses.{word_is, code_uses}
 use Rattle.fetch_passes.specs.Windows.{outside}
 use Rattle.fetch_passes.specs.Names.{Names, Wait, as_word, named_if}
 use Rattle.fetch_passes.specs.Split.{fetched_if, word_fetches, front, front_names}

@@ -1,5 +1,5 @@
 -- The first words of a vector, and the first statement of a block.
-use Rattle.std.proofs.Common.{◌≡◌, ℕ, zero, suc, ◌+◌, ◌<◌, ◌≤◌, Bool, true, false, cond, ◌||◌, ◌&&◌, List, [], ◌∷◌, map, take, drop, length, get_or, Option, Some, None, slice_get, refl, sym, ap, ◌∙◌, subst, arith}
+use Rattle.std.proofs.Common.{◌≡◌, ℕ, zero, suc, ◌+◌, ◌<◌, ◌≤◌, Bool, false, cond, ◌||◌, ◌&&◌, List, [], ◌∷◌, map, take, drop, length, get_or, Option, Some, None, slice_get, refl, sym, ap, ◌∙◌, subst, arith}
 use Rattle.grin_syntax.specs.declared.program.Cell.{Cell}
 use Rattle.grin_syntax.specs.declared.program.Word.{Word}
 use Rattle.grin_syntax.specs.declared.program.Val.{Val}
@@ -13,7 +13,8 @@ use Rattle.grin_syntax.specs.Tree.{Code, Arms, no_arm, arm, act_of, before_of, a
 use Rattle.grin_syntax.proofs.TreeOf.{before_of-Store, before_of-Bind}
 use Rattle.grin_syntax.proofs.Pieces.{take_next, all_arms, all_arms_none, all_arms_push}
 use Rattle.std.proofs.lemmas.List.{take_all}
-use Rattle.fetch_passes.specs.Uses.{word_is, val_uses, cells_use, act_uses, code_uses}
+use Rattle.pass_ground.specs.Uses.{word_is, val_uses, cells_use, act_uses, code_uses, act_mentions}
+use Rattle.pass_ground.proofs.Tests.{or_none, or_later}
 use Rattle.fetch_passes.specs.Windows.{begins_with, is_int, tests_number, vector_uses, act_owns, is_passed, owns, act_outside, outside}
 
 pub begins_some : (t : ℕ) (v : Val) (ws : List Word) (a : Word) → v ≡ Vector ws → slice_get ws 0 ≡ Some a → word_is t a ≡ begins_with t v
@@ -57,11 +58,11 @@ unfolding owns
 bind_owns t u o c later result owned passed p q r e = ap (owns t) (ap (λ f. f c) (before_of-Bind u o)) ∙ (λ i. cond (sym p i) (e i) (sym q i)) ∙ sym r
 
 pub bind_uses : (x : ℕ) (u : Target) (o : Op) (c : Code) (later one result : Bool) → one ≡ act_uses x (act_of o) → result ≡ (one || later) → code_uses x c ≡ later → code_uses x (before_of (Bind u o) c) ≡ result
-unfolding act_uses
+unfolding act_mentions
 bind_uses x u o c later one result q r e = ap (code_uses x) (ap (λ f. f c) (before_of-Bind u o)) ∙ (λ i. sym q i || e i) ∙ sym r
 
 pub store_uses : (x : ℕ) (cs : List Cell) (c : Code) (later one result : Bool) → one ≡ cells_use x cs → result ≡ (one || later) → code_uses x c ≡ later → code_uses x (before_of (Store cs) c) ≡ result
-unfolding act_uses
+unfolding act_mentions
 store_uses x cs c later one result q r e = ap (code_uses x) (ap (λ f. f c) (before_of-Store cs)) ∙ (λ i. sym q i || e i) ∙ sym r
 
 pub bind_outside : (t x : ℕ) (u : Target) (o : Op) (c : Code) (later used uses first outer second passed result : Bool) → uses ≡ act_uses x (act_of o) → first ≡ (uses || later) → outer ≡ act_outside t x (act_of o) → second ≡ (outer || used) → passed ≡ is_passed (act_of o) → result ≡ cond passed first second
@@ -71,7 +72,7 @@ bind_outside t x u o c later used uses first outer second passed result a b d f 
     ap (outside t x) (ap (λ f. f c) (before_of-Bind u o)) ∙ (λ i. cond (sym p i) (sym a i || e i) (sym d i || k i)) ∙ (λ i. cond passed (sym b i) (sym f i)) ∙ sym r
 
 pub store_outside : (t x : ℕ) (cs : List Cell) (c : Code) (used one result : Bool) → one ≡ cells_use x cs → result ≡ (one || used) → code_uses x c ≡ used → outside t x (before_of (Store cs) c) ≡ result
-unfolding outside act_uses
+unfolding outside act_mentions
 store_outside t x cs c used one result q r e = ap (outside t x) (ap (λ f. f c) (before_of-Store cs)) ∙ (λ i. sym q i || e i) ∙ sym r
 
 -- ---- loops from the last statement on
@@ -98,14 +99,6 @@ pub code_none : (ss : List Stmt) (i : ℕ) (c : Code) → length ss ≤ i → co
 code_none ss i c le = ap (λ l. all_before (map before_of l) c) (drop_past ss i le)
 
 -- ---- alternatives
-
-or_none : (a : Bool) → (a || false) ≡ a
-or_none true = refl
-or_none false = refl
-
-or_later : (a b c : Bool) → (a || (b || c)) ≡ ((a || b) || c)
-or_later true b c = refl
-or_later false b c = refl
 
 pub record ArmsTest (as' : List Alt) (tests : Bool) : Type 0 where
   pub by : (r : Arms) → tests_number (all_arms (map arm_of as') r) ≡ (tests || tests_number r)

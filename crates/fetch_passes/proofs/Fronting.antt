@@ -9,7 +9,7 @@ use Rattle.grin_syntax.specs.Tree.{Code, end, store, bind, Act, fetch, fetch_wor
 use Rattle.grin_syntax.specs.Formed.{AllOf}
 use Rattle.grin_syntax.specs.Fresh.{variable}
 use Rattle.grin_meaning.specs.Ready.{Any, EachAct, EachCode, EachArms}
-use Rattle.fetch_passes.specs.Uses.{code_uses}
+use Rattle.pass_ground.specs.Uses.{code_uses}
 use Rattle.fetch_passes.specs.Windows.{owns, outside}
 use Rattle.fetch_passes.specs.Names.{Names, Wait, as_word, hiding}
 use Rattle.fetch_passes.specs.Split.{fetched_if, word_fetches, waits_of, front, front_names, split_act, split_code, split_arms, split_procs, made_act, made_code}

@@ -1,11 +1,10 @@
 -- A program with its fetches split keeps the program.
-use Rattle.std.proofs.Common.{◌≡◌, ℕ, zero, suc, pos, ◌+◌, ◌<◌, ◌≤◌, true, List, [], ◌∷◌, ◌++◌, length, Some, refl, ap, arith}
+use Rattle.std.proofs.Common.{◌≡◌, ℕ, zero, suc, pos, ◌+◌, ◌<◌, ◌≤◌, true, List, [], ◌∷◌, length, Some, refl, ap, arith}
 use Rattle.grin_syntax.specs.declared.program.Word.TheVariants.{Lit}
 use Rattle.grin_syntax.specs.Tree.{Procedure, Program}
 use Rattle.grin_syntax.specs.Binders.{times, numbers_of, code_vars, procs_vars}
 use Rattle.grin_syntax.specs.Formed.{AllOf, InScope, params_scope, ProcedureFormed, Formed}
 use Rattle.grin_syntax.specs.Fresh.{past_vars, past_code, past_procs}
-use Rattle.grin_syntax.proofs.Counted.{times_append}
 use Rattle.grin_syntax.proofs.Unbound.{past_vars_none, past_code_none}
 use Rattle.grin_meaning.specs.Values.{Datum, Value, HeapCell, Binding, with_vars, one_each}
 use Rattle.grin_meaning.specs.Run.{Calls}
@@ -25,6 +24,7 @@ use Rattle.fetch_passes.specs.Split.{made_code, split_code, split_procs, split}
 use Rattle.fetch_passes.proofs.Near.{itself, Near}
 use Rattle.fetch_passes.proofs.Fetching.{plan_of, it}
 use Rattle.fetch_passes.proofs.Simulated.{code_goes}
+use Rattle.fetch_passes.proofs.Once.{first_once, others_once}
 
 pub split_count : (g : Program) (n : ℕ) (qs : List Procedure) → length (split_procs g.tags n qs) ≡ length qs
 split_count g n [] = refl
@@ -90,17 +90,10 @@ module _ (g : Program) (formed : Formed g) (never : NeverMissed g) (inlined : Al
         (bodies_go (suc f) (n + made_code g.tags [] q.body) qs (omega (arith, le)) fq.1 iq.1 bq.1 later (omega (arith, past)))
       where
         here : (y : ℕ) → times y (numbers_of q.params) + times y (code_vars q.body) ≤ 1
-        here y =
-            let o : times y ((numbers_of q.params ++ code_vars q.body) ++ procs_vars qs) ≤ 1 = once y in
-            let e : times y ((numbers_of q.params ++ code_vars q.body) ++ procs_vars qs) ≡ times y (numbers_of q.params ++ code_vars q.body) + times y (procs_vars qs) = times_append y (numbers_of q.params ++ code_vars q.body) (procs_vars qs) in
-            let f : times y (numbers_of q.params ++ code_vars q.body) ≡ times y (numbers_of q.params) + times y (code_vars q.body) = times_append y (numbers_of q.params) (code_vars q.body) in
-            omega (arith, o, e, f)
+        here y = first_once q qs y (once y)
 
         later : (y : ℕ) → times y (procs_vars qs) ≤ 1
-        later y =
-            let o : times y ((numbers_of q.params ++ code_vars q.body) ++ procs_vars qs) ≤ 1 = once y in
-            let e : times y ((numbers_of q.params ++ code_vars q.body) ++ procs_vars qs) ≡ times y (numbers_of q.params ++ code_vars q.body) + times y (procs_vars qs) = times_append y (numbers_of q.params ++ code_vars q.body) (procs_vars qs) in
-            omega (arith, o, e)
+        later y = others_once q qs y (once y)
 
   -- ---- the whole program
 

@@ -22,7 +22,7 @@ use Rattle.grin_meaning.proofs.Beside.{no_deeper, beside, gives_too, Sim, need_f
 use Rattle.grin_meaning.proofs.Rules.{Relation, Here, Setting, CallsFollow, ActFollows, CodeFollows, end_follows}
 use Rattle.grin_meaning.proofs.OneSided.{right_follows}
 use Rattle.fetch_passes.specs.Split.{all_words, node_arms, whole_node}
-use Rattle.fetch_passes.proofs.Found.{equal_self, equal_not}
+use Rattle.pass_ground.proofs.Tests.{equal_self, equal_not}
 use Rattle.fetch_passes.proofs.Steps.{plus, plus_out, plus_in}
 use Rattle.fetch_passes.proofs.Fetching.{fetches, plan_of, it, cells_same}
 

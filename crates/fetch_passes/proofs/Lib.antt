@@ -1,4 +1,5 @@
 pub mod Found
+pub mod Once
 pub mod Near
 pub mod Steps
 pub mod Words
@@ -16,7 +17,7 @@ pub mod Splits
 pub mod Shape
 pub mod Counts
 pub mod Scoped
-pub mod Whole
+pub mod PassContract
 pub mod Used
 pub mod Placing
 pub mod Fronting

@@ -15,17 +15,19 @@ use Rattle.grin_syntax.specs.Fresh.{variable, variables, past_code, past_procs}
 use Rattle.grin_syntax.proofs.Counted.{times_append, counts, one_at}
 use Rattle.grin_syntax.proofs.Unbound.{past_code_none}
 use Rattle.grin_meaning.specs.Ready.{Any, NoNodeTarget, NoNodeVar, BindsNothing, EachAct, EachCode, EachArms, most_fields}
-use Rattle.fetch_passes.specs.Uses.{word_is, val_uses, act_uses, code_uses, arms_use}
+use Rattle.pass_ground.specs.Uses.{word_is, val_uses, code_uses, arms_use, act_mentions}
 use Rattle.fetch_passes.specs.Windows.{begins_with, is_int, tests_number, vector_uses, act_owns, owns, act_outside, outside}
 use Rattle.fetch_passes.specs.Names.{Names, Wait, as_word, as_val, hiding}
 use Rattle.fetch_passes.specs.Split.{fetched_if, word_fetches, waits_of, front, front_names, all_words, node_arms, whole_node, split_act, split_code, split_arms, split_procs, made_act, made_code}
 use Rattle.fetch_passes.specs.Placed.{ByNodes}
 use Rattle.fetch_passes.specs.Positions.{Tagged, Position, after_tag, at_front, elsewhere, GiveNodes, GivesNode, ActPlaced, CodePlaced, ArmsPlaced}
-use Rattle.fetch_passes.proofs.Found.{equal_so, equal_self, equal_not, never_both, same_var, is_waiting, hiding_is}
+use Rattle.pass_ground.proofs.Tests.{equal_so, equal_self, equal_not, never_both, same_var}
+use Rattle.fetch_passes.proofs.Found.{is_waiting, hiding_is}
 use Rattle.fetch_passes.proofs.Near.{At, itself, renamed, gone, Sound, sound_more}
 use Rattle.fetch_passes.proofs.Waiting.{waits_in, waits_outside, both_own, sound_new, sound_hiding, front_sound}
 use Rattle.fetch_passes.proofs.Kept.{below}
 use Rattle.fetch_passes.proofs.Used.{or_left, or_right, both_or, word_used, val_used, hiding_stays, not_here, not_waiting, act_used, code_used, all_in, once_after, once_before}
+use Rattle.fetch_passes.proofs.Once.{first_once, others_once}
 
 -- ---- the tag's variable stands for itself, and nothing else for it
 
@@ -106,7 +108,7 @@ owns_all t a i [] c = refl
 owns_all t a i (x ∷ xs) c = owns_all t a (suc i) xs c
 
 outside_fetch : (t y : ℕ) (o : Bool) (x : VarId) (a : W.Word) (i : ℕ) (c : Code) → outside t y c ≡ true → outside t y (fetched_if o x a i c) ≡ true
-unfolding outside act_uses
+unfolding outside act_mentions
 outside_fetch t y true x a i c h = or_right (word_is y a) (outside t y c) h
 outside_fetch t y false x a i c h = h
 
@@ -143,7 +145,7 @@ module _ (ts : List Tag) where
   owns_stays (bind u o b) ks a ps n t x h lt e k = owned_stays o ks a ps n t x
 
   act_outside_stays : (o : Act) (ks : Names) (a : W.Word) (ps : List Wait) (n : ℕ) (t z y : VarId) → Alone ks t → as_word ks (Var z) ≡ Var y → is_waiting ps z.0 ≡ false → times z.0 (act_vars o) ≡ 0 → EachAct Any NoNodeTarget NoNodeVar BindsNothing o → act_outside t.0 z.0 o ≡ true → act_outside t.0 y.0 (split_act ts ks a ps n o) ≡ true
-  unfolding split_act act_uses act_vars EachAct
+  unfolding split_act act_mentions act_vars EachAct
   act_outside_stays (case v as') ks a ps n t z y x is w h e u =
       ap (λ s. cond s (vector_uses (tests_number (split_arms ts ks a ps n as')) y.0 (as_val ks v)) (val_uses y.0 (as_val ks v) || arms_use y.0 (split_arms ts ks a ps n as'))) (begins_stays ks t x v) ∙ go (begins_with t.0 v) u
     where
@@ -154,7 +156,7 @@ module _ (ts : List Tag) where
 
   outside_stays : (b : Code) (ks : Names) (a : W.Word) (ps : List Wait) (n : ℕ) (t z y : VarId) → Alone ks t → as_word ks (Var z) ≡ Var y → is_waiting ps z.0 ≡ false → times t.0 (code_vars b) ≡ 0 → times z.0 (code_vars b) ≡ 0 → EachCode Any NoNodeTarget NoNodeVar BindsNothing b → EachCode ByNodes Any Any Any b
       → outside t.0 z.0 b ≡ true → outside t.0 y.0 (split_code ts ks a ps n b) ≡ true
-  unfolding split_act outside act_uses code_vars EachAct made_act
+  unfolding split_act outside act_mentions code_vars EachAct made_act
   outside_stays (end (fetch c)) ks a ps n t z y x is w h v0 e k u = or_left (word_is y.0 (as_word ks c)) _ (word_used ks z y is c u)
   outside_stays (end o) ks a ps n t z y x is w h v0 e k u = act_outside_stays o ks a ps n t z y x is w v0 e u
   outside_stays (store cs b) ks a ps n t z y x is w h v0 e k u = code_used ts (store cs b) ks a ps n z y is w v0 e u
@@ -522,14 +524,7 @@ module _ (ts : List Tag) (base : ℕ) where
   )
     where
       here : (y : ℕ) → times y [] + times y (code_vars q.body) ≤ 1
-      here y =
-          let o : times y ((numbers_of q.params ++ code_vars q.body) ++ procs_vars qs) ≤ 1 = once y in
-          let f : times y ((numbers_of q.params ++ code_vars q.body) ++ procs_vars qs) ≡ times y (numbers_of q.params ++ code_vars q.body) + times y (procs_vars qs) = times_append y (numbers_of q.params ++ code_vars q.body) (procs_vars qs) in
-          let g : times y (numbers_of q.params ++ code_vars q.body) ≡ times y (numbers_of q.params) + times y (code_vars q.body) = times_append y (numbers_of q.params) (code_vars q.body) in
-          omega (arith, o, f, g)
+      here y = omega (arith, first_once q qs y (once y))
 
       later : (y : ℕ) → times y (procs_vars qs) ≤ 1
-      later y =
-          let o : times y ((numbers_of q.params ++ code_vars q.body) ++ procs_vars qs) ≤ 1 = once y in
-          let f : times y ((numbers_of q.params ++ code_vars q.body) ++ procs_vars qs) ≡ times y (numbers_of q.params ++ code_vars q.body) + times y (procs_vars qs) = times_append y (numbers_of q.params ++ code_vars q.body) (procs_vars qs) in
-          omega (arith, o, f)
+      later y = others_once q qs y (once y)

@@ -22,11 +22,13 @@ use Rattle.grin_meaning.proofs.Back.{CallsBack}
 use Rattle.grin_meaning.proofs.Rules.{Relation, Here, Setting, CallsFollow, ActFollows, CodeFollows, ArmsFollow, code_more, BindsToo, CellToo, unit_follows, fetch_follows, fetch_word_follows, update_follows, call_follows, prim_follows, read_follows, write_follows, fail_follows, nested_follows, end_follows, store_follows, bind_follows, case_follows, no_arm_follows, arm_follows}
 use Rattle.grin_meaning.proofs.Plain.{then_has}
 use Rattle.grin_meaning.proofs.OneSided.{left_follows}
-use Rattle.fetch_passes.specs.Uses.{word_is, words_use, val_uses, cells_use, act_uses, code_uses, arms_use}
+use Rattle.pass_ground.specs.Uses.{word_is, words_use, val_uses, cells_use, act_uses, code_uses, arms_use, act_mentions}
 use Rattle.fetch_passes.specs.Windows.{begins_with, is_passed, owns, tests_number, vector_uses, act_outside, outside}
 use Rattle.fetch_passes.specs.Names.{Names, Wait, as_word, as_words, as_val, as_cells, hiding}
 use Rattle.fetch_passes.specs.Split.{waits_of, front, front_names, word_fetches, whole_node, split_act, split_code, split_arms, made_act, made_code}
-use Rattle.fetch_passes.proofs.Found.{no_left, no_right, equal_so, never_both, bound_names, places_names, is_var, is_waiting, hiding_is}
+use Rattle.pass_ground.proofs.Tests.{no_left, no_right, equal_so, never_both}
+use Rattle.pass_ground.proofs.Bound.{bound_names, places_names}
+use Rattle.fetch_passes.proofs.Found.{is_var, is_waiting, hiding_is}
 use Rattle.fetch_passes.proofs.Near.{Sound, sound_more, Held, held_more, held_as, Waits, Near, near_bind, word_kept}
 use Rattle.fetch_passes.proofs.Steps.{plus, plus_out, bound_each, numbered, node_waits, near_with, near_heap, near_fetched}
 use Rattle.fetch_passes.proofs.Words.{Clear, clear_left, clear_right, SameFits, same_fits, arms_same, fit_nothing, fewer_uses, word_goes, words_go, value_goes, node_goes, fills_go, node_fills, cells_go, all_fill_goes, own_goes}
@@ -291,7 +293,7 @@ module _ (g : Program) (base : ℕ) (procs : List Procedure) (same_count : lengt
       -- the value of a case, with the same alternative
       case_value : (t : ℕ) (v : V.Val) (as' : Arms) → PieceAct scope (case v as') → Window scope.words ks ps t (λ z. act_uses z (case v as')) (λ z. act_outside t z (case v as')) → (h : Here (plan_of g procs) R) (y : Value) → value_of g h.env v ≡ Some y
           → (y' : Value) × (value_of g h.env' (as_val ks v) ≡ Some y') × (Near g scope.words ks [] a ps h.w.cells h.env h.env' × SameFits g as' y y')
-      unfolding act_uses ActFormed EachAct
+      unfolding act_mentions ActFormed EachAct
       case_value t v as' q w h y e = go (begins_with t v) refl
         where
           go : (b : Bool) → begins_with t v ≡ b → (y' : Value) × (value_of g h.env' (as_val ks v) ≡ Some y') × (Near g scope.words ks [] a ps h.w.cells h.env h.env' × SameFits g as' y y')
@@ -336,15 +338,15 @@ module _ (g : Program) (base : ℕ) (procs : List Procedure) (same_count : lengt
       t2 = cond own v.0 t
 
       clear_word : Clear ks (λ z. word_is z d)
-      unfolding act_uses outside
+      unfolding act_mentions outside
       clear_word = by_waiting ks ps (λ z. word_is z d) (λ z e i. no_left (word_is z.0 d) (code_uses z.0 b) (w.hidden z e i)) (λ z i. no_left (word_is z d) (outside t z b) (w.waits z i))
 
       hidden_on : (z : VarId) → is_var (as_word ks (Var z)) ≡ false → is_waiting ps z.0 ≡ false → code_uses z.0 b ≡ false
-      unfolding act_uses
+      unfolding act_mentions
       hidden_on z e i = no_right (word_is z.0 d) (code_uses z.0 b) (w.hidden z e i)
 
       waits_on : (z : ℕ) → is_waiting ps z ≡ true → outside t z b ≡ false
-      unfolding act_uses outside
+      unfolding act_mentions outside
       waits_on z i = no_right (word_is z d) (outside t z b) (w.waits z i)
 
       fresh : (y : ℕ) → InScope ys y → times y scope.words ≡ 0 × y < base
@@ -568,7 +570,7 @@ module _ (g : Program) (base : ℕ) (procs : List Procedure) (same_count : lengt
 
     -- of an operation that ends a window, and of what comes after it
     act_window : (u : Target) (o : Act) (b : Code) (scope : Scope) (ks : Names) (ps : List Wait) (t : ℕ) → is_passed o ≡ false → CodeWindow scope ks ps t (bind u o b) → ActWindow scope ks ps t o
-    unfolding act_uses outside
+    unfolding act_mentions outside
     act_window u o b scope ks ps t e w = record {
       hidden = λ z i j. no_left (act_uses z.0 o) (code_uses z.0 b) (w.hidden z i j);
       waits = λ z i. no_left (act_outside t z o) (code_uses z b) (ap (λ p. cond p (act_uses z o || outside t z b) (act_outside t z o || code_uses z b)) (sym e) ∙ w.waits z i);
@@ -576,16 +578,16 @@ module _ (g : Program) (base : ℕ) (procs : List Procedure) (same_count : lengt
     }
 
     clear_after : (u : Target) (o : Act) (b : Code) (scope : Scope) (ks : Names) (ps : List Wait) (t : ℕ) → is_passed o ≡ false → CodeWindow scope ks ps t (bind u o b) → Clear ks (λ z. code_uses z b)
-    unfolding act_uses outside
+    unfolding act_mentions outside
     clear_after u o b scope ks ps t e w = by_waiting ks ps (λ z. code_uses z b) (λ z i j. no_right (act_uses z.0 o) (code_uses z.0 b) (w.hidden z i j))
         (λ z i. no_right (act_outside t z o) (code_uses z b) (ap (λ p. cond p (act_uses z o || outside t z b) (act_outside t z o || code_uses z b)) (sym e) ∙ w.waits z i))
 
     end_window : (o : Act) (scope : Scope) (ks : Names) (ps : List Wait) (t : ℕ) → CodeWindow scope ks ps t (end o) → ActWindow scope ks ps t o
-    unfolding act_uses outside
+    unfolding act_mentions outside
     end_window o scope ks ps t w = record { hidden = w.hidden; waits = w.waits; tagged = w.tagged }
 
     store_clear : (cs : List Cell) (b : Code) (scope : Scope) (ks : Names) (ps : List Wait) (t : ℕ) → CodeWindow scope ks ps t (store cs b) → Clear ks (λ z. cells_use z cs) × Clear ks (λ z. code_uses z b)
-    unfolding act_uses outside
+    unfolding act_mentions outside
     store_clear cs b scope ks ps t w = (
       by_waiting ks ps (λ z. cells_use z cs) (λ z i j. no_left (cells_use z.0 cs) (code_uses z.0 b) (w.hidden z i j)) (λ z i. no_left (cells_use z cs) (code_uses z b) (w.waits z i)),
       by_waiting ks ps (λ z. code_uses z b) (λ z i j. no_right (cells_use z.0 cs) (code_uses z.0 b) (w.hidden z i j)) (λ z i. no_right (cells_use z cs) (code_uses z b) (w.waits z i)),
@@ -604,11 +606,11 @@ module _ (g : Program) (base : ℕ) (procs : List Procedure) (same_count : lengt
     store_below cs b scope q = q.below
 
     passed_clear : (u : Target) (d : W.Word) (i : ℕ) (b : Code) (scope : Scope) (ks : Names) (ps : List Wait) (t : ℕ) → CodeWindow scope ks ps t (bind u (fetch_word d i) b) → Clear ks (λ z. word_is z d)
-    unfolding act_uses outside
+    unfolding act_mentions outside
     passed_clear u d i b scope ks ps t w = by_waiting ks ps (λ z. word_is z d) (λ z e j. no_left (word_is z.0 d) (code_uses z.0 b) (w.hidden z e j)) (λ z j. no_left (word_is z d) (outside t z b) (w.waits z j))
 
     passed_window : (u : Target) (d : W.Word) (i : ℕ) (b : Code) (scope : Scope) (ks : Names) (ps : List Wait) (t : ℕ) → NoNodeTarget u → CodeWindow scope ks ps t (bind u (fetch_word d i) b) → CodeWindow (with_target u scope) ks ps t b
-    unfolding act_uses outside
+    unfolding act_mentions outside
     passed_window u d i b scope ks ps t nt w = record {
       hidden = λ z e j. no_right (word_is z.0 d) (code_uses z.0 b) (w.hidden z e j);
       waits = λ z j. no_right (word_is z d) (outside t z b) (w.waits z j);
@@ -626,7 +628,7 @@ module _ (g : Program) (base : ℕ) (procs : List Procedure) (same_count : lengt
     }
 
     arm_clear : (s : Shape) (b : Code) (as' : Arms) (ks : Names) (ps : List Wait) (n : ℕ) → ((z : VarId) → is_var (as_word ks (Var z)) ≡ false → is_waiting ps z.0 ≡ false → arms_use z.0 (arm s b as') ≡ false) → Clear (front_names n ps b ks) (λ z. code_uses z b)
-    unfolding act_uses
+    unfolding act_mentions
     arm_clear s b as' ks ps n w z e = (let k : (is_var (as_word ks (Var z)) ≡ false) × (is_waiting ps z.0 ≡ true → code_uses z.0 b ≡ false) = front_hidden n ks ps b z e in go k.0 k.1 (is_waiting ps z.0) refl)
       where
         go : is_var (as_word ks (Var z)) ≡ false → (is_waiting ps z.0 ≡ true → code_uses z.0 b ≡ false) → (m : Bool) → is_waiting ps z.0 ≡ m → code_uses z.0 b ≡ false
@@ -654,7 +656,7 @@ module _ (g : Program) (base : ℕ) (procs : List Procedure) (same_count : lengt
     On zs ks a ps as' v v' cells env env' = Near g zs ks [] a ps cells env env' × SameFits g as' v v'
 
     mutual
-      unfolding split_act ActFormed EachAct act_uses made_act
+      unfolding split_act ActFormed EachAct act_mentions made_act
 
       act_goes : (o : Act) (scope : Scope) (ks : Names) (a : W.Word) (ps : List Wait) (n t : ℕ) → Ctx scope.words ks a ps n → PieceAct scope o → ActWindow scope ks ps t o → ActFollows st (NearR scope.words ks a ps) Same o (split_act g.tags ks a ps n o)
       act_goes (case v as') scope ks a ps n t x q w = case_follows st {R = NearR scope.words ks a ps} {U = On scope.words ks a ps as'} {V = Same} v (as_val ks v) as' (split_arms g.tags ks a ps n as')

@@ -10,9 +10,11 @@ use Rattle.grin_syntax.specs.Fresh.{variable}
 use Rattle.grin_syntax.proofs.Counted.{times_append, counts, one_at}
 use Rattle.grin_meaning.specs.Values.{Datum, tag, words, Env, HeapCell, and_then, only_word, padded, Binding, with_vars, one_each, word_of}
 use Rattle.grin_meaning.specs.Run.{node_word, nth_or_zero, place_of}
-use Rattle.fetch_passes.specs.Uses.{word_is}
+use Rattle.pass_ground.specs.Uses.{word_is}
 use Rattle.fetch_passes.specs.Names.{Names, Wait, as_word, hiding}
-use Rattle.fetch_passes.proofs.Found.{equal_so, equal_self, equal_not, never_both, same_var, names_of, vars_out, one_each_names, is_var, is_waiting, hiding_is, naming, naming_is}
+use Rattle.pass_ground.proofs.Tests.{equal_so, equal_self, equal_not, never_both, same_var}
+use Rattle.pass_ground.proofs.Bound.{names_of, vars_out, one_each_names}
+use Rattle.fetch_passes.proofs.Found.{is_var, is_waiting, hiding_is, naming, naming_is}
 use Rattle.fetch_passes.proofs.Near.{At, itself, renamed, Sound, Held, Waits, Near, waits_more}
 
 -- one variable with a word

@@ -14,13 +14,15 @@ use Rattle.grin_syntax.specs.Formed.{AllOf, InScope}
 use Rattle.grin_syntax.specs.Fresh.{variable, variables}
 use Rattle.grin_syntax.proofs.Counted.{times_append, counts, one_at}
 use Rattle.grin_meaning.specs.Ready.{Any, NoNodeTarget, NoNodeVar, BindsNothing, EachAct, EachCode, EachArms, most_fields}
-use Rattle.fetch_passes.specs.Uses.{word_is, words_use, val_uses, cells_use, act_uses, code_uses, arms_use}
+use Rattle.pass_ground.specs.Uses.{word_is, words_use, val_uses, cells_use, act_uses, code_uses, arms_use, act_mentions}
 use Rattle.fetch_passes.specs.Windows.{tests_number, vector_uses, decides, act_owns, is_passed, owns, act_outside, outside}
 use Rattle.fetch_passes.specs.Names.{Names, Wait, as_word, as_words, as_val, as_cells, hiding, named_if}
 use Rattle.fetch_passes.specs.Split.{fetched_if, word_fetches, waits_of, front, front_names, all_words, node_arms, whole_node, split_act, split_code, split_arms, split_procs, made_act, made_code}
 use Rattle.fetch_passes.specs.Placed.{ByNodes, CodeFetchesUsed, ActFetchesUsed, ArmsFetchUsed, WordUsed}
-use Rattle.fetch_passes.proofs.Found.{equal_so, equal_self, equal_not, never_both, same_var, is_waiting, hiding_is, naming_is}
+use Rattle.pass_ground.proofs.Tests.{equal_so, equal_self, equal_not, never_both, same_var}
+use Rattle.fetch_passes.proofs.Found.{is_waiting, hiding_is, naming_is}
 use Rattle.fetch_passes.proofs.Waiting.{waits_in, waits_outside}
+use Rattle.fetch_passes.proofs.Once.{first_once, others_once}
 
 or_cases : (a b : Bool) → (a || b) ≡ true → (a ≡ true) ⊎ (b ≡ true)
 or_cases true b e = inl refl
@@ -63,7 +65,7 @@ module _ (ks : Names) (z y : VarId) (is : as_word ks (Var z) ≡ Var y) where
 -- ---- fetches before a block
 
 fetch_used : (y : ℕ) (o : Bool) (x : VarId) (a : W.Word) (i : ℕ) (c : Code) → code_uses y c ≡ true → code_uses y (fetched_if o x a i c) ≡ true
-unfolding act_uses
+unfolding act_mentions
 fetch_used y true x a i c h = or_right (word_is y a) (code_uses y c) h
 fetch_used y false x a i c h = h
 
@@ -76,7 +78,7 @@ front_after y a n [] b c h = h
 front_after y a n (p ∷ ps) b c h = fetch_used y (code_uses p.var.0 b) (variable n) a p.place (front a (suc n) ps b c) (front_after y a (suc n) ps b c h)
 
 all_after : (y : ℕ) (a : W.Word) (i : ℕ) (xs : List VarId) (c : Code) → code_uses y c ≡ true → code_uses y (all_words a i xs c) ≡ true
-unfolding act_uses
+unfolding act_mentions
 all_after y a i [] c h = h
 all_after y a i (x ∷ xs) c h = or_right (word_is y a) (code_uses y (all_words a (suc i) xs c)) (all_after y a (suc i) xs c h)
 
@@ -136,7 +138,7 @@ vector_used tests z (Vector (w ∷ (u ∷ ws))) h = both_or (word_is z w) (tests
     go false e = cc
 
 decides_used : (z : ℕ) (o : Act) → decides z o ≡ true → act_uses z o ≡ true
-unfolding act_uses
+unfolding act_mentions
 decides_used z (case v as') h = or_left (val_uses z v) (arms_use z as') (vector_used (tests_number as') z v h)
 decides_used z o h = h
 
@@ -148,7 +150,7 @@ act_outside_used t z o h = go (act_owns t o) h
     go false h = h
 
 outside_used : (t z : ℕ) (b : Code) → outside t z b ≡ true → code_uses z b ≡ true
-unfolding outside act_uses
+unfolding outside act_mentions
 outside_used t z (end o) h = act_outside_used t z o h
 outside_used t z (store cs b) h = h
 outside_used t z (bind u o b) h = go (is_passed o) h (λ k. outside_used t z b k)
@@ -172,7 +174,7 @@ module _ (ts : List Tag) where
       go false = w
 
   mutual
-    unfolding split_act act_uses act_vars EachAct made_act
+    unfolding split_act act_mentions act_vars EachAct made_act
 
     pub act_used : (o : Act) (ks : Names) (a : W.Word) (ps : List Wait) (n : ℕ) (z y : VarId) → as_word ks (Var z) ≡ Var y → is_waiting ps z.0 ≡ false → times z.0 (act_vars o) ≡ 0 → EachAct Any NoNodeTarget NoNodeVar BindsNothing o → act_uses z.0 o ≡ true → act_uses y.0 (split_act ts ks a ps n o) ≡ true
     act_used (case v as') ks a ps n z y e w v0 x h = both_or (val_uses z.0 v) (arms_use z.0 as') (val_uses y.0 (as_val ks v)) (arms_use y.0 (split_arms ts ks a ps n as')) (val_used ks z y e v x.1) (arms_used as' ks a ps n z y e w v0 x.2) h
@@ -269,7 +271,7 @@ module _ (ts : List Tag) where
   nodes_ok xs i (u ∷ us) = (tt, nodes_ok xs (suc i) us)
 
   whole_ok : (n : ℕ) (a : W.Word) → CodeFetchesUsed (whole_node ts n a)
-  unfolding CodeFetchesUsed act_uses
+  unfolding CodeFetchesUsed act_mentions
   whole_ok n a = all_ok a 0 (variables n (suc (most_fields ts))) (end (case (Vector (map Var (variables n (suc (most_fields ts))))) (node_arms (variables (suc n) (most_fields ts)) 0 ts)))
       (λ x k. or_left (words_use x.0 (map Var (variables n (suc (most_fields ts))))) (arms_use x.0 (node_arms (variables (suc n) (most_fields ts)) 0 ts)) (vars_used (variables n (suc (most_fields ts))) x.0 k)) (nodes_ok (variables (suc n) (most_fields ts)) 0 ts)
 
@@ -406,14 +408,7 @@ module _ (ts : List Tag) where
   )
     where
       here : (y : ℕ) → times y [] + times y (code_vars q.body) ≤ 1
-      here y =
-          let o : times y ((numbers_of q.params ++ code_vars q.body) ++ procs_vars qs) ≤ 1 = once y in
-          let f : times y ((numbers_of q.params ++ code_vars q.body) ++ procs_vars qs) ≡ times y (numbers_of q.params ++ code_vars q.body) + times y (procs_vars qs) = times_append y (numbers_of q.params ++ code_vars q.body) (procs_vars qs) in
-          let g : times y (numbers_of q.params ++ code_vars q.body) ≡ times y (numbers_of q.params) + times y (code_vars q.body) = times_append y (numbers_of q.params) (code_vars q.body) in
-          omega (arith, o, f, g)
+      here y = omega (arith, first_once q qs y (once y))
 
       later : (y : ℕ) → times y (procs_vars qs) ≤ 1
-      later y =
-          let o : times y ((numbers_of q.params ++ code_vars q.body) ++ procs_vars qs) ≤ 1 = once y in
-          let f : times y ((numbers_of q.params ++ code_vars q.body) ++ procs_vars qs) ≡ times y (numbers_of q.params ++ code_vars q.body) + times y (procs_vars qs) = times_append y (numbers_of q.params ++ code_vars q.body) (procs_vars qs) in
-          omega (arith, o, f)
+      later y = others_once q qs y (once y)

@@ -10,11 +10,12 @@ use Rattle.grin_syntax.specs.Binders.{times, numbers_of}
 use Rattle.grin_syntax.specs.Formed.{AllOf, InScope}
 use Rattle.grin_syntax.specs.Fresh.{variable}
 use Rattle.grin_syntax.proofs.Counted.{counts, one_at}
-use Rattle.fetch_passes.specs.Uses.{act_uses, code_uses}
+use Rattle.pass_ground.specs.Uses.{act_uses, code_uses, act_mentions}
 use Rattle.fetch_passes.specs.Windows.{begins_with, decides, act_owns, is_passed, owns, act_outside, outside}
 use Rattle.fetch_passes.specs.Names.{Names, Wait, as_word, hiding, named_if}
 use Rattle.fetch_passes.specs.Split.{waits_of, front_names}
-use Rattle.fetch_passes.proofs.Found.{equal_so, equal_self, equal_not, never_both, same_var, is_var, is_waiting, hiding_is, naming, naming_is}
+use Rattle.pass_ground.proofs.Tests.{equal_so, equal_self, equal_not, never_both, same_var}
+use Rattle.fetch_passes.proofs.Found.{is_var, is_waiting, hiding_is, naming, naming_is}
 use Rattle.fetch_passes.proofs.Near.{At, itself, renamed, gone, Sound, at_more}
 
 -- ---- what waits
@@ -82,7 +83,7 @@ act_outside_uses t z o h = ap (λ b. cond b (decides z o) (act_uses z o)) h
 
 -- where the case on t doesn't come next, every use is outside
 pub outside_uses : (t z : ℕ) (b : Code) → owns t b ≡ false → outside t z b ≡ code_uses z b
-unfolding owns outside act_uses
+unfolding owns outside act_mentions
 outside_uses t z (end o) h = act_outside_uses t z o h
 outside_uses t z (store cs b) h = refl
 outside_uses t z (bind u o b) h = go (is_passed o) h (λ k. outside_uses t z b k)

@@ -18,10 +18,11 @@ use Rattle.grin_meaning.specs.Checks.{is_none_or, is_filled, fills, all_fill}
 use Rattle.numbers.specs.Numbers.{same_number}
 use Rattle.grin_meaning.specs.Ready.{NoNodeTarget, NoNodeVar, BindsNothing, EachAct, EachArms, Any as Anything}
 use Rattle.grin_meaning.proofs.Plain.{then_has}
-use Rattle.fetch_passes.specs.Uses.{word_is, words_use, val_uses, cells_use}
+use Rattle.pass_ground.specs.Uses.{word_is, words_use, val_uses, cells_use}
 use Rattle.fetch_passes.specs.Windows.{is_int, tests_number, vector_uses}
 use Rattle.fetch_passes.specs.Names.{Names, Wait, as_word, as_words, as_val, as_cells}
-use Rattle.fetch_passes.proofs.Found.{no_left, no_right, equal_self, never_both, is_var}
+use Rattle.pass_ground.proofs.Tests.{no_left, no_right, equal_self, never_both}
+use Rattle.fetch_passes.proofs.Found.{is_var}
 use Rattle.fetch_passes.proofs.Near.{At, Sound, Near}
 
 -- a piece that uses such variables uses none that is hidden

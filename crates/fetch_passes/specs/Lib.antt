@@ -1,4 +1,3 @@
-pub mod Uses
 pub mod Windows
 pub mod Names
 pub mod Split

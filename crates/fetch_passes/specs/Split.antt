@@ -12,7 +12,7 @@ use Rattle.grin_syntax.specs.Tree.{Code, end, store, bind, Act, unit, fetch, fet
 use Rattle.grin_syntax.specs.Fresh.{variable, variables, past_procs}
 use Rattle.grin_syntax.specs.Tags.{tag_id}
 use Rattle.grin_meaning.specs.Ready.{most_fields}
-use Rattle.fetch_passes.specs.Uses.{code_uses}
+use Rattle.pass_ground.specs.Uses.{code_uses}
 use Rattle.fetch_passes.specs.Windows.{owns, outside}
 use Rattle.fetch_passes.specs.Names.{Names, Wait, as_word, as_words, as_val, as_cells, hiding, named_if}
 

@@ -5,7 +5,7 @@ use Rattle.grin_syntax.specs.declared.program.Val.TheVariants.{Vector}
 use Rattle.grin_syntax.specs.declared.program.Shape.{Shape}
 use Rattle.grin_syntax.specs.declared.program.Shape.TheVariants.{Int}
 use Rattle.grin_syntax.specs.Tree.{Code, end, store, bind, Act, fetch, fetch_word, case, Arms, no_arm, arm}
-use Rattle.fetch_passes.specs.Uses.{word_is, val_uses, act_uses, code_uses}
+use Rattle.pass_ground.specs.Uses.{word_is, val_uses, act_uses, code_uses}
 
 -- a vector whose first word is the variable t
 abbrev pub begins_with : ℕ → V.Val → Bool

@@ -39,7 +39,8 @@ fn as_words(alloc: Global, vars: &[VarId]) -> Result<Seq<Word>, AllocError>
 }
 
 fn word_fetch(cell: Word, var: VarId, at: usize, made: &mut Seq<Stmt>) -> Result<(), AllocError>
-    ensures { OnOk result ((c : Code) → all_before (map before_of made.new) c ≡ all_before (map before_of made.old) (bind (One var) (fetch_word cell at) c)) }
+    ensures { OnOk result ((c : Code) → all_before (map before_of made.new) c
+        ≡ all_before (map before_of made.old) (bind (One var) (fetch_word cell at) c)) }
 {
     let Ok(place) = u32::try_from(at) else {
         return Err(AllocError);
@@ -50,7 +51,8 @@ fn word_fetch(cell: Word, var: VarId, at: usize, made: &mut Seq<Stmt>) -> Result
 
 // A fetch of each word, the tag first.
 fn all_words(cell: Word, vars: &[VarId], made: &mut Seq<Stmt>) -> Result<(), AllocError>
-    ensures { OnOk result ((c : Code) → all_before (map before_of made.new) c ≡ all_before (map before_of made.old) (all_words cell 0 vars.now c)) }
+    ensures { OnOk result ((c : Code) → all_before (map before_of made.new) c
+        ≡ all_before (map before_of made.old) (all_words cell 0 vars.now c)) }
 {
     for at in 0..vars.len() {
         word_fetch(cell, vars[at], at, made)?;
@@ -67,7 +69,12 @@ fn first_vars(alloc: Global, vars: &[VarId], count: usize) -> Result<Seq<Word>, 
 
 // The node of a tag, with as many of these variables as it has fields.
 fn node_alt(alloc: Global, at: usize, tag: &Tag, vars: &[VarId]) -> Result<Alt, AllocError>
-    ensures { IfOk result (λ a. arm_of a ≡ (shape.Node (tag_id at) [], end (unit (val.Node (tag_id at) (map Var (take tag.now.fields vars.now)))))) }
+    ensures { IfOk result (λ a. arm_of a
+        ≡ (
+          shape.Node (tag_id at) [],
+          end
+              (unit (val.Node (tag_id at) (map Var (take tag.now.fields vars.now)))),
+        )) }
 {
     let Ok(number) = u32::try_from(at) else {
         return Err(AllocError);
@@ -100,7 +107,8 @@ fn whole_node(
     cell: Word,
     made: &mut Seq<Stmt>,
 ) -> Result<Op, AllocError>
-    ensures is { IfOk result (λ o. all_before (map before_of made.new) (end (act_of o)) ≡ all_before (map before_of made.old) (whole_node tags.now fresh.old.next cell)) }
+    ensures is { IfOk result (λ o. all_before (map before_of made.new) (end (act_of o))
+        ≡ all_before (map before_of made.old) (whole_node tags.now fresh.old.next cell)) }
     ensures next { OnOk result (fresh.new.next ≡ fresh.old.next + suc (most_fields tags.now)) }
 {
     let most = longest(tags);
@@ -123,7 +131,8 @@ pub(crate) fn end_with(
     op: Op,
     made: &mut Seq<Stmt>,
 ) -> Result<Op, AllocError>
-    ensures is { IfOk result (λ o. all_before (map before_of made.new) (end (act_of o)) ≡ all_before (map before_of made.old) (end_with tags.now fresh.old.next (act_of op))) }
+    ensures is { IfOk result (λ o. all_before (map before_of made.new) (end (act_of o))
+        ≡ all_before (map before_of made.old) (end_with tags.now fresh.old.next (act_of op))) }
     ensures next { OnOk result (fresh.new.next ≡ fresh.old.next + made_end tags.now (act_of op)) }
 {
     match op {

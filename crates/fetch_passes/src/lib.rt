@@ -6,10 +6,6 @@ mod names;
 mod nodes;
 mod pass;
 mod split;
-mod uses;
 mod windows;
 
-pub use pass::Fetches;
-
-#[cfg(test)]
-mod tests;
+pub use pass::{Fetches, with_words};

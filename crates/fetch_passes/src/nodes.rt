@@ -6,16 +6,16 @@ ghost use Rattle.std.specs.Prelude.{◌≡◌, ◌++◌, [], ◌∷◌, cond, �
 ghost use Rattle.grin_syntax.specs.declared.program.Word.TheVariants.{Lit};
 ghost use Rattle.grin_syntax.specs.Tree.{Code, end, act_of, before_of, code_of, all_before};
 ghost use Rattle.grin_syntax.specs.Fresh.{variable};
-ghost use Rattle.fetch_passes.specs.Uses.{code_uses};
+ghost use Rattle.pass_ground.specs.Uses.{code_uses};
 ghost use Rattle.fetch_passes.specs.Windows.{outside};
 ghost use Rattle.fetch_passes.specs.Names.{hiding, named_if};
 ghost use Rattle.fetch_passes.specs.Split.{fetched_if, word_fetches, waits_of, front, front_names};
 
 use crate::names::{Standing, Wait};
-use crate::uses::block_uses;
 use crate::windows::outside;
 use grin_syntax::fresh::Fresh;
 use grin_syntax::{Block, Op, Stmt, Target, VarId, Word};
+use pass_ground::uses::block_uses;
 use seq::Seq;
 use std::alloc::{AllocError, Global};
 
@@ -27,7 +27,8 @@ fn fetched_if(
     place: u32,
     made: &mut Seq<Stmt>,
 ) -> Result<(), AllocError>
-    ensures { OnOk result ((c : Code) → all_before (map before_of made.new) c ≡ all_before (map before_of made.old) (fetched_if wanted var cell place c)) }
+    ensures { OnOk result ((c : Code) → all_before (map before_of made.new) c
+        ≡ all_before (map before_of made.old) (fetched_if wanted var cell place c)) }
 {
     if wanted {
         made.push(Stmt::Bind(Target::One(var), Op::FetchWord(cell, place)))?;
@@ -48,7 +49,8 @@ fn named_if(used: bool, var: VarId, by: VarId, names: &mut Seq<Standing>) -> Res
 }
 
 fn wait_unless(kept: bool, var: VarId, place: u32, waits: &mut Seq<Wait>) -> Result<(), AllocError>
-    ensures { OnOk result (waits.new ≡ waits.old ++ cond kept [] (record { var = var; place = place } ∷ [])) }
+    ensures { OnOk result (waits.new ≡ waits.old
+        ++ cond kept [] (record { var = var; place = place } ∷ [])) }
 {
     if !kept {
         waits.push(Wait { var, place })?;
@@ -65,8 +67,12 @@ fn front_word(
     body: &Block,
     made: &mut Seq<Stmt>,
 ) -> Result<(), AllocError>
-    ensures stmts { OnOk result ((c : Code) → all_before (map before_of made.new) c ≡ all_before (map before_of made.old) (fetched_if (code_uses wait.var.0 (code_of body.now)) (variable fresh.old.next) cell wait.place c)) }
-    ensures names { OnOk result (names.new ≡ named_if (code_uses wait.var.0 (code_of body.now)) wait.var fresh.old.next names.old) }
+    ensures stmts { OnOk result ((c : Code) → all_before (map before_of made.new) c
+        ≡ all_before (map before_of made.old)
+        (fetched_if (code_uses wait.var.0 (code_of body.now)) (variable fresh.old.next) cell
+        wait.place c)) }
+    ensures names { OnOk result (names.new
+        ≡ named_if (code_uses wait.var.0 (code_of body.now)) wait.var fresh.old.next names.old) }
     ensures next { OnOk result (fresh.new.next ≡ suc fresh.old.next) }
 {
     let var = fresh.variable()?;
@@ -85,8 +91,10 @@ pub(crate) fn front(
     waits: &[Wait],
     body: &Block,
 ) -> Result<Seq<Stmt>, AllocError>
-    ensures stmts { IfOk result (λ ss. (c : Code) → all_before (map before_of ss) c ≡ front cell fresh.old.next waits.now (code_of body.now) c) }
-    ensures names { OnOk result (names.new ≡ front_names fresh.old.next waits.now (code_of body.now) names.old) }
+    ensures stmts { IfOk result (λ ss. (c : Code) → all_before (map before_of ss) c
+        ≡ front cell fresh.old.next waits.now (code_of body.now) c) }
+    ensures names { OnOk result (names.new
+        ≡ front_names fresh.old.next waits.now (code_of body.now) names.old) }
     ensures next { OnOk result (fresh.new.next ≡ fresh.old.next + length waits.now) }
 {
     let mut made = Seq::new(alloc);
@@ -105,8 +113,10 @@ fn node_word(
     made: &mut Seq<Stmt>,
     waits: &mut Seq<Wait>,
 ) -> Result<(), AllocError>
-    ensures stmts { OnOk result ((c : Code) → all_before (map before_of made.new) c ≡ all_before (map before_of made.old) (fetched_if kept var cell at c)) }
-    ensures waits { OnOk result (waits.new ≡ waits.old ++ cond kept [] (record { var = var; place = at } ∷ [])) }
+    ensures stmts { OnOk result ((c : Code) → all_before (map before_of made.new) c
+        ≡ all_before (map before_of made.old) (fetched_if kept var cell at c)) }
+    ensures waits { OnOk result (waits.new ≡ waits.old
+        ++ cond kept [] (record { var = var; place = at } ∷ [])) }
 {
     let Ok(place) = u32::try_from(at) else {
         return Err(AllocError);
@@ -126,8 +136,12 @@ pub(crate) fn words(
     last: &Op,
     made: &mut Seq<Stmt>,
 ) -> Result<Seq<Wait>, AllocError>
-    ensures stmts { OnOk result ((c : Code) → all_before (map before_of made.new) c ≡ all_before (map before_of made.old) (word_fetches tag.0 (all_before (map before_of rest.now) (end (act_of last.now))) cell 1 vars.now c)) }
-    ensures waits { IfOk result (λ ws. ws ≡ waits_of tag.0 (all_before (map before_of rest.now) (end (act_of last.now))) 1 vars.now) }
+    ensures stmts { OnOk result ((c : Code) → all_before (map before_of made.new) c
+        ≡ all_before (map before_of made.old)
+        (word_fetches tag.0 (all_before (map before_of rest.now) (end (act_of last.now))) cell 1
+        vars.now c)) }
+    ensures waits { IfOk result (λ ws. ws
+        ≡ waits_of tag.0 (all_before (map before_of rest.now) (end (act_of last.now))) 1 vars.now) }
 {
     let mut waits = Seq::new(alloc);
     for at in 0..vars.len() {

@@ -33,7 +33,9 @@ impl Pass for Fetches {
 
 // The procedures of a program with these tags.
 fn split_procs(alloc: Global, tags: &Seq<Tag>, procs: &[Proc]) -> Result<Seq<Proc>, AllocError>
-    ensures { IfOk result (λ made. map procedure_of made ≡ split_procs tags.now (past_procs (map procedure_of procs.now)) (map procedure_of procs.now)) }
+    ensures { IfOk result (λ made. map procedure_of made
+        ≡ split_procs tags.now (past_procs (map procedure_of procs.now))
+        (map procedure_of procs.now)) }
 {
     let mut fresh = Fresh::past(procs);
     let splitting = Splitting { tags };
@@ -51,7 +53,8 @@ fn split_procs(alloc: Global, tags: &Seq<Tag>, procs: &[Proc]) -> Result<Seq<Pro
     Ok(made)
 }
 
-pub(crate) fn with_words(alloc: Global, g: Grin) -> Result<Grin, AllocError>
+/// What the pass makes of any program, whatever its runs do.
+pub fn with_words(alloc: Global, g: Grin) -> Result<Grin, AllocError>
     ensures { IfOk result (λ h. program_of h ≡ split (program_of g)) }
 {
     let procs = split_procs(alloc, &g.tags, g.procs.as_slice())?;

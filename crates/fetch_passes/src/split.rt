@@ -32,7 +32,8 @@ fn plain(
     op: Op,
     made: &mut Seq<Stmt>,
 ) -> Result<(), AllocError>
-    ensures stmts { OnOk result ((c : Code) → all_before (map before_of made.new) c ≡ all_before (map before_of made.old) (bind target.now (act_of op) c)) }
+    ensures stmts { OnOk result ((c : Code) → all_before (map before_of made.new) c
+        ≡ all_before (map before_of made.old) (bind target.now (act_of op) c)) }
     ensures names { OnOk result (now.new.names ≡ now.old.names) }
     ensures cell { OnOk result (now.new.cell ≡ now.old.cell) }
     ensures waits { OnOk result (now.new.waits ≡ []) }
@@ -50,7 +51,8 @@ fn fetch_word(
     place: u32,
     made: &mut Seq<Stmt>,
 ) -> Result<(), AllocError>
-    ensures { OnOk result ((c : Code) → all_before (map before_of made.new) c ≡ all_before (map before_of made.old) (bind target.now (fetch_word cell place) c)) }
+    ensures { OnOk result ((c : Code) → all_before (map before_of made.new) c
+        ≡ all_before (map before_of made.old) (bind target.now (fetch_word cell place) c)) }
 {
     made.push(Stmt::Bind(copy_target(alloc, target)?, Op::FetchWord(cell, place)))?;
     Ok(())
@@ -89,10 +91,19 @@ fn fetch_vector(
     last: &Op,
     made: &mut Seq<Stmt>,
 ) -> Result<(), AllocError>
-    ensures stmts { OnOk result ((c : Code) → all_before (map before_of made.new) c ≡ all_before (map before_of made.old) (bound (fetch cell) (Vector (tag ∷ vars.now)) (all_before (map before_of rest.now) (end (act_of last.now))) c)) }
-    ensures names { OnOk result (now.new.names ≡ names_after (fetch cell) (Vector (tag ∷ vars.now)) (all_before (map before_of rest.now) (end (act_of last.now))) now.old.names) }
-    ensures cell { OnOk result (now.new.cell ≡ cell_from (fetch cell) (Vector (tag ∷ vars.now)) (all_before (map before_of rest.now) (end (act_of last.now))) now.old.cell) }
-    ensures waits { OnOk result (now.new.waits ≡ waits_after (fetch cell) (Vector (tag ∷ vars.now)) (all_before (map before_of rest.now) (end (act_of last.now))) now.old.waits) }
+    ensures stmts { OnOk result ((c : Code) → all_before (map before_of made.new) c
+        ≡ all_before (map before_of made.old)
+        (bound (fetch cell) (Vector (tag ∷ vars.now))
+        (all_before (map before_of rest.now) (end (act_of last.now))) c)) }
+    ensures names { OnOk result (now.new.names
+        ≡ names_after (fetch cell) (Vector (tag ∷ vars.now))
+        (all_before (map before_of rest.now) (end (act_of last.now))) now.old.names) }
+    ensures cell { OnOk result (now.new.cell
+        ≡ cell_from (fetch cell) (Vector (tag ∷ vars.now))
+        (all_before (map before_of rest.now) (end (act_of last.now))) now.old.cell) }
+    ensures waits { OnOk result (now.new.waits
+        ≡ waits_after (fetch cell) (Vector (tag ∷ vars.now))
+        (all_before (map before_of rest.now) (end (act_of last.now))) now.old.waits) }
 {
     made.push(Stmt::Bind(Target::One(tag), Op::FetchWord(cell, 0)))?;
     let waits = words(alloc, tag, cell, vars, rest, last, made)?;
@@ -111,10 +122,19 @@ fn fetch_node(
     last: &Op,
     made: &mut Seq<Stmt>,
 ) -> Result<(), AllocError>
-    ensures stmts { OnOk result ((c : Code) → all_before (map before_of made.new) c ≡ all_before (map before_of made.old) (bound (fetch cell) target.now (all_before (map before_of rest.now) (end (act_of last.now))) c)) }
-    ensures names { OnOk result (now.new.names ≡ names_after (fetch cell) target.now (all_before (map before_of rest.now) (end (act_of last.now))) now.old.names) }
-    ensures cell { OnOk result (now.new.cell ≡ cell_from (fetch cell) target.now (all_before (map before_of rest.now) (end (act_of last.now))) now.old.cell) }
-    ensures waits { OnOk result (now.new.waits ≡ waits_after (fetch cell) target.now (all_before (map before_of rest.now) (end (act_of last.now))) now.old.waits) }
+    ensures stmts { OnOk result ((c : Code) → all_before (map before_of made.new) c
+        ≡ all_before (map before_of made.old)
+        (bound (fetch cell) target.now (all_before (map before_of rest.now) (end (act_of last.now)))
+        c)) }
+    ensures names { OnOk result (now.new.names
+        ≡ names_after (fetch cell) target.now
+        (all_before (map before_of rest.now) (end (act_of last.now))) now.old.names) }
+    ensures cell { OnOk result (now.new.cell
+        ≡ cell_from (fetch cell) target.now
+        (all_before (map before_of rest.now) (end (act_of last.now))) now.old.cell) }
+    ensures waits { OnOk result (now.new.waits
+        ≡ waits_after (fetch cell) target.now
+        (all_before (map before_of rest.now) (end (act_of last.now))) now.old.waits) }
 {
     match target {
         Target::Vector(vars) => match vars.as_slice().split_first() {
@@ -137,10 +157,19 @@ fn bind(
     last: &Op,
     made: &mut Seq<Stmt>,
 ) -> Result<(), AllocError>
-    ensures stmts { OnOk result ((c : Code) → all_before (map before_of made.new) c ≡ all_before (map before_of made.old) (bound (act_of op) target.now (all_before (map before_of rest.now) (end (act_of last.now))) c)) }
-    ensures names { OnOk result (now.new.names ≡ names_after (act_of op) target.now (all_before (map before_of rest.now) (end (act_of last.now))) now.old.names) }
-    ensures cell { OnOk result (now.new.cell ≡ cell_from (act_of op) target.now (all_before (map before_of rest.now) (end (act_of last.now))) now.old.cell) }
-    ensures waits { OnOk result (now.new.waits ≡ waits_after (act_of op) target.now (all_before (map before_of rest.now) (end (act_of last.now))) now.old.waits) }
+    ensures stmts { OnOk result ((c : Code) → all_before (map before_of made.new) c
+        ≡ all_before (map before_of made.old)
+        (bound (act_of op) target.now (all_before (map before_of rest.now) (end (act_of last.now)))
+        c)) }
+    ensures names { OnOk result (now.new.names
+        ≡ names_after (act_of op) target.now
+        (all_before (map before_of rest.now) (end (act_of last.now))) now.old.names) }
+    ensures cell { OnOk result (now.new.cell
+        ≡ cell_from (act_of op) target.now
+        (all_before (map before_of rest.now) (end (act_of last.now))) now.old.cell) }
+    ensures waits { OnOk result (now.new.waits
+        ≡ waits_after (act_of op) target.now
+        (all_before (map before_of rest.now) (end (act_of last.now))) now.old.waits) }
 {
     match op {
         Op::Fetch(cell) => fetch_node(alloc, now, target, cell, rest, last, made),
@@ -176,8 +205,10 @@ impl Splitting<'_> {
         waits: &[Wait],
         op: &Op,
     ) -> Result<Op, AllocError>
-        ensures is { IfOk result (λ o. act_of o ≡ split_act self.now.tags.now names.now cell waits.now fresh.old.next (act_of op.now)) }
-        ensures next { OnOk result (fresh.new.next ≡ fresh.old.next + made_act self.now.tags.now waits.now (act_of op.now)) }
+        ensures is { IfOk result (λ o. act_of o
+            ≡ split_act self.now.tags.now names.now cell waits.now fresh.old.next (act_of op.now)) }
+        ensures next { OnOk result (fresh.new.next
+            ≡ fresh.old.next + made_act self.now.tags.now waits.now (act_of op.now)) }
     {
         match op {
             Op::Unit(v) => Ok(Op::Unit(as_val(alloc, names, v)?)),
@@ -219,8 +250,14 @@ impl Splitting<'_> {
         alt: &Alt,
     ) -> Result<Alt, AllocError>
         ensures pattern { IfOk result (λ a. a.pattern ≡ alt.now.pattern) }
-        ensures body { IfOk result (λ a. code_of a.body ≡ front cell fresh.old.next waits.now (code_of alt.now.body) (split_code self.now.tags.now (front_names fresh.old.next waits.now (code_of alt.now.body) names.now) cell [] (fresh.old.next + length waits.now) (code_of alt.now.body))) }
-        ensures next { OnOk result (fresh.new.next ≡ fresh.old.next + length waits.now + made_code self.now.tags.now [] (code_of alt.now.body)) }
+        ensures body { IfOk result (λ a. code_of a.body
+            ≡ front cell fresh.old.next waits.now (code_of alt.now.body)
+            (split_code self.now.tags.now
+            (front_names fresh.old.next waits.now (code_of alt.now.body) names.now) cell []
+            (fresh.old.next + length waits.now) (code_of alt.now.body))) }
+        ensures next { OnOk result (fresh.new.next
+            ≡ fresh.old.next + length waits.now + made_code self.now.tags.now []
+            (code_of alt.now.body)) }
     {
         let pattern = copy_shape(alloc, &alt.pattern)?;
         let mut inner = Seq::from_slice(alloc, names)?;
@@ -241,8 +278,18 @@ impl Splitting<'_> {
         last: &Op,
         made: &mut Seq<Stmt>,
     ) -> Result<(), AllocError>
-        ensures is { OnOk result (all_before (map before_of made.new) (split_code self.now.tags.now now.new.names now.new.cell now.new.waits fresh.new.next (all_before (map before_of rest.now) (end (act_of last.now)))) ≡ all_before (map before_of made.old) (split_code self.now.tags.now now.old.names now.old.cell now.old.waits fresh.old.next (before_of stmt.now (all_before (map before_of rest.now) (end (act_of last.now)))))) }
-        ensures next { OnOk result (fresh.new.next + made_code self.now.tags.now now.new.waits (all_before (map before_of rest.now) (end (act_of last.now))) ≡ fresh.old.next + made_code self.now.tags.now now.old.waits (before_of stmt.now (all_before (map before_of rest.now) (end (act_of last.now))))) }
+        ensures is { OnOk result
+            (all_before (map before_of made.new)
+            (split_code self.now.tags.now now.new.names now.new.cell now.new.waits fresh.new.next
+            (all_before (map before_of rest.now) (end (act_of last.now))))
+            ≡ all_before (map before_of made.old)
+            (split_code self.now.tags.now now.old.names now.old.cell now.old.waits fresh.old.next
+            (before_of stmt.now (all_before (map before_of rest.now) (end (act_of last.now)))))) }
+        ensures next { OnOk result
+            (fresh.new.next + made_code self.now.tags.now now.new.waits
+            (all_before (map before_of rest.now) (end (act_of last.now)))
+            ≡ fresh.old.next + made_code self.now.tags.now now.old.waits
+            (before_of stmt.now (all_before (map before_of rest.now) (end (act_of last.now))))) }
     {
         match stmt {
             Stmt::Store(cells) => {
@@ -271,8 +318,11 @@ impl Splitting<'_> {
         cell: Word,
         before: Seq<Stmt>,
     ) -> Result<Block, AllocError>
-        ensures is { IfOk result (λ b. code_of b ≡ all_before (map before_of before) (split_code self.now.tags.now names cell [] fresh.old.next (code_of block.now))) }
-        ensures next { OnOk result (fresh.new.next ≡ fresh.old.next + made_code self.now.tags.now [] (code_of block.now)) }
+        ensures is { IfOk result (λ b. code_of b
+            ≡ all_before (map before_of before)
+            (split_code self.now.tags.now names cell [] fresh.old.next (code_of block.now))) }
+        ensures next { OnOk result (fresh.new.next
+            ≡ fresh.old.next + made_code self.now.tags.now [] (code_of block.now)) }
     {
         let mut made = before;
         let mut now = Passing {

@@ -1,14 +1,15 @@
 // The case on a node's tag that comes next after its fetch, other fetches aside.
-#![tactic(auto, using(grin_syntax::proofs::TreeOf::tree_of), unfolding(crate::specs::Windows::owns, crate::specs::Windows::outside, crate::specs::Uses::act_uses))]
+#![tactic(auto, using(grin_syntax::proofs::TreeOf::tree_of), unfolding(crate::specs::Windows::owns, crate::specs::Windows::outside, pass_ground::specs::Uses::act_mentions))]
 
 ghost use Rattle.std.specs.Prelude.{◌≡◌, ◌||◌, ◌&&◌, cond, map, slice_get};
 ghost use Rattle.grin_syntax.specs.declared.program.Val.TheVariants.{Vector};
 ghost use Rattle.grin_syntax.specs.Tree.{Code, act_of, before_of, arms_of, arm_of, all_before, end};
-ghost use Rattle.fetch_passes.specs.Uses.{act_uses, code_uses};
+ghost use Rattle.pass_ground.specs.Uses.{act_uses, code_uses};
 ghost use Rattle.fetch_passes.specs.Windows.{begins_with, is_int, tests_number, vector_uses, act_owns, is_passed, owns, act_outside, outside};
 
-use crate::uses::{both, cells_use, either, op_uses, val_uses, word_is};
 use grin_syntax::{Alt, Op, Shape, Stmt, Val, VarId, Word};
+use pass_ground::truth::{both, either};
+use pass_ground::uses::{cells_use, op_uses, val_uses, word_is};
 
 fn word_at(words: &[Word], at: usize) -> Option<Word>
     ensures { result ≡ slice_get words.now at }
@@ -192,7 +193,8 @@ fn stmt_uses_too(x: VarId, stmt: &Stmt, later: bool) -> bool
 
 #[tactic(auto, using(grin_syntax::proofs::TreeOf::tree_of, crate::proofs::Firsts::bind_outside, crate::proofs::Firsts::store_outside))]
 fn stmt_outside(t: VarId, x: VarId, stmt: &Stmt, later: bool, used: bool) -> bool
-    ensures { (c : Code) → outside t.0 x.0 c ≡ later → code_uses x.0 c ≡ used → outside t.0 x.0 (before_of stmt.now c) ≡ result }
+    ensures { (c : Code) → outside t.0 x.0 c ≡ later → code_uses x.0 c ≡ used
+        → outside t.0 x.0 (before_of stmt.now c) ≡ result }
 {
     match stmt {
         Stmt::Store(cells) => either(cells_use(x, cells.as_slice()), used),
@@ -207,7 +209,8 @@ fn stmt_outside(t: VarId, x: VarId, stmt: &Stmt, later: bool, used: bool) -> boo
 /// The variable `x` is used in these statements and the operation at their end, outside the alternatives of the case on the
 /// vector of `t` where that comes next.
 pub(crate) fn outside(t: VarId, x: VarId, stmts: &[Stmt], last: &Op) -> bool
-    ensures { result ≡ outside t.0 x.0 (all_before (map before_of stmts.now) (end (act_of last.now))) }
+    ensures { result ≡ outside t.0 x.0
+        (all_before (map before_of stmts.now) (end (act_of last.now))) }
 {
     let mut found = op_outside(t, x, last);
     let mut used = op_uses(x, last);

@@ -1,16 +1,16 @@
 -- What an inclusion asks of a solution, fact by fact.
-use Rattle.std.specs.Prelude.{◌≡◌, ℕ, List, [], ◌∷◌, Option, Some, slice_get}
+use Rattle.std.specs.Prelude.{◌≡◌, ℕ, List, [], ◌∷◌, Some, slice_get}
 use Rattle.grin_syntax.specs.declared.program.VarId.{VarId}
 use Rattle.grin_syntax.specs.declared.program.Word.{Word}
 use Rattle.grin_syntax.specs.declared.program.Val.{Val}
 use Rattle.grin_syntax.specs.declared.program.Target.TheVariants.{Node as NodeTarget, One as OneTarget, Vector as VectorTarget}
 use Rattle.flow_system.specs.Inclusions.{AbstractWord, cell_of, tag, Place, site, var, result, Part, tags, word, Source, value, held, evaluated, arguments, Sink, to, into, cells_at, Inclusion, flows, forces, applies}
 use Rattle.flow_system.specs.Tables.{Tables, params_of}
-use Rattle.flow_system.specs.Solution.{Solution, Sets, At, AsNodes, AsWords, StandsFor, ValueGives, Gives, width, Delays, Waits}
+use Rattle.flow_system.specs.Solution.{Solution, Sets, At, AsNodes, AsWords, StandsFor, ValueGives, Gives, AtMost, width, Delays, Waits}
 
 module _ (p : Tables) (A : Solution) where
   -- what has to be where, so that the sets reach the sink
-  pub data Asks (k : Option ℕ) (X : Sets) : Sink → Place → Part → AbstractWord → Type 0 where
+  pub data Asks (k : AtMost) (X : Sets) : Sink → Place → Part → AbstractWord → Type 0 where
     of_node_variable : {x : VarId} {part : Part} {u : AbstractWord} → AsNodes p k X part u → Asks k X (to (NodeTarget x)) (var x.0) part u
     of_variable : {x : VarId} {u : AbstractWord} → X (word 0) u → Asks k X (to (OneTarget x)) (var x.0) (word 0) u
     of_vector : {xs : List VarId} {x : VarId} {j : ℕ} {u : AbstractWord} → slice_get xs j ≡ Some x → AsWords p X j u → Asks k X (to (VectorTarget xs)) (var x.0) (word 0) u

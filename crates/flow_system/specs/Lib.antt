@@ -3,5 +3,8 @@ pub mod Tables
 pub mod System
 pub mod Solution
 pub mod Covers
+pub mod Written
 pub mod Shown
+pub mod Readers
+pub mod Rows
 pub mod Demands

@@ -1,39 +1,9 @@
--- Inclusions as the program's data has them.
-use Rattle.std.specs.Prelude.{List, [], map}
-use Rattle.flow_system.specs.declared.inclusion.Source as source'
-use Rattle.flow_system.specs.declared.inclusion.Source.TheVariants.{Value, ACell, ANumber, Result, NodesAt, WordAt, EvaluatedAt, Extended, FieldsOf}
-use Rattle.flow_system.specs.declared.inclusion.Sink as sink'
-use Rattle.flow_system.specs.declared.inclusion.Sink.TheVariants.{To, Result as IntoResult, Site as IntoSite, CellsAt}
-use Rattle.flow_system.specs.declared.inclusion.Inclusion as inclusion'
-use Rattle.flow_system.specs.declared.inclusion.Inclusion.TheVariants.{Flows, Forces, Applies}
+-- A flow system, as the code has it.
+use Rattle.std.specs.Prelude.{List}
 use Rattle.flow_system.specs.declared.inclusion.FlowSystem.{FlowSystem}
 use Rattle.flow_system.specs.Tables.{Tables}
-use Rattle.flow_system.specs.Inclusions.{site, result, Source, value, a_cell, a_number, held, nodes_at, word_at, evaluated, extended, arguments, Sink, to, into, cells_at, Inclusion, flows, forces, applies}
-
-abbrev pub source_of : source'.Source → Source
-source_of (Value v) = value v
-source_of (ACell s) = a_cell s.0
-source_of ANumber = a_number
-source_of (Result f) = held (result f.0)
-source_of (NodesAt a) = nodes_at a
-source_of (WordAt a i) = word_at a i
-source_of (EvaluatedAt a) = evaluated (nodes_at a)
-source_of (Extended v a) = extended v a
-source_of (FieldsOf v t) = arguments (value v) t.0 []
-
-abbrev pub sink_of : sink'.Sink → Sink
-sink_of (To t) = to t
-sink_of (IntoResult f) = into (result f.0)
-sink_of (IntoSite s) = into (site s.0)
-sink_of (CellsAt a) = cells_at a
-
-abbrev pub inclusion_of : inclusion'.Inclusion → Inclusion
-inclusion_of (Flows s k) = flows (source_of s) (sink_of k)
-inclusion_of (Forces s) = forces s.0
-inclusion_of (Applies v a k) = applies v a (sink_of k)
-
-abbrev pub shown : List inclusion'.Inclusion → List Inclusion
-shown = map inclusion_of
+use Rattle.flow_system.specs.Inclusions.{Inclusion}
+pub use Rattle.flow_system.specs.Written.{source_of, sink_of, inclusion_of, shown}
 
 abbrev pub tables_of : FlowSystem → Tables
 tables_of s = record { tags = s.tags; globals = s.globals; params = s.params }

@@ -41,13 +41,17 @@ pub record At (A : Solution) (q : Place) (part : Part) (u : AbstractWord) : Type
 pub data OneWord (S : AbstractWord → Type 0) : Part → AbstractWord → Type 0 where
   one_word : {u : AbstractWord} → S u → OneWord S (word 0) u
 
--- so many words, or any number of them, are enough for a tag and m fields
-abbrev pub Enough : Option ℕ → ℕ → Type 0
+-- how many words stand side by side: at most so many, or, for `None`, any number
+abbrev pub AtMost : Type 0
+AtMost = Option ℕ
+
+-- so many words are enough for a tag and m fields
+abbrev pub Enough : AtMost → ℕ → Type 0
 Enough None m = Unit {0}
 Enough (Some k) m = m < k
 
--- how many words a source has at most; of what is held any number
-abbrev pub width : Source → Option ℕ
+-- how many words a source has; of what is held any number
+abbrev pub width : Source → AtMost
 width (value (VectorVal ws)) = Some (length ws)
 width (value (NodeVar x)) = None
 width (held q) = None
@@ -55,7 +59,7 @@ width _ = Some 1
 
 module _ (p : Tables) where
   -- what stands there as nodes: the nodes, and a node for each tag in the first set of k words
-  pub data AsNodes (k : Option ℕ) (X : Sets) : Part → AbstractWord → Type 0 where
+  pub data AsNodes (k : AtMost) (X : Sets) : Part → AbstractWord → Type 0 where
     node_tag : {u : AbstractWord} → X tags u → AsNodes k X tags u
     node_field : {t i : ℕ} {u : AbstractWord} → X (field t i) u → AsNodes k X (field t i) u
     words_tag : {t m : ℕ} → X (word 0) (tag t) → fields_of p t ≡ Some m → Enough k m → AsNodes k X tags (tag t)
@@ -150,17 +154,17 @@ module _ (p : Tables) where
     WordsTo X j [] = Unit {0}
     WordsTo X j (x ∷ xs) = ((u : AbstractWord) → AsWords X j u → At A (var x.0) (word 0) u) × WordsTo X (suc j) xs
 
-    abbrev pub NodesTo : Option ℕ → Sets → Place → Type 0
+    abbrev pub NodesTo : AtMost → Sets → Place → Type 0
     NodesTo k X q = (part : Part) (u : AbstractWord) → AsNodes k X part u → At A q part u
 
-    abbrev pub ReachesTarget : Option ℕ → Sets → Target → Type 0
+    abbrev pub ReachesTarget : AtMost → Sets → Target → Type 0
     ReachesTarget k X Nothing = Unit {0}
     ReachesTarget k X (NodeTarget x) = NodesTo k X (var x.0)
     ReachesTarget k X (OneTarget x) = (u : AbstractWord) → X (word 0) u → At A (var x.0) (word 0) u
     ReachesTarget k X (VectorTarget xs) = WordsTo X 0 xs
 
     -- what is given is at the sink; a result has nodes and words, each as given
-    abbrev pub Reaches : Option ℕ → Sets → Sink → Type 0
+    abbrev pub Reaches : AtMost → Sets → Sink → Type 0
     Reaches k X (to t) = ReachesTarget k X t
     Reaches k X (into (site s)) = NodesTo k X (site s)
     Reaches k X (into (var x)) = (part : Part) (u : AbstractWord) → X part u → At A (var x) part u

@@ -1,7 +1,10 @@
 // Flow systems, as data.
 
 ghost use Rattle.std.specs.Prelude.{◌≡◌, IfOk};
+ghost use Rattle.flow_system.specs.Written.{shown};
+ghost use Rattle.flow_system.specs.Rows.{Indexed};
 
+use crate::sets::Sets;
 use grin_syntax::copies::copy_target;
 use grin_syntax::program::{GlobalCell, ProcId, Site, Tag, TagId, Target, Val, VarId, Word};
 use seq::Seq;
@@ -40,13 +43,18 @@ pub enum Inclusion {
     Applies(Val, Word, Sink),
 }
 
-/// The flow system of a program: its tags, its global cells and the parameters of its procedures, to which the inclusions refer, and the inclusions.
+/// The flow system of a program: its tags, its global cells and the parameters of its procedures, to which the inclusions
+/// refer, and the inclusions, numbered from 0 in their order. `system` makes it, with the sets that the inclusions name
+/// and the readers of each set.
 #[derive(Drop)]
 pub struct FlowSystem {
     pub tags: Seq<Tag>,
     pub globals: Seq<GlobalCell>,
     pub params: Seq<Seq<VarId>>,
     pub inclusions: Seq<Inclusion>,
+    pub(crate) sets: Sets,
+    pub(crate) rows: Seq<Seq<u32>>,
+    ghost indexed: { Indexed (shown inclusions) sets rows },
 }
 
 /// The same sink again.

@@ -1,11 +1,20 @@
-// What may flow where in a program: its inclusions, their solutions, and the law that a solution covers each run.
+//! What may flow where in a program: its inclusions, which of them read which sets, their solutions, and the law that a
+//! solution covers each run. `system::system` gives the flow system of a program, `readers` the inclusions that read a set.
 #![tactic(auto)]
 
 ghost use Rattle.flow_system.specs.Covers.{SolutionsCover, FormedProgramsAreStarted};
 
 pub mod fact;
 pub mod inclusion;
+mod named;
+pub mod reading;
+mod rows;
+mod sets;
 pub mod system;
+
+pub use fact::{Element, Part, Place};
+pub use inclusion::{FlowSystem, Inclusion, Sink, Source};
+pub use reading::{readers, set_of};
 
 /// A solution of a program's flow system covers each run of the program.
 pub fn solutions_cover()

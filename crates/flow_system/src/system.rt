@@ -9,6 +9,9 @@ ghost use Rattle.flow_system.specs.Tables.{tables, params_of};
 ghost use Rattle.flow_system.specs.Shown.{source_of, sink_of, shown, tables_of, inclusions_of};
 
 use crate::inclusion::{FlowSystem, Inclusion, Sink, Source, copy_sink};
+use crate::named::all_named;
+use crate::rows::rows;
+use crate::sets::numbered;
 use grin_syntax::copies::{copy_target, copy_val};
 use grin_syntax::program::{
     Alt, Block, Cell, GlobalCell, Grin, Op, Proc, ProcId, Shape, Site, Stmt, Tag, Target, Val,
@@ -92,7 +95,8 @@ fn has_eval(g: &Grin) -> bool
 
 // One inclusion more.
 fn add(out: &mut Seq<Inclusion>, source: Source, sink: Sink) -> Result<(), AllocError>
-    ensures { OnOk result (shown out.new ≡ shown out.old ++ flows (source_of source) (sink_of sink) ∷ []) }
+    ensures { OnOk result
+        (shown out.new ≡ shown out.old ++ flows (source_of source) (sink_of sink) ∷ []) }
 {
     out.push(Inclusion::Flows(source, sink))
 }
@@ -124,7 +128,8 @@ fn cells_flow(
     out: &mut Seq<Inclusion>,
 ) -> Result<(), AllocError>
     requires { evals ≡ has_eval (program_of g.now) }
-    ensures { OnOk result (shown out.new ≡ shown out.old ++ cells_flow (program_of g.now) cells.now) }
+    ensures { OnOk result
+        (shown out.new ≡ shown out.old ++ cells_flow (program_of g.now) cells.now) }
 {
     for cell in cells {
         add(
@@ -172,7 +177,9 @@ fn op_flows(
     out: &mut Seq<Inclusion>,
 ) -> Result<(), AllocError>
     requires { evals ≡ has_eval (program_of g.now) }
-    ensures { OnOk result (shown out.new ≡ shown out.old ++ act_flows (program_of g.now) (sink_of sink.now) (act_of op.now)) }
+    ensures { OnOk result
+        (shown out.new ≡ shown out.old
+        ++ act_flows (program_of g.now) (sink_of sink.now) (act_of op.now)) }
 {
     match op {
         Op::Unit(v) => add(
@@ -209,7 +216,10 @@ fn apply_flows(
     w: Word,
     out: &mut Seq<Inclusion>,
 ) -> Result<(), AllocError>
-    ensures { OnOk result (shown out.new ≡ shown out.old ++ flows (extended v.now w) (sink_of sink.now) ∷ applies v.now w (sink_of sink.now) ∷ []) }
+    ensures { OnOk result
+        (shown out.new ≡ shown out.old
+        ++ flows (extended v.now w) (sink_of sink.now)
+        ∷ applies v.now w (sink_of sink.now) ∷ []) }
 {
     add(
         out,
@@ -227,7 +237,10 @@ fn call_flows(
     words: &[Word],
     out: &mut Seq<Inclusion>,
 ) -> Result<(), AllocError>
-    ensures { OnOk result (shown out.new ≡ shown out.old ++ flows (value (Vector words.now)) (to (params_of (tables (program_of g.now)) f.0)) ∷ flows (held (result' f.0)) (sink_of sink.now) ∷ []) }
+    ensures { OnOk result
+        (shown out.new ≡ shown out.old
+        ++ flows (value (Vector words.now)) (to (params_of (tables (program_of g.now)) f.0))
+        ∷ flows (held (result' f.0)) (sink_of sink.now) ∷ []) }
 {
     let params = params_of(alloc, g, f)?;
     let args = Seq::from_slice(alloc, words)?;
@@ -246,7 +259,10 @@ fn alts_flow(
     out: &mut Seq<Inclusion>,
 ) -> Result<(), AllocError>
     requires { evals ≡ has_eval (program_of g.now) }
-    ensures { OnOk result (shown out.new ≡ shown out.old ++ arms_flow (program_of g.now) (sink_of sink.now) v.now (arms_of (map arm_of alts.now))) }
+    ensures { OnOk result
+        (shown out.new ≡ shown out.old
+        ++ arms_flow (program_of g.now) (sink_of sink.now) v.now
+        (arms_of (map arm_of alts.now))) }
 {
     for alt in alts {
         shape_flows(alloc, v, &alt.pattern, out)?;
@@ -266,7 +282,11 @@ fn stmt_flows(
     out: &mut Seq<Inclusion>,
 ) -> Result<(), AllocError>
     requires { evals ≡ has_eval (program_of g.now) }
-    ensures { OnOk result ((c : Code) → shown out.old ++ code_flows (program_of g.now) (sink_of sink.now) (before_of stmt.now c) ≡ shown out.new ++ code_flows (program_of g.now) (sink_of sink.now) c) }
+    ensures { OnOk result
+        ((c : Code) → shown out.old
+        ++ code_flows (program_of g.now) (sink_of sink.now) (before_of stmt.now c)
+        ≡ shown out.new
+        ++ code_flows (program_of g.now) (sink_of sink.now) c) }
 {
     match stmt {
         Stmt::Store(cells) => {
@@ -290,7 +310,9 @@ fn bind_flows(
     out: &mut Seq<Inclusion>,
 ) -> Result<(), AllocError>
     requires { evals ≡ has_eval (program_of g.now) }
-    ensures { OnOk result (shown out.new ≡ shown out.old ++ act_flows (program_of g.now) (to target.now) (act_of op.now)) }
+    ensures { OnOk result
+        (shown out.new ≡ shown out.old
+        ++ act_flows (program_of g.now) (to target.now) (act_of op.now)) }
 {
     let bound = Sink::To(copy_target(alloc, target)?);
     op_flows(alloc, g, evals, &bound, op, out)
@@ -306,7 +328,9 @@ fn block_flows(
     out: &mut Seq<Inclusion>,
 ) -> Result<(), AllocError>
     requires { evals ≡ has_eval (program_of g.now) }
-    ensures { OnOk result (shown out.new ≡ shown out.old ++ code_flows (program_of g.now) (sink_of sink.now) (code_of block.now)) }
+    ensures { OnOk result
+        (shown out.new ≡ shown out.old
+        ++ code_flows (program_of g.now) (sink_of sink.now) (code_of block.now)) }
 {
     for stmt in block.stmts.as_slice() {
         stmt_flows(alloc, g, evals, sink, stmt, out)?;
@@ -323,7 +347,8 @@ fn globals_flow(
     out: &mut Seq<Inclusion>,
 ) -> Result<(), AllocError>
     requires { evals ≡ has_eval (program_of g.now) }
-    ensures { OnOk result (shown out.new ≡ shown out.old ++ globals_flow (program_of g.now) globals.now) }
+    ensures { OnOk result
+        (shown out.new ≡ shown out.old ++ globals_flow (program_of g.now) globals.now) }
 {
     for global in globals {
         add(
@@ -344,7 +369,9 @@ fn procs_flow(
     out: &mut Seq<Inclusion>,
 ) -> Result<(), AllocError>
     requires { evals ≡ has_eval (program_of g.now) }
-    ensures { OnOk result (shown out.new ≡ shown out.old ++ procs_flow (program_of g.now) 0 (map procedure_of procs.now)) }
+    ensures { OnOk result
+        (shown out.new ≡ shown out.old
+        ++ procs_flow (program_of g.now) 0 (map procedure_of procs.now)) }
 {
     let mut f: u32 = 0;
     for proc in procs {
@@ -355,7 +382,8 @@ fn procs_flow(
 }
 
 fn start_flows(alloc: Global, g: &Grin, out: &mut Seq<Inclusion>) -> Result<(), AllocError>
-    ensures { OnOk result (shown out.new ≡ shown out.old ++ start_flows (program_of g.now) g.now.argument) }
+    ensures { OnOk result
+        (shown out.new ≡ shown out.old ++ start_flows (program_of g.now) g.now.argument) }
 {
     match g.argument {
         None => add_none(out),
@@ -408,7 +436,8 @@ fn copied_params(alloc: Global, g: &Grin) -> Result<Seq<Seq<VarId>>, AllocError>
     Ok(params)
 }
 
-/// The flow system of a program: what its inclusions refer to, and the inclusions of all its statements, reachable or not, in the order of the text. Its length is that of the text.
+/// The flow system of a program: what its inclusions refer to, the inclusions of all its statements, reachable or not, in
+/// the order of the text, and which of them read which sets. Its length is that of the text.
 /// Running out of procedure numbers counts as want of memory.
 pub fn system(alloc: Global, g: &Grin) -> Result<FlowSystem, AllocError>
     ensures tables { IfOk result (λ s. tables_of s ≡ tables (program_of g.now)) }
@@ -419,10 +448,16 @@ pub fn system(alloc: Global, g: &Grin) -> Result<FlowSystem, AllocError>
     start_flows(alloc, g, &mut inclusions)?;
     globals_flow(alloc, g, evals, g.globals.as_slice(), &mut inclusions)?;
     procs_flow(alloc, g, evals, g.procs.as_slice(), &mut inclusions)?;
+    let listed = inclusions.as_slice();
+    let places = all_named(alloc, listed)?;
+    let sets = numbered(alloc, places.as_slice())?;
+    let rows = rows(alloc, &sets, listed)?;
     Ok(FlowSystem {
         tags: copied_tags(alloc, g)?,
         globals: copied_globals(alloc, g)?,
         params: copied_params(alloc, g)?,
         inclusions,
+        sets,
+        rows: Seq::from_vec(rows),
     })
 }

@@ -6,6 +6,3 @@ mod program;
 mod text;
 
 pub use program::generated;
-
-#[cfg(test)]
-mod tests;

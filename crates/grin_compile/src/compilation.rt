@@ -86,8 +86,10 @@ impl Compiled {
 pub fn compile(alloc: Global, p: &Checked, options: Options) -> Result<Compiled, CompileRefusal>
     requires valid { IsValid (program p.now) }
     requires range { InRange options.cells options.stack }
-    ensures made { IfOk result (λ c. Made (program p.now) options.cells (whole_words options.stack) c.image.items) }
-    ensures parts { IfOk result (IsCompilation (program p.now) options.cells (whole_words options.stack)) }
+    ensures made { IfOk result (λ c.
+        Made (program p.now) options.cells (whole_words options.stack) c.image.items) }
+    ensures parts { IfOk result
+        (IsCompilation (program p.now) options.cells (whole_words options.stack)) }
     ensures fits { IfOk result (λ c. Fits (program p.now)) }
     ensures refused { IfErr result (IsLarge (program p.now)) }
 {

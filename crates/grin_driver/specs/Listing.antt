@@ -2,7 +2,7 @@
 use Rattle.std.specs.Prelude.{◌≡◌, ◌≢◌, ◌⊎◌, ◌<◌, ℕ, List}
 use Rattle.core_reader.specs.Tree as tree
 use Rattle.core_reader.specs.Text.{IsText, IsFirstUnread, IsUnbroken}
-use Rattle.core_reader.specs.Canonical.{canonical}
+use Rattle.core_print.specs.Canonical.{canonical}
 use Rattle.arity_check.specs.Program.{Program}
 use Rattle.grin_syntax.specs.Tree as grin
 use Rattle.grin_syntax.specs.Listing as grin_listing

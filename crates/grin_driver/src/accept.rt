@@ -56,7 +56,8 @@ pub(crate) fn unread(refusal: &ReadRefusal) -> Status
 
 /// The status for a program that breaks a rule.
 fn unchecked(refusal: &CheckRefusal) -> Status
-    ensures { (text : List ℕ) (p : tree.Program) → reader.IsUnbroken text → IsText text p → check.IsCause p refusal.now → IsUnaccepted text result }
+    ensures { (text : List ℕ) (p : tree.Program) → reader.IsUnbroken text → IsText text p
+        → check.IsCause p refusal.now → IsUnaccepted text result }
 {
     let rule = refusal.rule();
     if rule == 0 {

@@ -21,7 +21,8 @@ pub(crate) fn build_text<K: Sink>(
     out: &mut K,
 ) -> Status
     requires { InRange options.cells options.stack }
-    ensures builds { Builds (of_sink K.put_gives K.taken K.faults out.old out.new) text.now options.cells options.stack result }
+    ensures builds { Builds (of_sink K.put_gives K.taken K.faults out.old out.new) text.now
+        options.cells options.stack result }
     ensures later { K.faults out.old ≤ K.faults out.new }
 {
     match compiled(alloc, text, options) {

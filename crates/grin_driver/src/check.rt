@@ -13,7 +13,8 @@ use std::alloc::Global;
 /// The line of an accepted text.
 #[tactic(auto, unfolding(crate::specs::Checking::summary))]
 fn summary(accepted: &Accepted) -> Note
-    ensures { result ≡ summary (length accepted.now.program.funs) (length accepted.now.program.cons) accepted.now.size }
+    ensures { result ≡ summary (length accepted.now.program.funs) (length accepted.now.program.cons)
+        accepted.now.size }
 {
     let mut note = Note::new();
     note.push_named(b"ok functions ", accepted.program.funs.len() as u64);

@@ -88,7 +88,8 @@ fn code_listing(alloc: Global, code: &[u32]) -> Result<Vec<u8>, AllocError>
 /// The listing of the code of a text's image, or why there is none.
 fn listed_code(alloc: Global, text: &[u8], options: Options) -> Result<Vec<u8>, Status>
     requires { InRange options.cells options.stack }
-    ensures listed { IfOk result (λ bytes. IsCodeListing text.now options.cells options.stack bytes.items) }
+    ensures listed { IfOk result (λ bytes.
+        IsCodeListing text.now options.cells options.stack bytes.items) }
     ensures unlisted { IfErr result (IsUnmade text.now) }
 {
     let compiled = compiled(alloc, text, options)?;
@@ -100,7 +101,8 @@ fn listed_code(alloc: Global, text: &[u8], options: Options) -> Result<Vec<u8>, 
 
 /// Lists the code of a text's image with the heap and the stack that it has by default, in pieces of 4,096 bytes.
 pub(crate) fn list_code<K: Sink>(alloc: Global, text: &[u8], out: &mut K) -> Status
-    ensures lists { ListsCode (of_sink K.put_gives K.taken K.faults out.old out.new) text.now 1000000 1048576 result }
+    ensures lists { ListsCode (of_sink K.put_gives K.taken K.faults out.old out.new) text.now
+        1000000 1048576 result }
     ensures later { K.faults out.old ≤ K.faults out.new }
 {
     match listed_code(alloc, text, DEFAULTS) {

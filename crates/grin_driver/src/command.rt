@@ -46,8 +46,14 @@ fn run_file<F: Shelf, I: Source, K: Sink>(
 ) -> Status
     requires permitted { F.permitted file.now }
     requires within { InRange options.cells options.stack }
-    ensures answer { OfOperand (of_shelf F.content F.faults shelf.old shelf.new) most_of_text ((input.new ≡ input.old) × (out.new ≡ out.old)) file.now (λ text status. Outcome (of_source I.left I.faults input.old input.new) (of_sink K.put_gives K.taken K.faults out.old out.new) text options.cells options.stack steps status) result }
-    ensures later { (F.faults shelf.old ≤ F.faults shelf.new) × ((I.faults input.old ≤ I.faults input.new) × (K.faults out.old ≤ K.faults out.new)) }
+    ensures answer { OfOperand (of_shelf F.content F.faults shelf.old shelf.new) most_of_text
+        ((input.new ≡ input.old)
+        × (out.new ≡ out.old)) file.now (λ text status.
+        Outcome (of_source I.left I.faults input.old input.new)
+        (of_sink K.put_gives K.taken K.faults out.old out.new) text options.cells options.stack
+        steps status) result }
+    ensures later { (F.faults shelf.old ≤ F.faults shelf.new)
+        × ((I.faults input.old ≤ I.faults input.new) × (K.faults out.old ≤ K.faults out.new)) }
 {
     match read_file(alloc, shelf, file, MOST_OF_TEXT) {
         Ok(text) => {
@@ -61,8 +67,11 @@ fn run_file<F: Shelf, I: Source, K: Sink>(
 /// Checks the text of a file, and puts the line of its program.
 fn check_file<F: Shelf, K: Sink>(alloc: Global, file: &str, shelf: &mut F, out: &mut K) -> Status
     requires { F.permitted file.now }
-    ensures answer { OfOperand (of_shelf F.content F.faults shelf.old shelf.new) most_of_text (out.new ≡ out.old) file.now (λ text status. Checks (of_sink K.put_gives K.taken K.faults out.old out.new) text status) result }
-    ensures later { (F.faults shelf.old ≤ F.faults shelf.new) × (K.faults out.old ≤ K.faults out.new) }
+    ensures answer { OfOperand (of_shelf F.content F.faults shelf.old shelf.new) most_of_text
+        (out.new ≡ out.old) file.now (λ text status.
+        Checks (of_sink K.put_gives K.taken K.faults out.old out.new) text status) result }
+    ensures later { (F.faults shelf.old ≤ F.faults shelf.new)
+        × (K.faults out.old ≤ K.faults out.new) }
 {
     match read_file(alloc, shelf, file, MOST_OF_TEXT) {
         Ok(text) => check_text(alloc, text.as_slice(), out),
@@ -79,8 +88,12 @@ fn list_file<F: Shelf, K: Sink>(
     out: &mut K,
 ) -> Status
     requires { F.permitted file.now }
-    ensures answer { OfOperand (of_shelf F.content F.faults shelf.old shelf.new) most_of_text (out.new ≡ out.old) file.now (λ text status. ListsAfter (of_sink K.put_gives K.taken K.faults out.old out.new) text after status) result }
-    ensures later { (F.faults shelf.old ≤ F.faults shelf.new) × (K.faults out.old ≤ K.faults out.new) }
+    ensures answer { OfOperand (of_shelf F.content F.faults shelf.old shelf.new) most_of_text
+        (out.new ≡ out.old) file.now (λ text status.
+        ListsAfter (of_sink K.put_gives K.taken K.faults out.old out.new) text after status)
+        result }
+    ensures later { (F.faults shelf.old ≤ F.faults shelf.new)
+        × (K.faults out.old ≤ K.faults out.new) }
 {
     match read_file(alloc, shelf, file, MOST_OF_TEXT) {
         Ok(text) => list_after(alloc, text.as_slice(), after, out),
@@ -98,8 +111,12 @@ fn build_file<F: Shelf, K: Sink>(
 ) -> Status
     requires permitted { F.permitted file.now }
     requires within { InRange options.cells options.stack }
-    ensures answer { OfOperand (of_shelf F.content F.faults shelf.old shelf.new) most_of_text (out.new ≡ out.old) file.now (λ text status. Builds (of_sink K.put_gives K.taken K.faults out.old out.new) text options.cells options.stack status) result }
-    ensures later { (F.faults shelf.old ≤ F.faults shelf.new) × (K.faults out.old ≤ K.faults out.new) }
+    ensures answer { OfOperand (of_shelf F.content F.faults shelf.old shelf.new) most_of_text
+        (out.new ≡ out.old) file.now (λ text status.
+        Builds (of_sink K.put_gives K.taken K.faults out.old out.new) text options.cells
+        options.stack status) result }
+    ensures later { (F.faults shelf.old ≤ F.faults shelf.new)
+        × (K.faults out.old ≤ K.faults out.new) }
 {
     match read_file(alloc, shelf, file, MOST_OF_TEXT) {
         Ok(text) => build_text(alloc, text.as_slice(), options, out),
@@ -117,8 +134,13 @@ fn exec_file<F: Shelf, I: Source, K: Sink>(
     out: &mut K,
 ) -> Status
     requires { F.permitted file.now }
-    ensures answer { OfOperand (of_shelf F.content F.faults shelf.old shelf.new) most_of_image ((input.new ≡ input.old) × (out.new ≡ out.old)) file.now (λ bytes status. Execution (of_source I.left I.faults input.old input.new) (of_sink K.put_gives K.taken K.faults out.old out.new) bytes steps status) result }
-    ensures later { (F.faults shelf.old ≤ F.faults shelf.new) × ((I.faults input.old ≤ I.faults input.new) × (K.faults out.old ≤ K.faults out.new)) }
+    ensures answer { OfOperand (of_shelf F.content F.faults shelf.old shelf.new) most_of_image
+        ((input.new ≡ input.old)
+        × (out.new ≡ out.old)) file.now (λ bytes status.
+        Execution (of_source I.left I.faults input.old input.new)
+        (of_sink K.put_gives K.taken K.faults out.old out.new) bytes steps status) result }
+    ensures later { (F.faults shelf.old ≤ F.faults shelf.new)
+        × ((I.faults input.old ≤ I.faults input.new) × (K.faults out.old ≤ K.faults out.new)) }
 {
     match read_file(alloc, shelf, file, MOST_OF_IMAGE) {
         Ok(bytes) => exec_image(alloc, bytes.as_slice(), steps, input, out),
@@ -136,8 +158,12 @@ fn run_command<F: Shelf, I: Source, K: Sink>(
 ) -> Status
     requires permitted { OfNamed F.permitted (asked_by command.now) }
     requires within { IsWithin (asked_by command.now) }
-    ensures answer { Answers (of_shelf F.content F.faults shelf.old shelf.new) (of_source I.left I.faults input.old input.new) (of_sink K.put_gives K.taken K.faults out.old out.new) (Some (asked_by command.now)) result }
-    ensures later { (F.faults shelf.old ≤ F.faults shelf.new) × ((I.faults input.old ≤ I.faults input.new) × (K.faults out.old ≤ K.faults out.new)) }
+    ensures answer { Answers (of_shelf F.content F.faults shelf.old shelf.new)
+        (of_source I.left I.faults input.old input.new)
+        (of_sink K.put_gives K.taken K.faults out.old out.new) (Some (asked_by command.now))
+        result }
+    ensures later { (F.faults shelf.old ≤ F.faults shelf.new)
+        × ((I.faults input.old ≤ I.faults input.new) × (K.faults out.old ≤ K.faults out.new)) }
 {
     match command {
         Command::Run {
@@ -175,8 +201,11 @@ fn run_line<F: Shelf, I: Source, K: Sink>(
     out: &mut K,
 ) -> Status
     requires { IfSome (command_of line.now) (OfNamed F.permitted) }
-    ensures answer { Answers (of_shelf F.content F.faults shelf.old shelf.new) (of_source I.left I.faults input.old input.new) (of_sink K.put_gives K.taken K.faults out.old out.new) (command_of line.now) result }
-    ensures later { (F.faults shelf.old ≤ F.faults shelf.new) × ((I.faults input.old ≤ I.faults input.new) × (K.faults out.old ≤ K.faults out.new)) }
+    ensures answer { Answers (of_shelf F.content F.faults shelf.old shelf.new)
+        (of_source I.left I.faults input.old input.new)
+        (of_sink K.put_gives K.taken K.faults out.old out.new) (command_of line.now) result }
+    ensures later { (F.faults shelf.old ≤ F.faults shelf.new)
+        × ((I.faults input.old ≤ I.faults input.new) × (K.faults out.old ≤ K.faults out.new)) }
 {
     match line.command() {
         None => Status::Usage,
@@ -199,11 +228,18 @@ pub fn grinc_main<F: Shelf, I: Source, K: Sink, E: Sink>(
     err: &mut E,
 ) -> Status
     requires permitted { IfSome (command_of line.now) (OfNamed F.permitted) }
-    ensures answer { Answers (of_shelf F.content F.faults shelf.old shelf.new) (of_source I.left I.faults input.old input.new) (of_sink K.put_gives K.taken K.faults out.old out.new) (command_of line.now) result }
+    ensures answer { Answers (of_shelf F.content F.faults shelf.old shelf.new)
+        (of_source I.left I.faults input.old input.new)
+        (of_sink K.put_gives K.taken K.faults out.old out.new) (command_of line.now) result }
     ensures told { IsTold (of_sink E.put_gives E.taken E.faults err.old err.new) result }
-    ensures complete { NothingFailed (of_shelf F.content F.faults shelf.old shelf.new) (of_source I.left I.faults input.old input.new) (of_sink K.put_gives K.taken K.faults out.old out.new) → Gives (of_shelf F.content F.faults shelf.old shelf.new) (of_source I.left I.faults input.old input.new) (command_of line.now) result }
+    ensures complete { NothingFailed (of_shelf F.content F.faults shelf.old shelf.new)
+        (of_source I.left I.faults input.old input.new)
+        (of_sink K.put_gives K.taken K.faults out.old out.new)
+        → Gives (of_shelf F.content F.faults shelf.old shelf.new)
+        (of_source I.left I.faults input.old input.new) (command_of line.now) result }
     ensures memory { result ≡ OutOfMemory → out.new ≡ out.old }
-    ensures later { (F.faults shelf.old ≤ F.faults shelf.new) × ((I.faults input.old ≤ I.faults input.new) × (K.faults out.old ≤ K.faults out.new)) }
+    ensures later { (F.faults shelf.old ≤ F.faults shelf.new)
+        × ((I.faults input.old ≤ I.faults input.new) × (K.faults out.old ≤ K.faults out.new)) }
 {
     // A law: each accepted text has one program, so what is accepted isn't refused.
     one_accepted_program();

@@ -20,7 +20,8 @@ pub(crate) const DEFAULTS: Options = Options {
 /// The compiled program of a text, or why there is none.
 pub(crate) fn compiled(alloc: Global, text: &[u8], options: Options) -> Result<Compiled, Status>
     requires { InRange options.cells options.stack }
-    ensures image { IfOk result (λ c. IsImageOf text.now options.cells options.stack c.image.items) }
+    ensures image { IfOk result (λ c.
+        IsImageOf text.now options.cells options.stack c.image.items) }
     ensures code { IfOk result (λ c. IsCodeOf text.now options.cells options.stack c.code.items) }
     ensures short { IfOk result (λ c. length c.code.items ≤ 268435456) }
     ensures unmade { IfErr result (IsUnmade text.now) }

@@ -15,7 +15,8 @@ use crate::code::list_code;
 use crate::pieces::put_pieces;
 use crate::status::Status;
 use command_line::Listing;
-use core_reader::{print, read};
+use core_print::print;
+use core_reader::read;
 use grin_io::Sink;
 use grin_opt::PassName;
 use grin_stages::{CompileRefusal, stage};
@@ -40,7 +41,8 @@ fn listed(alloc: Global, text: &[u8], after: PassName) -> Result<Vec<u8>, Status
 
 /// The status for a program that has no later stages.
 pub(crate) fn unstaged(refusal: &CompileRefusal) -> Status
-    ensures { (text : List ℕ) (source : tree.Program) (p : Program) (after : PassName') → IsAccepted text source p → IsTooLarge p after refusal.now → IsUnlisted text after result }
+    ensures { (text : List ℕ) (source : tree.Program) (p : Program) (after : PassName')
+        → IsAccepted text source p → IsTooLarge p after refusal.now → IsUnlisted text after result }
 {
     match refusal {
         CompileRefusal::ExpandedTooLarge(size) => Status::Refused {
@@ -53,7 +55,8 @@ pub(crate) fn unstaged(refusal: &CompileRefusal) -> Status
 
 /// Lists a text's program after a pass, in pieces of 4,096 bytes. All memory is had before the first put.
 pub fn list_text<K: Sink>(alloc: Global, text: &[u8], after: PassName, out: &mut K) -> Status
-    ensures lists { Lists (of_sink K.put_gives K.taken K.faults out.old out.new) text.now after result }
+    ensures lists { Lists (of_sink K.put_gives K.taken K.faults out.old out.new) text.now after
+        result }
     ensures later { K.faults out.old ≤ K.faults out.new }
 {
     match listed(alloc, text, after) {
@@ -96,7 +99,8 @@ fn print_text<K: Sink>(alloc: Global, text: &[u8], out: &mut K) -> Status
 
 /// Lists a text's program after what the command line says.
 pub(crate) fn list_after<K: Sink>(alloc: Global, text: &[u8], after: Listing, out: &mut K) -> Status
-    ensures lists { ListsAfter (of_sink K.put_gives K.taken K.faults out.old out.new) text.now after result }
+    ensures lists { ListsAfter (of_sink K.put_gives K.taken K.faults out.old out.new) text.now after
+        result }
     ensures later { K.faults out.old ≤ K.faults out.new }
 {
     match after {

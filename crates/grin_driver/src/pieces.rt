@@ -11,8 +11,10 @@ const PIECE: usize = 4096;
 
 /// Puts bytes in pieces of 4,096, of which the last one may be shorter, up to the first put that fails.
 pub(crate) fn put_pieces<K: Sink>(bytes: &[u8], out: &mut K) -> Result<(), Failed>
-    ensures took { OnOk result (OfPieces bytes.now (TookAll (of_sink K.put_gives K.taken K.faults out.old out.new))) }
-    ensures broke { OnErr result (OfPieces bytes.now (BrokeOff (of_sink K.put_gives K.taken K.faults out.old out.new))) }
+    ensures took { OnOk result
+        (OfPieces bytes.now (TookAll (of_sink K.put_gives K.taken K.faults out.old out.new))) }
+    ensures broke { OnErr result
+        (OfPieces bytes.now (BrokeOff (of_sink K.put_gives K.taken K.faults out.old out.new))) }
     ensures later { K.faults out.old ≤ K.faults out.new }
 {
     'pieces: for piece in bytes.chunks(PIECE) {

@@ -11,13 +11,15 @@ use std::alloc::Global;
 /// The most bytes of one reading.
 const PIECE: usize = 4096;
 
-/// Reads the next bytes of the open file behind those that were read, up to so many in all; whether there were any.
+/// Reads the next bytes of the open file after those that were read, up to so many in all; whether there were any.
 fn read_piece<F: Shelf>(shelf: &mut F, most: usize, bytes: &mut Vec<u8>) -> Result<bool, Status>
     requires opened { F.is_open shelf.old ≡ true }
     requires room { length bytes.old.items < most }
     ensures opened { F.is_open shelf.new ≡ true }
-    ensures on { IfOk result (ReadsOn (F.content shelf.old) (F.content shelf.new) bytes.old.items bytes.new.items) }
-    ensures grew { IfOk result (λ more. more ≡ true → length bytes.old.items < length bytes.new.items) }
+    ensures on { IfOk result (ReadsOn (F.content shelf.old) (F.content shelf.new) bytes.old.items
+        bytes.new.items) }
+    ensures grew { IfOk result (λ more. more ≡ true → length bytes.old.items
+        < length bytes.new.items) }
     ensures room { length bytes.new.items ≤ most }
     ensures unread { IfErr result (IsUnread (of_shelf F.content F.faults shelf.old shelf.new)) }
     ensures later { F.faults shelf.old ≤ F.faults shelf.new }
@@ -44,7 +46,8 @@ pub(crate) fn read_file<F: Shelf>(
     most: usize,
 ) -> Result<Vec<u8>, Status>
     requires { F.permitted name.now }
-    ensures read { IfOk result (λ bytes. IsRead (of_shelf F.content F.faults shelf.old shelf.new) most name.now bytes.items) }
+    ensures read { IfOk result (λ bytes.
+        IsRead (of_shelf F.content F.faults shelf.old shelf.new) most name.now bytes.items) }
     ensures unread { IfErr result (IsUnread (of_shelf F.content F.faults shelf.old shelf.new)) }
     ensures later { F.faults shelf.old ≤ F.faults shelf.new }
 {

@@ -37,7 +37,8 @@ pub fn run_text<I: Source, K: Sink>(
     out: &mut K,
 ) -> Status
     requires { InRange cells stack }
-    ensures outcome { Outcome (of_source I.left I.faults input.old input.new) (of_sink K.put_gives K.taken K.faults out.old out.new) text.now cells stack steps result }
+    ensures outcome { Outcome (of_source I.left I.faults input.old input.new)
+        (of_sink K.put_gives K.taken K.faults out.old out.new) text.now cells stack steps result }
     ensures input_later { I.faults input.old ≤ I.faults input.new }
     ensures out_later { K.faults out.old ≤ K.faults out.new }
 {

@@ -26,7 +26,7 @@ pub enum Status {
     HeapFull,
     /// The program nested deeper than the stack that it was given has room for.
     StackFull,
-    /// The program hasn't ended after the given number of instructions.
+    /// The program still runs when its instructions are used up.
     StepLimit,
     /// The image exited with this code, which isn't 0.
     Exited(u32),

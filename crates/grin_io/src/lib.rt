@@ -13,6 +13,3 @@ pub use memory::{MemFile, MemShelf, MemSink, MemSource};
 pub use outside::{Failed, Fault, Shelf, Sink, Source};
 pub use sure::{SureShelf, SureSource};
 pub use system::{FileShelf, StdErr, StdIn, StdOut};
-
-#[cfg(test)]
-mod tests;

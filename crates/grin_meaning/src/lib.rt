@@ -1,4 +1,4 @@
-// What a GRIN program means, and passes that keep it.
+//! What a GRIN program means, and passes that keep it.
 #![tactic(auto)]
 
 pub mod laws;

@@ -3,8 +3,7 @@ use Rattle.std.proofs.Common.{◌≡◌, ℕ, ◌+◌, List, [], ◌∷◌, ◌+
 use Rattle.grin_syntax.specs.declared.program.Val.{Val}
 use Rattle.grin_syntax.specs.declared.program.Word.{Word}
 use Rattle.grin_syntax.specs.Tree.{Code, end, store, bind, Act, unit, fetch, fetch_word, update, eval, apply, call, prim, read, write, case, nested, fail, Arms, no_arm, arm, Procedure, Program}
-use Rattle.update_special.specs.Updates.{tag_variable}
-use Rattle.update_special.specs.Updated.{act_sum, code_sum, arms_sum, procs_sum, one_if_some, open_updates}
+use Rattle.pass_ground.specs.OpenUpdates.{tag_variable, act_sum, code_sum, arms_sum, procs_sum, one_if_some, open_updates}
 use Rattle.unbox.specs.Unboxed.{act_updates, code_updates, arms_updates, updates_of}
 
 module _ (count : Val → ℕ) where

@@ -2,7 +2,7 @@
 use Rattle.std.specs.Prelude.{ℕ, ◌≤◌}
 use Rattle.grin_syntax.specs.Tree.{Program}
 use Rattle.grin_meaning.specs.Ready.{IsInlined, IsVectorised, IsFetchedByWords}
-use Rattle.update_special.specs.Updated.{open_updates}
+use Rattle.pass_ground.specs.OpenUpdates.{open_updates}
 use Rattle.grin_opt.specs.declared.pass.PassName.{PassName}
 use Rattle.grin_opt.specs.declared.pass.PassName.TheVariants.{Translate, Eval, Apply, Vectorise, Simplify, Fetch, Copy, Update, Unbox, Raise}
 use Rattle.grin_opt.specs.Schedule.{IsTaken, shape_of, before, IsOptimised}

@@ -1,4 +1,4 @@
-// The stages of a program on its way through GRIN, and the size that it may have.
+//! The stages of a program on its way through GRIN, and the size that it may have.
 #![tactic(auto)]
 
 mod inlined;

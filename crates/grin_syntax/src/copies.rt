@@ -8,6 +8,7 @@ use crate::program::{Alt, Block, Cell, GlobalCell, Grin, Op, Proc, Shape, Stmt, 
 use seq::Seq;
 use std::alloc::{AllocError, Global};
 
+/// An equal value.
 pub fn copy_val(alloc: Global, v: &Val) -> Result<Val, AllocError>
     ensures { IfOk result (λ c. c ≡ v.now) }
 {
@@ -19,6 +20,7 @@ pub fn copy_val(alloc: Global, v: &Val) -> Result<Val, AllocError>
     }
 }
 
+/// An equal target.
 pub fn copy_target(alloc: Global, t: &Target) -> Result<Target, AllocError>
     ensures { IfOk result (λ c. c ≡ t.now) }
 {
@@ -117,6 +119,7 @@ fn copy_block(alloc: Global, block: &Block) -> Result<Block, AllocError>
     })
 }
 
+/// A program with the same tree. Its one error is want of memory.
 pub fn copy(alloc: Global, g: &Grin) -> Result<Grin, AllocError>
     ensures { IfOk result (λ h. program_of h ≡ program_of g.now) }
 {

@@ -1,4 +1,4 @@
-// The intermediate language: its programs, as trees.
+//! The intermediate language: its programs, as trees.
 #![tactic(auto)]
 
 pub mod copies;

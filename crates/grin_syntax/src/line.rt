@@ -22,6 +22,7 @@ impl Model for Line {
 }
 
 impl Line {
+    /// The empty text.
     pub fn new(alloc: Global) -> Line
         ensures { result ≡ [] }
     {
@@ -30,24 +31,28 @@ impl Line {
         }
     }
 
+    /// Puts these bytes at the end.
     pub fn bytes(&mut self, piece: &[u8]) -> Result<(), AllocError>
         ensures { OnOk result (self.new ≡ self.old ++ piece.now) }
     {
         self.bytes.extend_from_slice(piece)
     }
 
+    /// Puts this text at the end.
     pub fn put(&mut self, piece: &str) -> Result<(), AllocError>
         ensures { OnOk result (self.new ≡ self.old ++ piece.now) }
     {
         self.bytes(piece.as_bytes())
     }
 
+    /// Puts the other text at the end.
     pub fn line(&mut self, other: &Line) -> Result<(), AllocError>
         ensures { OnOk result (self.new ≡ self.old ++ other.now) }
     {
         self.bytes(other.bytes.as_slice())
     }
 
+    /// Puts a number at the end, in decimal.
     pub fn number(&mut self, number: usize) -> Result<(), AllocError>
         ensures { OnOk result (self.new ≡ self.old ++ decimal number) }
     {
@@ -55,6 +60,7 @@ impl Line {
         self.put(buffer.format(number))
     }
 
+    /// Puts a number at the end, in decimal, with its sign where it is negative.
     pub fn signed(&mut self, number: i32) -> Result<(), AllocError>
         ensures { OnOk result (self.new ≡ self.old ++ signed_decimal number) }
     {
@@ -69,18 +75,21 @@ impl Line {
         self.put("  ")
     }
 
+    /// The number of its bytes.
     pub fn len(&self) -> usize
         ensures { result ≡ length self.now }
     {
         self.bytes.len()
     }
 
+    /// Keeps the first bytes, so many at most.
     pub fn cut(&mut self, len: usize)
         ensures { self.new ≡ take len self.old }
     {
         self.bytes.truncate(len);
     }
 
+    /// The bytes.
     pub fn into_vec(self) -> Vec<u8>
         ensures { result.items ≡ self }
     {

@@ -11,7 +11,7 @@ use Rattle.grin_translate.specs.declared.tags.Delay.{Delay}
 use Rattle.grin_translate.specs.declared.tags.Delay.TheVariants.{Calls, Applies, Operates, Reads}
 use Rattle.grin_translate.specs.declared.tags.Kind.{Kind}
 use Rattle.grin_translate.specs.declared.tags.Kind.TheVariants.{Number, Constructor, Waits, Lacks}
-use Rattle.grin_translate.specs.Tags.{operations, op_number, same_delay, same_kind, first_place, numbers_from, is_delayed, takes_input, delays, kinds, parts, parts_of, tag, tag_of, con_tag, proc}
+use Rattle.grin_translate.specs.Tags.{operations, op_number, same_delay, same_kind, first_place, numbers_from, is_delayed, takes_input, delays, kinds, parts, function_parts, tag, tag_of, con_tag, proc}
 use Rattle.grin_translate.specs.WellFormed.{AllOf, HasFields}
 use Rattle.grin_translate.proofs.Places.{Has, true_not_false, has_left, has_right, has_map, has_filter, has_number_from, all_append, all_map, found, places_tell}
 
@@ -149,14 +149,14 @@ module _ (p : Program) where
   unfolding kinds
   has_waits d h = inr (has_right _ (map Constructor (numbers_from 0 (length p.cons))) _ (has_left _ (map Waits (delays p)) _ (has_map Waits d _ h)))
 
-  has_part_of : (f n r : ℕ) → r < n → Has (Lacks f (suc r)) (parts_of f n)
+  has_part_of : (f n r : ℕ) → r < n → Has (Lacks f (suc r)) (function_parts f n)
   has_part_of f zero r lt = absurd (omega (arith, lt))
   has_part_of f (suc n) r lt = at_first (nat_eq r n) refl (λ less. has_part_of f n r less)
     where
       below : (r ≡ n → ⊥) → r < n
       below ne = omega (arith, lt, ne)
 
-      at_first : (b : Bool) → nat_eq r n ≡ b → (r < n → Has (Lacks f (suc r)) (parts_of f n)) → Has (Lacks f (suc r)) (Lacks f (suc n) ∷ parts_of f n)
+      at_first : (b : Bool) → nat_eq r n ≡ b → (r < n → Has (Lacks f (suc r)) (function_parts f n)) → Has (Lacks f (suc r)) (Lacks f (suc n) ∷ function_parts f n)
       at_first true e ih = inl (ap (λ k. Lacks f (suc k)) (eqb-true r n e))
       at_first false e ih = inr (ih (below (λ q. true_not_false _ (eq-eqb r n q) e)))
 
@@ -165,10 +165,10 @@ module _ (p : Program) where
   has_part (h ∷ gs) f zero g r e lt =
       let same : h ≡ g = same_Some h g e in
       let first : f + 0 ≡ f = omega arith in
-      rw first (has_left _ (parts_of f h.params) _ (has_part_of f h.params r (subst (λ x. r < x.params) (sym same) lt)))
+      rw first (has_left _ (function_parts f h.params) _ (has_part_of f h.params r (subst (λ x. r < x.params) (sym same) lt)))
   has_part (h ∷ gs) f (suc i) g r e lt =
       let next : f + suc i ≡ suc f + i = omega arith in
-      rw next (has_right _ (parts_of f h.params) _ (has_part gs (suc f) i g r e lt))
+      rw next (has_right _ (function_parts f h.params) _ (has_part gs (suc f) i g r e lt))
 
   pub has_lacks : (f : ℕ) (g : Function) (r : ℕ) → slice_get p.funs f ≡ Some g → r < g.params → Has (Lacks f (suc r)) (kinds p)
   unfolding kinds
@@ -191,13 +191,13 @@ module _ (p : Program) where
   Good (Waits d) = Unit {0}
   Good (Lacks g q) = Has (Calls g) (delays p)
 
-  good_parts_of : (f n : ℕ) → Has (Calls f) (delays p) → AllOf Good (parts_of f n)
+  good_parts_of : (f n : ℕ) → Has (Calls f) (delays p) → AllOf Good (function_parts f n)
   good_parts_of f zero h = tt
   good_parts_of f (suc n) h = (h, good_parts_of f n h)
 
   good_parts : (gs : List Function) (f : ℕ) → f + length gs ≤ length p.funs → AllOf Good (parts gs f)
   good_parts [] f le = tt
-  good_parts (g ∷ gs) f le = all_append Good (parts_of f g.params) _ (good_parts_of f g.params (has_calls_below f (omega (arith, le)))) (good_parts gs (suc f) (omega (arith, le)))
+  good_parts (g ∷ gs) f le = all_append Good (function_parts f g.params) _ (good_parts_of f g.params (has_calls_below f (omega (arith, le)))) (good_parts gs (suc f) (omega (arith, le)))
 
   good : AllOf Good (kinds p)
   unfolding kinds

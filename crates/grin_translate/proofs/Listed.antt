@@ -12,7 +12,7 @@ use Rattle.grin_translate.specs.declared.tags.Delay.{Delay}
 use Rattle.grin_translate.specs.declared.tags.Delay.TheVariants.{Calls}
 use Rattle.grin_translate.specs.declared.tags.Kind.{Kind}
 use Rattle.grin_translate.specs.declared.tags.Kind.TheVariants.{Number, Constructor, Waits, Lacks}
-use Rattle.grin_translate.specs.Tags.{numbers_from, parts, parts_of, kinds, delays, takes_input, tag, tag_of, fun_name, delay_name, delay_params}
+use Rattle.grin_translate.specs.Tags.{numbers_from, parts, function_parts, kinds, delays, takes_input, tag, tag_of, fun_name, delay_name, delay_params}
 use Rattle.grin_translate.specs.Translation.{global_cells, procedure, delay_body, span, spans, delayed_procs, rest, print, print_body, tr}
 use Rattle.grin_translate.specs.Pieces.{shared_of, start_if}
 use Rattle.grin_translate.proofs.Pushed.{drop_all}
@@ -41,30 +41,30 @@ module _ (p : Program) where
   -- ---- tags of functions that lack arguments
 
   pub part_more : (f missing less : ℕ) (made pushed : List Tag) (t : Tag) → missing ≡ suc less → pushed ≡ made ++ t ∷ [] → t ≡ tag_of p (Lacks f missing)
-      → pushed ++ map (tag_of p) (parts_of f less) ≡ made ++ map (tag_of p) (parts_of f missing)
+      → pushed ++ map (tag_of p) (function_parts f less) ≡ made ++ map (tag_of p) (function_parts f missing)
   part_more f missing less made pushed t e g h =
-      (λ z. (g z) ++ map (tag_of p) (parts_of f less))
-      ∙ append_assoc made (t ∷ []) (map (tag_of p) (parts_of f less))
-      ∙ ap (λ x. made ++ (x ∷ map (tag_of p) (parts_of f less))) (h ∙ ap (λ k. tag_of p (Lacks f k)) e)
-      ∙ ap (λ k. made ++ map (tag_of p) (parts_of f k)) (sym e)
+      (λ z. (g z) ++ map (tag_of p) (function_parts f less))
+      ∙ append_assoc made (t ∷ []) (map (tag_of p) (function_parts f less))
+      ∙ ap (λ x. made ++ (x ∷ map (tag_of p) (function_parts f less))) (h ∙ ap (λ k. tag_of p (Lacks f k)) e)
+      ∙ ap (λ k. made ++ map (tag_of p) (function_parts f k)) (sym e)
 
-  pub part_end : (f missing : ℕ) (made whole : List Tag) → missing ≡ 0 → made ++ map (tag_of p) (parts_of f missing) ≡ whole → made ≡ whole
-  part_end f missing made whole z w = sym (append-nil made) ∙ ap (λ k. made ++ map (tag_of p) (parts_of f k)) (sym z) ∙ w
+  pub part_end : (f missing : ℕ) (made whole : List Tag) → missing ≡ 0 → made ++ map (tag_of p) (function_parts f missing) ≡ whole → made ≡ whole
+  part_end f missing made whole z w = sym (append-nil made) ∙ ap (λ k. made ++ map (tag_of p) (function_parts f k)) (sym z) ∙ w
 
-  parts_more : (f : ℕ) → f < length p.funs → parts (drop f p.funs) f ≡ parts_of f (params p f) ++ parts (drop (f + 1) p.funs) (f + 1)
+  parts_more : (f : ℕ) → f < length p.funs → parts (drop f p.funs) f ≡ function_parts f (params p f) ++ parts (drop (f + 1) p.funs) (f + 1)
   parts_more f lt =
       let r = function_at p.funs f lt in
       let e : suc f ≡ f + 1 = omega arith in
       ap (λ gs. parts gs f) r.others
-      ∙ ap (λ k. parts_of f k ++ parts (drop (f + 1) p.funs) (suc f)) (sym (ap (params_of p) r.is))
-      ∙ ap (λ k. parts_of f (params p f) ++ parts (drop (f + 1) p.funs) k) e
+      ∙ ap (λ k. function_parts f k ++ parts (drop (f + 1) p.funs) (suc f)) (sym (ap (params_of p) r.is))
+      ∙ ap (λ k. function_parts f (params p f) ++ parts (drop (f + 1) p.funs) k) e
 
-  pub function_parts : (f : ℕ) (made more whole : List Tag) → f < length p.funs → more ≡ made ++ map (tag_of p) (parts_of f (params p f)) → made ++ map (tag_of p) (parts (drop f p.funs) f) ≡ whole
+  pub parts_next : (f : ℕ) (made more whole : List Tag) → f < length p.funs → more ≡ made ++ map (tag_of p) (function_parts f (params p f)) → made ++ map (tag_of p) (parts (drop f p.funs) f) ≡ whole
       → more ++ map (tag_of p) (parts (drop (f + 1) p.funs) (f + 1)) ≡ whole
-  function_parts f made more whole lt e w =
+  parts_next f made more whole lt e w =
       ap (λ xs. xs ++ map (tag_of p) (parts (drop (f + 1) p.funs) (f + 1))) e
-      ∙ append_assoc made (map (tag_of p) (parts_of f (params p f))) (map (tag_of p) (parts (drop (f + 1) p.funs) (f + 1)))
-      ∙ ap (λ xs. made ++ xs) (sym (map-append (tag_of p) (parts_of f (params p f)) (parts (drop (f + 1) p.funs) (f + 1))) ∙ ap (map (tag_of p)) (sym (parts_more f lt)))
+      ∙ append_assoc made (map (tag_of p) (function_parts f (params p f))) (map (tag_of p) (parts (drop (f + 1) p.funs) (f + 1)))
+      ∙ ap (λ xs. made ++ xs) (sym (map-append (tag_of p) (function_parts f (params p f)) (parts (drop (f + 1) p.funs) (f + 1))) ∙ ap (map (tag_of p)) (sym (parts_more f lt)))
       ∙ w
 
   pub parts_end : (f : ℕ) (made whole : List Tag) → length p.funs ≤ f → made ++ map (tag_of p) (parts (drop f p.funs) f) ≡ whole → made ≡ whole

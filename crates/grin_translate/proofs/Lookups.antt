@@ -10,10 +10,10 @@ use Rattle.grin_translate.specs.declared.tags.Delay.{Delay}
 use Rattle.grin_translate.specs.declared.tags.Delay.TheVariants.{Calls, Applies, Operates, Reads}
 use Rattle.grin_translate.specs.declared.tags.Kind.{Kind}
 use Rattle.grin_translate.specs.declared.tags.Kind.TheVariants.{Number, Constructor, Waits, Lacks}
-use Rattle.grin_translate.specs.Tags.{operations, same_delay, same_kind, first_place, numbers_from, is_delayed, takes_input, delays, kinds, parts, parts_of, tag, proc}
+use Rattle.grin_translate.specs.Tags.{operations, same_delay, same_kind, first_place, numbers_from, is_delayed, takes_input, delays, kinds, parts, function_parts, tag, proc}
 use Rattle.grin_translate.specs.Numbered.{NoCall, starts, after, shared_before, shared_in, one_if_none, params_each}
 use Rattle.grin_translate.specs.WellFormed.{AllOf}
-use Rattle.grin_translate.proofs.Scoping.{count_more}
+use Rattle.core_meaning.proofs.Shared.{count_more}
 use Rattle.grin_translate.proofs.Places.{true_not_false, all_append, all_map}
 
 eqb_no : (a b : ℕ) → a ≢ b → nat_eq a b ≡ false
@@ -198,13 +198,13 @@ module _ (p : Program) where
   long_waits : length (map Waits (delays p)) ≡ length (delays p)
   long_waits = length-map (delays p) Waits
 
-  length-parts_of : (f n : ℕ) → length (parts_of f n) ≡ n
+  length-parts_of : (f n : ℕ) → length (function_parts f n) ≡ n
   length-parts_of f zero = refl
   length-parts_of f (suc n) = ap suc (length-parts_of f n)
 
   after_parts : (first : ℕ) (fs : List Function) (f : ℕ) → after first (params_each fs) ≡ first + length (parts fs f)
   after_parts first [] f = omega arith
-  after_parts first (g ∷ gs) f = omega (arith, after_parts (first + g.params) gs (suc f), length-append (parts_of f g.params) (parts gs (suc f)), length-parts_of f g.params)
+  after_parts first (g ∷ gs) f = omega (arith, after_parts (first + g.params) gs (suc f), length-append (function_parts f g.params) (parts gs (suc f)), length-parts_of f g.params)
 
   -- where the tags of functions that lack arguments begin
   abbrev pub first_part : ℕ
@@ -221,13 +221,13 @@ module _ (p : Program) where
   no_waits : (k : Kind) → ((d : Delay) → same_kind k (Waits d) ≡ false) → AllOf (λ l. same_kind k l ≡ false) (map Waits (delays p))
   no_waits k h = all_map (λ l. same_kind k l ≡ false) Waits (delays p) h
 
-  no_parts_of : (k : Kind) → ((f r : ℕ) → same_kind k (Lacks f r) ≡ false) → (f n : ℕ) → AllOf (λ l. same_kind k l ≡ false) (parts_of f n)
+  no_parts_of : (k : Kind) → ((f r : ℕ) → same_kind k (Lacks f r) ≡ false) → (f n : ℕ) → AllOf (λ l. same_kind k l ≡ false) (function_parts f n)
   no_parts_of k h f zero = tt
   no_parts_of k h f (suc n) = (h f (suc n), no_parts_of k h f n)
 
   no_parts : (k : Kind) → ((f r : ℕ) → same_kind k (Lacks f r) ≡ false) → (fs : List Function) (f : ℕ) → AllOf (λ l. same_kind k l ≡ false) (parts fs f)
   no_parts k h [] f = tt
-  no_parts k h (g ∷ gs) f = all_append (λ l. same_kind k l ≡ false) (parts_of f g.params) _ (no_parts_of k h f g.params) (no_parts k h gs (suc f))
+  no_parts k h (g ∷ gs) f = all_append (λ l. same_kind k l ≡ false) (function_parts f g.params) _ (no_parts_of k h f g.params) (no_parts k h gs (suc f))
 
   no_constructors : (k : Kind) → ((c : ℕ) → same_kind k (Constructor c) ≡ false) → AllOf (λ l. same_kind k l ≡ false) constructors
   no_constructors k h = all_map (λ l. same_kind k l ≡ false) Constructor (numbers_from 0 (length p.cons)) h
@@ -283,30 +283,30 @@ module _ (p : Program) where
   -- ---- the parts of functions
 
   -- no part of the functions from f on has r arguments missing
-  other_function : (f r g n : ℕ) → f ≢ g → AllOf (λ l. same_kind (Lacks f r) l ≡ false) (parts_of g n)
+  other_function : (f r g n : ℕ) → f ≢ g → AllOf (λ l. same_kind (Lacks f r) l ≡ false) (function_parts g n)
   other_function f r g zero ne = tt
   other_function f r g (suc n) ne = (rw (eqb_no f g ne) refl, other_function f r g n ne)
 
   other_functions : (f r : ℕ) (fs : List Function) (g : ℕ) → f < g → AllOf (λ l. same_kind (Lacks f r) l ≡ false) (parts fs g)
   other_functions f r [] g lt = tt
-  other_functions f r (h ∷ fs) g lt = all_append (λ l. same_kind (Lacks f r) l ≡ false) (parts_of g h.params) _ (other_function f r g h.params (λ e. omega (arith, lt, e))) (other_functions f r fs (suc g) (omega (arith, lt)))
+  other_functions f r (h ∷ fs) g lt = all_append (λ l. same_kind (Lacks f r) l ≡ false) (function_parts g h.params) _ (other_function f r g h.params (λ e. omega (arith, lt, e))) (other_functions f r fs (suc g) (omega (arith, lt)))
 
-  part_of_place : (f n r : ℕ) → r < n → first_place (same_kind (Lacks f (suc r))) (parts_of f n) ≡ n - suc r
+  part_of_place : (f n r : ℕ) → r < n → first_place (same_kind (Lacks f (suc r))) (function_parts f n) ≡ n - suc r
   part_of_place f zero r lt = absurd (omega (arith, lt))
   part_of_place f (suc n) r lt = rw (eq-eqb f f refl) (by_test (nat_eq (suc r) (suc n)) refl (part_of_place f n r))
     where
-      by_test : (b : Bool) → nat_eq (suc r) (suc n) ≡ b → (r < n → first_place (same_kind (Lacks f (suc r))) (parts_of f n) ≡ n - suc r) → cond b 0 (suc (first_place (same_kind (Lacks f (suc r))) (parts_of f n))) ≡ suc n - suc r
+      by_test : (b : Bool) → nat_eq (suc r) (suc n) ≡ b → (r < n → first_place (same_kind (Lacks f (suc r))) (function_parts f n) ≡ n - suc r) → cond b 0 (suc (first_place (same_kind (Lacks f (suc r))) (function_parts f n))) ≡ suc n - suc r
       by_test true e ih = let i = eqb-true (suc r) (suc n) e in omega (arith, i)
       by_test false e ih =
           let ne : r ≢ n = λ q. true_not_false (nat_eq (suc r) (suc n)) (eq-eqb (suc r) (suc n) (ap suc q)) e in
           let h = ih (omega (arith, lt, ne)) in
           omega (arith, h, lt, ne)
 
-  part_of_absent : (f n r : ℕ) → n < r → AllOf (λ l. same_kind (Lacks f r) l ≡ false) (parts_of f n)
+  part_of_absent : (f n r : ℕ) → n < r → AllOf (λ l. same_kind (Lacks f r) l ≡ false) (function_parts f n)
   part_of_absent f zero r lt = tt
   part_of_absent f (suc n) r lt = (rw (eq-eqb f f refl, eqb_no r (suc n) (λ e. omega (arith, lt, e))) refl, part_of_absent f n r (omega (arith, lt)))
 
-  part_of_none : (f n : ℕ) → AllOf (λ l. same_kind (Lacks f 0) l ≡ false) (parts_of f n)
+  part_of_none : (f n : ℕ) → AllOf (λ l. same_kind (Lacks f 0) l ≡ false) (function_parts f n)
   part_of_none f zero = tt
   part_of_none f (suc n) = (rw (eq-eqb f f refl, eqb_no 0 (suc n) (λ e. omega (arith, e))) refl, part_of_none f n)
 
@@ -318,10 +318,10 @@ module _ (p : Program) where
       let same : first ≡ start = same_Some first start e in
       let many : h.params ≡ n = same_Some h.params n g in
       let here = part_of_place k h.params r (omega (arith, many, lt)) in
-      rw z (let i = hit (same_kind (Lacks k (suc r))) (parts_of k h.params) (parts fs (suc k)) (omega (arith, here, many, lt, length-parts_of k h.params)) in omega (arith, i, here, same, many))
+      rw z (let i = hit (same_kind (Lacks k (suc r))) (function_parts k h.params) (parts fs (suc k)) (omega (arith, here, many, lt, length-parts_of k h.params)) in omega (arith, i, here, same, many))
   part_at (h ∷ fs) first k (suc f) r start n e g lt =
       let z : k + suc f ≡ suc k + f = omega arith in
-      let s = skip (same_kind (Lacks (suc k + f) (suc r))) (parts_of k h.params) (parts fs (suc k)) (other_function (suc k + f) (suc r) k h.params (λ q. omega (arith, q))) in
+      let s = skip (same_kind (Lacks (suc k + f) (suc r))) (function_parts k h.params) (parts fs (suc k)) (other_function (suc k + f) (suc r) k h.params (λ q. omega (arith, q))) in
       let ih = part_at fs (first + h.params) (suc k) f r start n e g lt in
       rw z (omega (arith, s, ih, length-parts_of k h.params))
 
@@ -373,13 +373,13 @@ module _ (p : Program) where
   shared_at : (fs : List Function) (k f n : ℕ) → slice_get (shared_before k (params_each fs)) f ≡ Some n → n ≡ k + count_by without_params (take f fs)
   shared_at [] k f n e = absurd (none-some n e)
   shared_at (g ∷ gs) k zero n e = let i = same_Some k n e in omega (arith, i)
-  shared_at (g ∷ gs) k (suc f) n e = let ih = shared_at gs (k + one_if_none g.params) f n e in let m = count_more p g (take f gs) in omega (arith, ih, m, one_if g.params)
+  shared_at (g ∷ gs) k (suc f) n e = let ih = shared_at gs (k + one_if_none g.params) f n e in let m = count_more g (take f gs) in omega (arith, ih, m, one_if g.params)
 
   shared_all : (fs : List Function) (k f : ℕ) → slice_get (shared_before k (params_each fs)) f ≡ None → shared_in k (params_each fs) ≡ k + count_by without_params (take f fs)
   shared_all [] k zero e = omega arith
   shared_all [] k (suc f) e = omega arith
   shared_all (g ∷ gs) k zero e = absurd (none-some k (sym e))
-  shared_all (g ∷ gs) k (suc f) e = let ih = shared_all gs (k + one_if_none g.params) f e in let m = count_more p g (take f gs) in omega (arith, ih, m, one_if g.params)
+  shared_all (g ∷ gs) k (suc f) e = let ih = shared_all gs (k + one_if_none g.params) f e in let m = count_more g (take f gs) in omega (arith, ih, m, one_if g.params)
 
   pub global_place : (f n : ℕ) → slice_get (shared_before 0 (params_each p.funs)) f ≡ Some n → n ≡ global p f
   global_place f n e = let i = shared_at p.funs 0 f n e in omega (arith, i)
@@ -402,12 +402,12 @@ module _ (p : Program) where
   pub lacks_fit : (f start : ℕ) → slice_get (starts first_part (params_each p.funs)) f ≡ Some start → start + params p f ≤ after first_part (params_each p.funs)
   lacks_fit f start e = start_fits (params_each p.funs) first_part f start (params p f) e (known_params f start e)
 
-  absent_parts : (f missing : ℕ) (fs : List Function) (g : ℕ) → ((i n : ℕ) → f ≡ g + i → slice_get (params_each fs) i ≡ Some n → AllOf (λ l. same_kind (Lacks f missing) l ≡ false) (parts_of f n)) → AllOf (λ l. same_kind (Lacks f missing) l ≡ false) (parts fs g)
+  absent_parts : (f missing : ℕ) (fs : List Function) (g : ℕ) → ((i n : ℕ) → f ≡ g + i → slice_get (params_each fs) i ≡ Some n → AllOf (λ l. same_kind (Lacks f missing) l ≡ false) (function_parts f n)) → AllOf (λ l. same_kind (Lacks f missing) l ≡ false) (parts fs g)
   absent_parts f missing [] g h = tt
-  absent_parts f missing (x ∷ fs) g h = all_append (λ l. same_kind (Lacks f missing) l ≡ false) (parts_of g x.params) _ (first (nat_eq f g) refl) (absent_parts f missing fs (suc g) (λ i n e at. h (suc i) n (omega (arith, e)) at))
+  absent_parts f missing (x ∷ fs) g h = all_append (λ l. same_kind (Lacks f missing) l ≡ false) (function_parts g x.params) _ (first (nat_eq f g) refl) (absent_parts f missing fs (suc g) (λ i n e at. h (suc i) n (omega (arith, e)) at))
     where
-      first : (b : Bool) → nat_eq f g ≡ b → AllOf (λ l. same_kind (Lacks f missing) l ≡ false) (parts_of g x.params)
-      first true e = let i = eqb-true f g e in subst (λ k. AllOf (λ l. same_kind (Lacks f missing) l ≡ false) (parts_of k x.params)) i (h 0 x.params (omega (arith, i)) refl)
+      first : (b : Bool) → nat_eq f g ≡ b → AllOf (λ l. same_kind (Lacks f missing) l ≡ false) (function_parts g x.params)
+      first true e = let i = eqb-true f g e in subst (λ k. AllOf (λ l. same_kind (Lacks f missing) l ≡ false) (function_parts k x.params)) i (h 0 x.params (omega (arith, i)) refl)
       first false e = other_function f missing g x.params (λ i. true_not_false (nat_eq f g) (eq-eqb f g i) e)
 
   lacks_absent : (f missing : ℕ) → AllOf (λ l. same_kind (Lacks f missing) l ≡ false) (parts p.funs 0) → length (kinds p) ≡ (tag p (Lacks f missing)).0

@@ -28,7 +28,8 @@ use Rattle.grin_translate.proofs.Places.{true_not_false}
 use Rattle.grin_translate.proofs.Found.{has_number, has_constructor, has_reads, tags_tell}
 use Rattle.grin_translate.proofs.Alike.{value_kind, value_node, IsValue, Heaps, heaps_long, Alike, alike_passing, alike_append, Match, both_give, none_accepts, both_go}
 use Rattle.grin_translate.proofs.Forcing.{kind_there, value_made, delayed_made, force_match, params_are}
-use Rattle.grin_translate.proofs.Scoping.{eqb_no, global_below}
+use Rattle.grin_translate.proofs.Scoping.{eqb_no}
+use Rattle.core_meaning.proofs.Shared.{global_below}
 use Rattle.grin_translate.proofs.Expressions.{same_fields}
 use Rattle.grin_translate.proofs.Called.{alike_spent, calls_match}
 

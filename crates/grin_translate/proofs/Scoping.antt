@@ -13,6 +13,7 @@ use Rattle.arity_check.specs.declared.normal.Flat.TheVariants as flat
 use Rattle.arity_check.specs.Program.{Program, Function}
 use Rattle.core_meaning.specs.Heap as core
 use Rattle.core_meaning.specs.Heap.{Binding, Heap, with_local, with_locals}
+use Rattle.core_meaning.proofs.Shared.{global_below}
 use Rattle.core_meaning.specs.Evaluation.{global, globals, name, names, binding, with_group}
 use Rattle.grin_meaning.specs.Values.{Datum, number, cell, Node, node, words, Env, HeapCell, with_vars, one_each, word_of, words_of, value_of, node_of}
 use Rattle.grin_meaning.specs.Values as grin
@@ -55,34 +56,6 @@ module _ (p : Program) where
 
   pub as_many : length (tr p).globals ≡ shared p
   as_many = as_many_from p.funs 0
-
-  from_one : (k a : ℕ) (gs : List Function) → fold (λ a g. a + cond (nat_eq g.params 0) 1 0) (k + a) gs ≡ k + fold (λ a g. a + cond (nat_eq g.params 0) 1 0) a gs
-  from_one k a [] = refl
-  from_one k a (g ∷ gs) =
-      let e : k + a + cond (nat_eq g.params 0) 1 0 ≡ k + (a + cond (nat_eq g.params 0) 1 0) = omega arith in
-      rw e (from_one k (a + cond (nat_eq g.params 0) 1 0) gs)
-
-  pub count_more : (g : Function) (gs : List Function) → count_by (λ g. nat_eq g.params 0) (g ∷ gs) ≡ cond (nat_eq g.params 0) 1 0 + count_by (λ g. nat_eq g.params 0) gs
-  count_more g gs =
-      let e : 0 + cond (nat_eq g.params 0) 1 0 ≡ cond (nat_eq g.params 0) 1 0 + 0 = omega arith in
-      rw e (from_one (cond (nat_eq g.params 0) 1 0) 0 gs)
-
-  global_from : (gs : List Function) (k f : ℕ) (fun : Function) → slice_get gs f ≡ Some fun → fun.params ≡ 0 → count_by (λ g. nat_eq g.params 0) (take f gs) < length (globals p gs k)
-  global_from [] k f fun e z = absurd (none-some fun e)
-  global_from (g ∷ gs) k zero fun e z =
-      let same : g ≡ fun = same_Some g fun e in
-      rw (eq-eqb g.params 0 (ap (λ g. g.params) same ∙ z)) (omega arith)
-  global_from (g ∷ gs) k (suc f) fun e z =
-      let more = count_more g (take f gs) in
-      let less = global_from gs (suc k) f fun e z in
-      rw more (by_test (nat_eq g.params 0) less)
-    where
-      by_test : (b : Bool) → count_by (λ g. nat_eq g.params 0) (take f gs) < length (globals p gs (suc k)) → cond b 1 0 + count_by (λ g. nat_eq g.params 0) (take f gs) < length (cond b (core.Waiting (core.Global k) ∷ []) [] ++ globals p gs (suc k))
-      by_test true lt = omega (arith, lt)
-      by_test false lt = omega (arith, lt)
-
-  pub global_below : (f : ℕ) → HasParams p f (λ n. n ≡ 0) → global p f < shared p
-  global_below f h = global_from p.funs 0 f h.0 h.1 h.2
 
   module _ (base : ℕ) where
     -- ---- variables
@@ -174,11 +147,11 @@ module _ (p : Program) where
     module _ (S : ℕ → Type 0) (n : ℕ) (env : core.Env) (genv : Env) (k : Knows S n env genv) (room : shared p ≤ n) where
       pub word_known : (x : Var) → VarOk p S x → word_of (tr p) genv (word p base x) ≡ Some (cell (name p env x))
       word_known (Local x) h = rw (k.bound x h) refl
-      word_known (Global f) h = let there = something_at (tr p).globals (global p f) (omega (arith, global_below f h, as_many)) in rw there.1 refl
+      word_known (Global f) h = let there = something_at (tr p).globals (global p f) (omega (arith, global_below p f h, as_many)) in rw there.1 refl
 
       pub name_below : (x : Var) → VarOk p S x → name p env x < n
       name_below (Local x) h = k.below x h
-      name_below (Global f) h = omega (arith, global_below f h, room)
+      name_below (Global f) h = omega (arith, global_below p f h, room)
 
       pub words_known : (xs : List Var) → AllOf (VarOk p S) xs → words_of (tr p) genv (map (word p base) xs) ≡ Some (map cell (names p env xs))
       words_known [] h = refl

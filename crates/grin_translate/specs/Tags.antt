@@ -75,13 +75,13 @@ abbrev mutual
   delays_in_branches d (OnAny x e rest) = delays_in d e || delays_in_branches d rest
 
 -- the parts of the function f, from so many missing arguments down to one
-abbrev pub parts_of : ℕ → ℕ → List Kind
-parts_of f zero = []
-parts_of f (suc r) = Lacks f (suc r) ∷ parts_of f r
+abbrev pub function_parts : ℕ → ℕ → List Kind
+function_parts f zero = []
+function_parts f (suc r) = Lacks f (suc r) ∷ function_parts f r
 
 abbrev pub parts : List Function → ℕ → List Kind
 parts [] f = []
-parts (g ∷ gs) f = parts_of f g.params ++ parts gs (suc f)
+parts (g ∷ gs) f = function_parts f g.params ++ parts gs (suc f)
 
 abbrev pub op_name : PrimOp → List ℕ
 op_name Add = codes "@add"

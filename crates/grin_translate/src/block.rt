@@ -1,4 +1,4 @@
-// The block of an expression.
+//! The block of an expression.
 #![tactic(auto, using(grin_syntax::proofs::TreeOf::tree_of, crate::proofs::Pushed::pushed, crate::proofs::TermOf::term_of))]
 
 ghost use Rattle.std.specs.Prelude.{◌≡◌, [], ◌∷◌, ◌++◌, ◌+◌, IfOk, OnOk, cond, map, length};
@@ -12,7 +12,7 @@ ghost use Rattle.grin_translate.specs.Numbered.{AreNumbers};
 
 use crate::numbering::{Numbers, params};
 use crate::tags::{Delay, Kind};
-use crate::variables::{Variables, number_of};
+use crate::variables::{Variables, as_u32};
 use arity_check::normal::{self, Body, Bound, Branch, Checked, Flat, Var};
 use grin_syntax::program::{
     Alt, Block, Cell, Op, PrimOp, Shape, Site, Stmt, TagId, Target, Val, VarId, Word,
@@ -55,7 +55,8 @@ fn words(
     xs: &[Var],
 ) -> Result<Seq<Word>, AllocError>
     requires { AreNumbers (program p.now) numbers.now }
-    ensures { IfOk result (λ ws. ws ≡ before ++ map (word_of (program p.now) variables.now.base) xs.now) }
+    ensures { IfOk result (λ ws. ws ≡ before
+        ++ map (word_of (program p.now) variables.now.base) xs.now) }
 {
     let mut made = before;
     for x in xs {
@@ -74,7 +75,9 @@ fn node_of_all(
     xs: &[Var],
 ) -> Result<Val, AllocError>
     requires { AreNumbers (program p.now) numbers.now }
-    ensures { IfOk result (λ v. v ≡ Node (tag (program p.now) kind) (map (word_of (program p.now) variables.now.base) xs.now)) }
+    ensures { IfOk result (λ v. v
+        ≡ Node (tag (program p.now) kind)
+        (map (word_of (program p.now) variables.now.base) xs.now)) }
 {
     let fields = words(p, numbers, variables, Seq::new(alloc), xs)?;
     Ok(Val::Node(numbers.tag(p, kind), fields))
@@ -111,7 +114,7 @@ fn node(
             node_of_all(alloc, p, numbers, variables, kind, xs.as_slice())
         }
         Flat::Apply(x, xs) => {
-            let kind = Kind::Waits(Delay::Applies(number_of(xs.len())?));
+            let kind = Kind::Waits(Delay::Applies(as_u32(xs.len())?));
             let mut fields = Seq::new(alloc);
             fields.push(word(p, numbers, variables, *x)?)?;
             let fields = words(p, numbers, variables, fields, xs.as_slice())?;
@@ -231,7 +234,8 @@ pub fn evaluated(
     then: Block,
 ) -> Result<Block, AllocError>
     requires { AreNumbers (program p.now) numbers.now }
-    ensures { IfOk result (λ b. code_of b ≡ all_before (map before_of before) (evaluated_of (program p.now) a v i (code_of then))) }
+    ensures { IfOk result (λ b. code_of b
+        ≡ all_before (map before_of before) (evaluated_of (program p.now) a v i (code_of then))) }
 {
     let mut stmts = before;
     stmts.push(Stmt::Bind(Target::Node(v), Op::Eval(a)))?;
@@ -251,7 +255,11 @@ pub fn primitive(
     y: Var,
 ) -> Result<Block, AllocError>
     requires { AreNumbers (program p.now) numbers.now }
-    ensures is { IfOk result (λ b. code_of b ≡ all_before (map before_of before) (prim_block (program p.now) variables.old.base variables.old.bound op (word_of (program p.now) variables.old.base x) (word_of (program p.now) variables.old.base y))) }
+    ensures is { IfOk result (λ b. code_of b
+        ≡ all_before (map before_of before)
+        (prim_block (program p.now) variables.old.base variables.old.bound op
+        (word_of (program p.now) variables.old.base x)
+        (word_of (program p.now) variables.old.base y))) }
     ensures next { OnOk result (variables.new.bound ≡ variables.old.bound + 5) }
     ensures base { variables.new.base ≡ variables.old.base }
 {
@@ -278,7 +286,11 @@ pub fn application(
     xs: &[Var],
 ) -> Result<Block, AllocError>
     requires { AreNumbers (program p.now) numbers.now }
-    ensures is { IfOk result (λ b. code_of b ≡ all_before (map before_of before) (apply_block (program p.now) variables.old.base variables.old.bound (word_of (program p.now) variables.old.base x) (map (word_of (program p.now) variables.old.base) xs.now))) }
+    ensures is { IfOk result (λ b. code_of b
+        ≡ all_before (map before_of before)
+        (apply_block (program p.now) variables.old.base variables.old.bound
+        (word_of (program p.now) variables.old.base x)
+        (map (word_of (program p.now) variables.old.base) xs.now))) }
     ensures next { OnOk result (variables.new.bound ≡ variables.old.bound + length xs.now) }
     ensures base { variables.new.base ≡ variables.old.base }
 {
@@ -302,7 +314,9 @@ fn form(
     flat: &Flat,
 ) -> Result<Block, AllocError>
     requires { AreNumbers (program p.now) numbers.now }
-    ensures is { IfOk result (λ b. code_of b ≡ all_before (map before_of before) (form_block (program p.now) variables.old.base variables.old.bound flat.now)) }
+    ensures is { IfOk result (λ b. code_of b
+        ≡ all_before (map before_of before)
+        (form_block (program p.now) variables.old.base variables.old.bound flat.now)) }
     ensures next { OnOk result (variables.new.bound ≡ variables.old.bound + form_temps flat.now) }
     ensures base { variables.new.base ≡ variables.old.base }
 {
@@ -337,7 +351,8 @@ fn form(
 
 /// Whether a block has statements before its last operation.
 fn has_statements(block: &Block) -> bool
-    ensures { as_act (code_of block.now) ≡ cond result (nested (code_of block.now)) (act_of block.now.last.value) }
+    ensures { as_act (code_of block.now)
+        ≡ cond result (nested (code_of block.now)) (act_of block.now.last.value) }
 {
     match block.stmts.get(0) {
         None => false,
@@ -368,7 +383,8 @@ pub fn alternative_of(pattern: Shape, body: Block) -> Alt
 
 /// The store that binds a local to the node v.
 fn named(alloc: Global, variables: &Variables, v: VarId, x: u32) -> Result<Seq<Stmt>, AllocError>
-    ensures { IfOk result (λ ss. (c : Code) → all_before (map before_of ss) c ≡ store (cell_at variables.now.base x (NodeVar v) ∷ []) c) }
+    ensures { IfOk result (λ ss. (c : Code) → all_before (map before_of ss) c
+        ≡ store (cell_at variables.now.base x (NodeVar v) ∷ []) c) }
 {
     let var = variables.local(x)?;
     let mut cells = Seq::new(alloc);
@@ -393,7 +409,9 @@ pub fn block(
     before: Seq<Stmt>,
 ) -> Result<Block, AllocError>
     requires { AreNumbers (program p.now) numbers.now }
-    ensures is { IfOk result (λ b. code_of b ≡ all_before (map before_of before) (block_of (program p.now) variables.old.base variables.old.bound (term body.now))) }
+    ensures is { IfOk result (λ b. code_of b
+        ≡ all_before (map before_of before)
+        (block_of (program p.now) variables.old.base variables.old.bound (term body.now))) }
     ensures next { OnOk result (variables.new.bound ≡ variables.old.bound + temps (term body.now)) }
     ensures base { variables.new.base ≡ variables.old.base }
 {
@@ -427,8 +445,13 @@ fn alternative(
     each: &Branch,
 ) -> Result<(Alt, bool), AllocError>
     requires { AreNumbers (program p.now) numbers.now }
-    ensures is { IfOk result (λ r. (rest : Branches) → arms (program p.now) variables.old.base v variables.old.bound (branch each.now rest) ≡ arm (arm_of r.0).0 (arm_of r.0).1 (cond r.1 no_arm (arms (program p.now) variables.old.base v variables.new.bound rest))) }
-    ensures next { IfOk result (λ r. (rest : Branches) → variables.old.bound + branch_temps (branch each.now rest) ≡ variables.new.bound + cond r.1 0 (branch_temps rest)) }
+    ensures is { IfOk result (λ r. (rest : Branches)
+        → arms (program p.now) variables.old.base v variables.old.bound (branch each.now rest)
+        ≡ arm (arm_of r.0).0 (arm_of r.0).1
+        (cond r.1 no_arm (arms (program p.now) variables.old.base v variables.new.bound rest))) }
+    ensures next { IfOk result (λ r. (rest : Branches)
+        → variables.old.bound + branch_temps (branch each.now rest)
+        ≡ variables.new.bound + cond r.1 0 (branch_temps rest)) }
     ensures base { variables.new.base ≡ variables.old.base }
 {
     let none = Seq::new(alloc);
@@ -471,8 +494,11 @@ fn alternatives(
     branches: &[Branch],
 ) -> Result<Seq<Alt>, AllocError>
     requires { AreNumbers (program p.now) numbers.now }
-    ensures is { IfOk result (λ alts. arms_of (map arm_of alts) ≡ arms (program p.now) variables.old.base v variables.old.bound (branches_of (map branch branches.now))) }
-    ensures next { OnOk result (variables.new.bound ≡ variables.old.bound + branch_temps (branches_of (map branch branches.now))) }
+    ensures is { IfOk result (λ alts. arms_of (map arm_of alts)
+        ≡ arms (program p.now) variables.old.base v variables.old.bound
+        (branches_of (map branch branches.now))) }
+    ensures next { OnOk result (variables.new.bound
+        ≡ variables.old.bound + branch_temps (branches_of (map branch branches.now))) }
     ensures base { variables.new.base ≡ variables.old.base }
 {
     let mut alts = Seq::new(alloc);

@@ -1,4 +1,4 @@
-// The procedures of what waits.
+//! The procedures of what waits.
 #![tactic(auto, using(grin_syntax::proofs::TreeOf::tree_of))]
 
 ghost use Rattle.std.specs.Prelude.{◌≡◌, ◌+◌, map, max, IfOk};
@@ -141,7 +141,9 @@ pub fn waiting_procedure(
     delay: Delay,
 ) -> Result<(Proc, u32), AllocError>
     requires { AreNumbers (program p.now) numbers.now }
-    ensures is { IfOk result (λ r. procedure_of r.0 ≡ procedure_in (program p.now) base (delay_name (program p.now) delay) (delay_params (program p.now) delay) (delay_body (program p.now) base delay)) }
+    ensures is { IfOk result (λ r. procedure_of r.0
+        ≡ procedure_in (program p.now) base (delay_name (program p.now) delay)
+        (delay_params (program p.now) delay) (delay_body (program p.now) base delay)) }
     ensures next { IfOk result (λ r. r.1 ≡ base + span (program p.now) delay) }
 {
     let name = waiting_name(alloc, p, delay)?;

@@ -1,11 +1,11 @@
-// How many locals an expression binds.
+//! How many locals an expression binds.
 #![tactic(auto, using(crate::proofs::TermOf::term_of))]
 
 ghost use Rattle.std.specs.Prelude.{◌≡◌, ◌+◌, IfOk, map};
 ghost use Rattle.arity_check.specs.Program.{term, branch, branches_of, Branches};
 ghost use Rattle.grin_translate.specs.Translation.{binders, branch_binders};
 
-use crate::variables::{number_of, sum};
+use crate::variables::{as_u32, sum};
 use arity_check::normal::{Body, Branch};
 use std::alloc::AllocError;
 
@@ -17,7 +17,7 @@ pub fn bound_in(body: &Body) -> Result<u32, AllocError>
     match body {
         Body::App(_) => Ok(0),
         Body::Let(group, inner) => {
-            let here = number_of(group.len())?;
+            let here = as_u32(group.len())?;
             let rest = bound_in(inner)?;
             sum(here, rest)
         }
@@ -31,7 +31,8 @@ pub fn bound_in(body: &Body) -> Result<u32, AllocError>
 /// The number of locals that the branches of a case bind, after others.
 #[cycle(counting)]
 fn bound_in_all(first: u32, branches: &[Branch]) -> Result<u32, AllocError>
-    ensures { IfOk result (λ n. n ≡ first + branch_binders (branches_of (map branch branches.now))) }
+    ensures { IfOk result (λ n. n
+        ≡ first + branch_binders (branches_of (map branch branches.now))) }
 {
     let mut count = first;
     for each in branches {
@@ -43,11 +44,12 @@ fn bound_in_all(first: u32, branches: &[Branch]) -> Result<u32, AllocError>
 
 #[cycle(counting)]
 fn bound_in_each(each: &Branch) -> Result<u32, AllocError>
-    ensures { IfOk result (λ n. (rest : Branches) → branch_binders (branch each.now rest) ≡ n + branch_binders rest) }
+    ensures { IfOk result (λ n. (rest : Branches) → branch_binders (branch each.now rest)
+        ≡ n + branch_binders rest) }
 {
     match each {
         Branch::Con(_, fields, inner) => {
-            let here = number_of(fields.len())?;
+            let here = as_u32(fields.len())?;
             let body = bound_in(inner)?;
             sum(here, body)
         }

@@ -1,11 +1,11 @@
-// The tags, global cells and procedures of a translated program.
+//! The tags, global cells and procedures of a translated program.
 
 ghost use Rattle.std.specs.Prelude.{◌≡◌, ◌++◌, ◌+◌, map, length, IfOk};
 ghost use Rattle.arity_check.specs.Program.{program};
 ghost use Rattle.core_meaning.specs.Evaluation.{params as params_of};
 ghost use Rattle.grin_syntax.specs.Tree.{procedure_of};
 ghost use Rattle.grin_translate.specs.declared.tags.Kind.TheVariants.{Constructor, Waits};
-ghost use Rattle.grin_translate.specs.Tags.{tag_of as tag_in, numbers_from, parts, parts_of, kinds, delays};
+ghost use Rattle.grin_translate.specs.Tags.{tag_of as tag_in, numbers_from, parts, function_parts, kinds, delays};
 ghost use Rattle.grin_translate.specs.Translation.{global_cells, delayed_procs, rest, tr};
 ghost use Rattle.grin_translate.specs.Pieces.{shared_of, start_if};
 ghost use Rattle.grin_translate.specs.Numbered.{AreNumbers};
@@ -82,7 +82,9 @@ fn constructor_tags(
     before: Seq<Tag>,
 ) -> Result<Seq<Tag>, AllocError>
     requires { AreNumbers (program p.now) numbers.now }
-    ensures { IfOk result (λ ts. ts ≡ before ++ map (λ c. tag_in (program p.now) (Constructor c)) (numbers_from 0 numbers.now.constructors)) }
+    ensures { IfOk result (λ ts. ts ≡ before
+        ++ map (λ c. tag_in (program p.now) (Constructor c))
+        (numbers_from 0 numbers.now.constructors)) }
 {
     let mut made = before;
     for c in 0..numbers.constructors {
@@ -100,7 +102,8 @@ fn waiting_tags(
     before: Seq<Tag>,
 ) -> Result<Seq<Tag>, AllocError>
     requires { AreNumbers (program p.now) numbers.now }
-    ensures { IfOk result (λ ts. ts ≡ before ++ map (λ d. tag_in (program p.now) (Waits d)) numbers.now.delays) }
+    ensures { IfOk result (λ ts. ts ≡ before
+        ++ map (λ d. tag_in (program p.now) (Waits d)) numbers.now.delays) }
 {
     let mut made = before;
     for delay in numbers.delays.as_slice() {
@@ -119,7 +122,8 @@ fn part_tags(
     before: Seq<Tag>,
 ) -> Result<Seq<Tag>, AllocError>
     requires { AreNumbers (program p.now) numbers.now }
-    ensures { IfOk result (λ ts. ts ≡ before ++ map (tag_in (program p.now)) (parts_of f (params_of (program p.now) f))) }
+    ensures { IfOk result (λ ts. ts ≡ before
+        ++ map (tag_in (program p.now)) (function_parts f (params_of (program p.now) f))) }
 {
     let mut made = before;
     let mut missing = params(p, f);
@@ -138,7 +142,8 @@ fn all_part_tags(
     before: Seq<Tag>,
 ) -> Result<Seq<Tag>, AllocError>
     requires { AreNumbers (program p.now) numbers.now }
-    ensures { IfOk result (λ ts. ts ≡ before ++ map (tag_in (program p.now)) (parts (program p.now).funs 0)) }
+    ensures { IfOk result (λ ts. ts ≡ before
+        ++ map (tag_in (program p.now)) (parts (program p.now).funs 0)) }
 {
     let mut made = before;
     for f in 0..numbers.functions {
@@ -202,7 +207,8 @@ fn waiting_procedures(
     numbers: &Numbers,
 ) -> Result<(Seq<Proc>, u32), AllocError>
     requires { AreNumbers (program p.now) numbers.now }
-    ensures is { IfOk result (λ r. map procedure_of r.0 ≡ delayed_procs (program p.now) (length (program p.now).funs) (delays (program p.now))) }
+    ensures is { IfOk result (λ r. map procedure_of r.0
+        ≡ delayed_procs (program p.now) (length (program p.now).funs) (delays (program p.now))) }
     ensures next { IfOk result (λ r. r.1 ≡ rest (program p.now)) }
 {
     let mut base = numbers.functions;
@@ -225,7 +231,8 @@ fn with_start(
     before: Seq<Proc>,
 ) -> Result<Seq<Proc>, AllocError>
     requires { AreNumbers (program p.now) numbers.now }
-    ensures { IfOk result (λ qs. map procedure_of qs ≡ map procedure_of before ++ start_if (program p.now) base) }
+    ensures { IfOk result (λ qs. map procedure_of qs ≡ map procedure_of before
+        ++ start_if (program p.now) base) }
 {
     let mut made = before;
     if !takes_input(p) {

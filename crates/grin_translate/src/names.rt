@@ -1,4 +1,4 @@
-// Names and numbers of parameters of what waits, and constructors by their names.
+//! Names and numbers of parameters of what waits, and constructors by their names.
 
 ghost use Rattle.std.specs.Prelude.{◌≡◌, ◌++◌, codes, decimal, slice_get, IfOk};
 ghost use Rattle.arity_check.specs.Program.{program};
@@ -7,7 +7,7 @@ ghost use Rattle.grin_translate.specs.Tags.{op_name, fun_name, delay_name, delay
 
 use crate::numbering::params;
 use crate::tags::Delay;
-use crate::variables::{number_of, sum};
+use crate::variables::{as_u32, sum};
 use arity_check::normal::{Checked, Con, PrimOp};
 use itoa::Buffer;
 use seq::{Seq, Text};
@@ -77,8 +77,8 @@ pub fn constructor_named(name: &[u8], constructors: &[Con]) -> Result<u32, Alloc
 {
     for (c, each) in constructors.iter().enumerate() {
         if name == each.name.as_slice() {
-            return number_of(c);
+            return as_u32(c);
         }
     }
-    number_of(constructors.len())
+    as_u32(constructors.len())
 }

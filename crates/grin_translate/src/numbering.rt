@@ -1,4 +1,4 @@
-// The numbers of tags, procedures and global cells.
+//! The numbers of tags, procedures and global cells.
 
 ghost use Rattle.std.specs.Prelude.{◌≡◌, ◌≤◌, length, map, drop, IfOk};
 ghost use Rattle.arity_check.specs.Program.{program};
@@ -7,7 +7,7 @@ ghost use Rattle.grin_translate.specs.Tags.{tag, proc, first_place, same_delay};
 ghost use Rattle.grin_translate.specs.Numbered.{AreNumbers, NoCall, starts, after, shared_before, shared_in};
 
 use crate::tags::{Delay, Kind};
-use crate::variables::{number_of, sum};
+use crate::variables::{as_u32, sum};
 use crate::waiting::delays;
 use arity_check::normal::{Checked, Fun};
 use grin_syntax::program::{ProcId, TagId};
@@ -24,44 +24,13 @@ pub fn params(p: &Checked, f: u32) -> u32
     }
 }
 
-fn same(a: Delay, b: Delay) -> bool
-    ensures { result ≡ same_delay a b }
-{
-    match a {
-        Delay::Calls(f) => match b {
-            Delay::Calls(g) => f == g,
-            Delay::Applies(_) => false,
-            Delay::Operates(_) => false,
-            Delay::Reads => false,
-        },
-        Delay::Applies(m) => match b {
-            Delay::Calls(_) => false,
-            Delay::Applies(n) => m == n,
-            Delay::Operates(_) => false,
-            Delay::Reads => false,
-        },
-        Delay::Operates(op) => match b {
-            Delay::Calls(_) => false,
-            Delay::Applies(_) => false,
-            Delay::Operates(other) => op as u8 == other as u8,
-            Delay::Reads => false,
-        },
-        Delay::Reads => match b {
-            Delay::Calls(_) => false,
-            Delay::Applies(_) => false,
-            Delay::Operates(_) => false,
-            Delay::Reads => true,
-        },
-    }
-}
-
 /// The place of what waits in a list, or the list's length where it isn't there.
 fn place_in(delay: Delay, list: &[Delay]) -> usize
     ensures place { result ≡ first_place (same_delay delay) list.now }
     ensures within { result ≤ length list.now }
 {
     for (at, other) in list.iter().enumerate() {
-        if same(delay, *other) {
+        if delay.is_same(*other) {
             return at;
         }
     }
@@ -99,7 +68,8 @@ pub struct Numbers {
 /// Numbers that begin with `first`, and for each function the next one after as many as the function before has parameters;
 /// with the number after the last.
 fn parts_from(alloc: Global, first: u32, functions: &[Fun]) -> Result<(Vec<u32>, u32), AllocError>
-    ensures { IfOk result (λ r. (r.0.items ≡ starts first (map (λ f. f.params) functions.now)) × (r.1 ≡ after first (map (λ f. f.params) functions.now))) }
+    ensures { IfOk result (λ r. (r.0.items ≡ starts first (map (λ f. f.params) functions.now))
+        × (r.1 ≡ after first (map (λ f. f.params) functions.now))) }
 {
     let mut next = first;
     let mut parts = Vec::new(alloc);
@@ -112,7 +82,8 @@ fn parts_from(alloc: Global, first: u32, functions: &[Fun]) -> Result<(Vec<u32>,
 
 /// For each function the number of functions without parameters before it; with the number of all.
 fn shared_before(alloc: Global, functions: &[Fun]) -> Result<(Vec<u32>, u32), AllocError>
-    ensures { IfOk result (λ r. (r.0.items ≡ shared_before 0 (map (λ f. f.params) functions.now)) × (r.1 ≡ shared_in 0 (map (λ f. f.params) functions.now))) }
+    ensures { IfOk result (λ r. (r.0.items ≡ shared_before 0 (map (λ f. f.params) functions.now))
+        × (r.1 ≡ shared_in 0 (map (λ f. f.params) functions.now))) }
 {
     let mut count = 0_u32;
     let mut globals = Vec::new(alloc);
@@ -130,10 +101,10 @@ impl Numbers {
     pub fn new(alloc: Global, p: &Checked) -> Result<Numbers, AllocError>
         ensures { IfOk result (λ n. AreNumbers (program p.now) n) }
     {
-        let functions = number_of(p.funs.len())?;
-        let constructors = number_of(p.cons.len())?;
+        let functions = as_u32(p.funs.len())?;
+        let constructors = as_u32(p.cons.len())?;
         let delays = delays(alloc, p)?;
-        let waiting = number_of(delays.len())?;
+        let waiting = as_u32(delays.len())?;
         let first = sum(sum(1, constructors)?, waiting)?;
         let (parts, tags) = parts_from(alloc, first, p.funs.as_slice())?;
         let (globals, shared) = shared_before(alloc, p.funs.as_slice())?;

@@ -1,4 +1,4 @@
-// The procedures of a translated program.
+//! The procedures of a translated program.
 #![tactic(auto, using(grin_syntax::proofs::TreeOf::tree_of, crate::proofs::Pushed::pushed))]
 
 ghost use Rattle.std.specs.Prelude.{◌≡◌, [], ◌∷◌, codes, IfOk};
@@ -31,7 +31,8 @@ pub fn procedure(
     variables: &Variables,
     body: Block,
 ) -> Result<Proc, AllocError>
-    ensures { IfOk result (λ q. procedure_of q ≡ procedure_in (program p.now) variables.now.base name params (code_of body)) }
+    ensures { IfOk result (λ q. procedure_of q
+        ≡ procedure_in (program p.now) variables.now.base name params (code_of body)) }
 {
     let mut made = Seq::new(alloc);
     for x in 0..params {
@@ -63,7 +64,8 @@ fn write_block(
     variables: &Variables,
 ) -> Result<Block, AllocError>
     requires { AreNumbers (program p.now) numbers.now }
-    ensures { IfOk result (λ b. code_of b ≡ translation.write_block (program p.now) variables.now.base) }
+    ensures { IfOk result (λ b. code_of b
+        ≡ translation.write_block (program p.now) variables.now.base) }
 {
     let tail = variables.value(2)?;
     let number = variables.value(4)?;
@@ -81,7 +83,8 @@ fn pair_block(
     variables: &Variables,
 ) -> Result<Block, AllocError>
     requires { AreNumbers (program p.now) numbers.now }
-    ensures { IfOk result (λ b. code_of b ≡ translation.pair_block (program p.now) variables.now.base) }
+    ensures { IfOk result (λ b. code_of b
+        ≡ translation.pair_block (program p.now) variables.now.base) }
 {
     let head = variables.value(1)?;
     let value = variables.value(3)?;
@@ -166,7 +169,8 @@ pub fn print_procedure(
     base: u32,
 ) -> Result<Proc, AllocError>
     requires { AreNumbers (program p.now) numbers.now }
-    ensures { IfOk result (λ q. procedure_of q ≡ procedure_in (program p.now) base (codes "@print") 1 (print_body (program p.now) base)) }
+    ensures { IfOk result (λ q. procedure_of q
+        ≡ procedure_in (program p.now) base (codes "@print") 1 (print_body (program p.now) base)) }
 {
     let variables = Variables { base, bound: 0 };
     let body = print_block(alloc, p, numbers, &variables)?;
@@ -216,7 +220,8 @@ pub fn start_procedure(
     base: u32,
 ) -> Result<Proc, AllocError>
     requires { AreNumbers (program p.now) numbers.now }
-    ensures { IfOk result (λ q. procedure_of q ≡ procedure_in (program p.now) base (codes "@start") 0 (start_body (program p.now) base)) }
+    ensures { IfOk result (λ q. procedure_of q
+        ≡ procedure_in (program p.now) base (codes "@start") 0 (start_body (program p.now) base)) }
 {
     let variables = Variables { base, bound: 0 };
     let body = start_block(alloc, p, numbers, &variables)?;

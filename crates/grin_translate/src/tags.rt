@@ -1,4 +1,7 @@
-// What the tags and the procedures of a translated program stand for.
+//! What the tags and the procedures of a translated program stand for.
+
+ghost use Rattle.std.specs.Prelude.{◌≡◌};
+ghost use Rattle.grin_translate.specs.Tags.{same_delay};
 
 use arity_check::normal::PrimOp;
 
@@ -14,6 +17,41 @@ pub enum Delay {
     Operates(PrimOp),
     /// The list of the bytes that are left of the input.
     Reads,
+}
+
+impl Delay {
+    /// Whether two cells wait for the same: a call of one function, an application to as many arguments, one operation, or the
+    /// rest of the input.
+    pub fn is_same(self, other: Delay) -> bool
+        ensures { result ≡ same_delay self other }
+    {
+        match self {
+            Delay::Calls(f) => match other {
+                Delay::Calls(g) => f == g,
+                Delay::Applies(_) => false,
+                Delay::Operates(_) => false,
+                Delay::Reads => false,
+            },
+            Delay::Applies(m) => match other {
+                Delay::Calls(_) => false,
+                Delay::Applies(n) => m == n,
+                Delay::Operates(_) => false,
+                Delay::Reads => false,
+            },
+            Delay::Operates(op) => match other {
+                Delay::Calls(_) => false,
+                Delay::Applies(_) => false,
+                Delay::Operates(another) => op as u8 == another as u8,
+                Delay::Reads => false,
+            },
+            Delay::Reads => match other {
+                Delay::Calls(_) => false,
+                Delay::Applies(_) => false,
+                Delay::Operates(_) => false,
+                Delay::Reads => true,
+            },
+        }
+    }
 }
 
 /// What a tag stands for: a number, a constructor, what waits, or a function that lacks so many of its arguments.

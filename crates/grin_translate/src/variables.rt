@@ -1,5 +1,5 @@
-// The variables of a procedure: every other number from the first one on is a local's, the others are those of values between
-// operations.
+//! The variables of a procedure: every other number from the first one on is a local's, the others are those of values between
+//! operations.
 
 ghost use Rattle.std.specs.Prelude.{◌≡◌, ◌+◌, ◌*◌, IfOk, OnOk, map};
 ghost use Rattle.grin_translate.specs.Pieces.{variable};
@@ -9,7 +9,7 @@ use seq::Seq;
 use std::alloc::{AllocError, Global};
 
 /// A length as a number of 32 bits. More counts as want of memory.
-pub fn number_of(len: usize) -> Result<u32, AllocError>
+pub fn as_u32(len: usize) -> Result<u32, AllocError>
     ensures { IfOk result (λ n. n ≡ len) }
 {
     match u32::try_from(len) {

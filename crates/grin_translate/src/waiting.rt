@@ -1,4 +1,4 @@
-// Which delayed applications and operations a program has.
+//! Which delayed applications and operations a program has.
 #![tactic(auto, using(crate::proofs::TermOf::term_of))]
 
 ghost use Rattle.std.specs.Prelude.{◌≡◌, [], ◌∷◌, ◌++◌, map, filter, cond, IfOk};
@@ -8,7 +8,7 @@ ghost use Rattle.grin_translate.specs.declared.tags.Delay.TheVariants.{Calls, Re
 ghost use Rattle.grin_translate.specs.Tags.{binds, delays_in, delays_in_branches, delays, is_delayed, takes_input, numbers_from};
 
 use crate::tags::Delay;
-use crate::variables::number_of;
+use crate::variables::as_u32;
 use arity_check::normal::{Body, Bound, Branch, Checked, Flat, Fun, PrimOp};
 use std::alloc::{AllocError, Global};
 
@@ -136,7 +136,8 @@ const OTHERS: [Delay; 20] = [
 
 /// Those of some forms that a program has, after others.
 fn delayed(p: &Checked, forms: &[Delay], found: Vec<Delay>) -> Result<Vec<Delay>, AllocError>
-    ensures { IfOk result (λ ds. ds.items ≡ found.items ++ filter (is_delayed (program p.now)) forms.now) }
+    ensures { IfOk result (λ ds. ds.items ≡ found.items
+        ++ filter (is_delayed (program p.now)) forms.now) }
 {
     let mut found = found;
     for delay in forms {
@@ -159,7 +160,8 @@ fn calls(alloc: Global, functions: u32) -> Result<Vec<Delay>, AllocError>
 
 /// The rest of the input after others, where `main` takes it.
 fn with_input(p: &Checked, found: Vec<Delay>) -> Result<Vec<Delay>, AllocError>
-    ensures { IfOk result (λ ds. ds.items ≡ found.items ++ cond (takes_input (program p.now)) (Reads ∷ []) []) }
+    ensures { IfOk result (λ ds. ds.items ≡ found.items
+        ++ cond (takes_input (program p.now)) (Reads ∷ []) []) }
 {
     let mut found = found;
     if takes_input(p) {
@@ -173,7 +175,7 @@ fn with_input(p: &Checked, found: Vec<Delay>) -> Result<Vec<Delay>, AllocError>
 pub fn delays(alloc: Global, p: &Checked) -> Result<Vec<Delay>, AllocError>
     ensures { IfOk result (λ ds. ds.items ≡ delays (program p.now)) }
 {
-    let functions = number_of(p.funs.len())?;
+    let functions = as_u32(p.funs.len())?;
     let called = calls(alloc, functions)?;
     let waiting = delayed(p, &OTHERS, called)?;
     with_input(p, waiting)

@@ -20,7 +20,7 @@ use Rattle.grin_translate.proofs.Printing.{translation_does_as}
 use Rattle.translated_form.proofs.Bounds.{valid_few_words}
 use Rattle.translated_form.proofs.Limits.{valid_is_well_formed}
 use Rattle.translated_form.specs.Laws.{ValidTranslationsAreFormed}
-use Rattle.apply_inline.proofs.Both.{inlining_law}
+use Rattle.apply_inline.proofs.InlinedTogether.{inlining_law}
 use Rattle.apply_inline.proofs.Well as applications
 use Rattle.eval_inline.proofs.Well as evaluations
 use Rattle.eval_inline.proofs.Bounds.{uses_bound}

@@ -11,7 +11,7 @@ use Rattle.grin_meaning.specs.Ready.{most_fields}
 use Rattle.apply_inline.specs.Size.{size}
 use Rattle.grin_translate.specs.declared.tags.Kind.TheVariants.{Constructor, Waits}
 use Rattle.grin_translate.specs.declared.tags.Delay.TheVariants.{Calls}
-use Rattle.grin_translate.specs.Tags.{numbers_from, delays, kinds, parts, parts_of, tag_of}
+use Rattle.grin_translate.specs.Tags.{numbers_from, delays, kinds, parts, function_parts, tag_of}
 use Rattle.grin_translate.specs.Translation.{tr}
 use Rattle.grin_translate.proofs.Lookups.{length-numbers_from}
 use Rattle.translated_form.proofs.Lists.{item_at}
@@ -34,13 +34,13 @@ paired_length R [] (y ∷ ys) w = absurd w
 paired_length R (x ∷ xs) [] w = absurd w
 paired_length R (x ∷ xs) (y ∷ ys) w = omega (arith, paired_length R xs ys w.1)
 
-parts_of_length : (f n : ℕ) → length (parts_of f n) ≡ n
+parts_of_length : (f n : ℕ) → length (function_parts f n) ≡ n
 parts_of_length f zero = refl
 parts_of_length f (suc n) = omega (arith, parts_of_length f n)
 
 parts_length : (gs : List Function) (f : ℕ) → AllOf (λ g. g.params ≤ 12) gs → length (parts gs f) ≤ 12 * length gs
 parts_length [] f h = omega arith
-parts_length (g ∷ gs) f h = omega (arith, length-append (parts_of f g.params) (parts gs (suc f)), parts_of_length f g.params, parts_length gs (suc f) h.1, h.0)
+parts_length (g ∷ gs) f h = omega (arith, length-append (function_parts f g.params) (parts gs (suc f)), parts_of_length f g.params, parts_length gs (suc f) h.1, h.0)
 
 module _ (q : Program) where
   delays_length : length (delays q) ≤ length q.funs + 21

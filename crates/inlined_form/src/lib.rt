@@ -1,4 +1,4 @@
-// What holds of translated programs whose evaluations and applications are inlined.
+//! What holds of translated programs whose evaluations and applications are inlined.
 #![tactic(auto)]
 
 ghost use Rattle.inlined_form.specs.Laws.{InlinedProgramsAreReady, InlinedSizesFit};

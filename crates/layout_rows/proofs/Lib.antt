@@ -1,2 +1,3 @@
 pub mod LongCase
+pub mod Pieces
 pub mod Placeable

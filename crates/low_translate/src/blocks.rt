@@ -315,7 +315,7 @@ impl Plan<'_> {
         Ok(())
     }
 
-    /// A block behind statements: its end is left.
+    /// A block after statements: its end is left.
     #[cycle(blocks)]
     pub(crate) fn rest(
         &self,

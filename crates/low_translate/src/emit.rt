@@ -15,7 +15,7 @@ use low_code::{LowStmt, Operand};
 use seq::Seq;
 use std::alloc::{AllocError, Global};
 
-/// Puts a statement behind the others.
+/// Puts a statement after the others.
 pub(crate) fn emit(made: &mut Seq<LowStmt>, stmt: LowStmt) -> Result<(), AllocError>
     ensures { OnOk result (Adds made.old made.new (before_of stmt)) }
 {

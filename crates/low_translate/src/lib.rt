@@ -15,20 +15,16 @@ use std::alloc::{AllocError, Global};
 
 mod blocks;
 mod emit;
-#[cfg(test)]
-mod ends_rows;
 mod fresh;
 mod groups;
 mod patterns;
 mod program;
 mod results;
-#[cfg(test)]
-mod tests;
 mod words;
 
 /// The low code of a vectorised program: a tag becomes its number, a number its pattern of 32 bits, and a cell a word for the
 /// tag and one for each field of the largest tag. Procedures that tail calls join give as many words as the widest of them.
-/// The variables of the program keep their numbers, and further ones come behind them.
+/// The variables of the program keep their numbers, and further ones come after them.
 ///
 /// Numbers past those of 32 bits, for variables, sites of calls, procedures and tags, count as want of memory.
 pub fn lower(alloc: Global, g: &Grin) -> Result<Low, AllocError>

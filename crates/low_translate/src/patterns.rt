@@ -22,7 +22,7 @@ fn is_known(word: Operand, number: u32) -> bool
     }
 }
 
-// Puts a test behind the others, unless it is of the number itself.
+// Puts a test after the others, unless it is of the number itself.
 fn add_test(tests: &mut Seq<LowTest>, left: Operand, right: u32) -> Result<(), AllocError>
     ensures { OnOk result ((more : List LowTest) → tests.new ++ more ≡ tests.old ++ tested left right more) }
 {

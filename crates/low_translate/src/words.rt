@@ -22,7 +22,7 @@ pub(crate) fn operand(word: &Word) -> Operand
     }
 }
 
-// Puts the operands of words behind those that are made.
+// Puts the operands of words after those that are made.
 fn add_operands(made: &mut Seq<Operand>, words: &[Word]) -> Result<(), AllocError>
     ensures is { OnOk result (made.new ≡ made.old ++ operands_of_words words.now) }
     ensures ranged { OnOk result (AllOf WordRanged words.now) }

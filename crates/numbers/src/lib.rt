@@ -1,2 +1,2 @@
-// The arithmetic of 32 bits that the meaning of every language cites.
+//! The arithmetic of 32 bits that the meaning of every language cites. It has definitions alone.
 #![tactic(auto)]

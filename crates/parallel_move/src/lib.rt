@@ -128,6 +128,3 @@ pub fn order(alloc: Global, moves: &[Move]) -> Result<Vec<Move>, AllocError>
         }
     }
 }
-
-#[cfg(test)]
-mod tests;

@@ -1,2 +1,6 @@
-//! What every pass over programs of vectors takes, and what each keeps beside its own shape: definitions for their contracts.
+//! What the passes over programs of vectors share: what each of them takes and keeps beside its own shape, as definitions for
+//! their contracts, and which variables a piece of a program uses.
 #![tactic(auto)]
+
+pub mod truth;
+pub mod uses;

@@ -12,9 +12,9 @@ use Rattle.flow_system.specs.Tables.{Tables, fields_of}
 use Rattle.grin_syntax.specs.declared.program.Word as W
 use Rattle.points_to.specs.declared.facts.Item.{Item}
 use Rattle.points_to.specs.declared.items.Row.{Row}
-use Rattle.points_to.specs.Rows.{row_items}
+use Rattle.points_to.specs.Rows.{row_words, row_items}
 use Rattle.points_to.specs.Held.{item, picked_one, picked, in_part, node_part, field_part, is_done, made_node, node_of_words, node_of_word, done_tag, done_part, done_items, elements, cell_items, items}
-use Rattle.points_to.proofs.Given.{lt_false}
+use Rattle.points_to.proofs.GivenItems.{lt_false}
 
 pub flat_flat : {X Y Z : Type 0} (g : Y → List Z) (f : X → List Y) (xs : List X) → flat_map g (flat_map f xs) ≡ flat_map (λ x. flat_map g (f x)) xs
 flat_flat g f [] = refl
@@ -48,13 +48,13 @@ module _ (p : Tables) where
   undone_word j (k ∷ ks) = undone_word j ks
 
   pub done_row_field : (r : Row) (t i : ℕ) → r.part ≡ field t i → is_done p t ≡ true → done_items p (row_items r) ≡ row_items r
-  done_row_field r t i q e = ap (λ s. done_items p (in_part s r.words.keys)) q ∙ done_field t i r.words.keys e ∙ ap (λ s. in_part s r.words.keys) (sym q)
+  done_row_field r t i q e = ap (λ s. done_items p (in_part s (row_words r))) q ∙ done_field t i (row_words r) e ∙ ap (λ s. in_part s (row_words r)) (sym q)
 
   pub undone_row_field : (r : Row) (t i : ℕ) → r.part ≡ field t i → is_done p t ≡ false → done_items p (row_items r) ≡ []
-  undone_row_field r t i q e = ap (λ s. done_items p (in_part s r.words.keys)) q ∙ undone_field t i r.words.keys e
+  undone_row_field r t i q e = ap (λ s. done_items p (in_part s (row_words r))) q ∙ undone_field t i (row_words r) e
 
   pub undone_row_word : (r : Row) (j : ℕ) → r.part ≡ word j → done_items p (row_items r) ≡ []
-  undone_row_word r j q = ap (λ s. done_items p (in_part s r.words.keys)) q ∙ undone_word j r.words.keys
+  undone_row_word r j q = ap (λ s. done_items p (in_part s (row_words r))) q ∙ undone_word j (row_words r)
 
   -- what is left of nodes
   done_nodes : (X : List Item) → done_items p (flat_map (λ i. node_part i.part i) X) ≡ done_items p X
@@ -76,6 +76,9 @@ module _ (p : Tables) where
       one (field v j) u = refl
       one (word zero) u = refl
       one (word (suc j)) u = ap (λ b. cond b (item (field t j) u ∷ []) []) (lt_false j 0 (omega arith))
+
+  pub made_alone : (t m : ℕ) (X out new : List Item) → m ≡ 0 → new ≡ out ++ item tags (tag t) ∷ [] → new ≡ out ++ made_node p t m X
+  made_alone t m X out new e q = q ∙ ap (λ l. out ++ item tags (tag t) ∷ l) (sym (ap (λ k. flat_map (λ i. field_part t k i.part i.word) X) e ∙ no_fields t X))
 
   alone : (X : List Item) (u : Element) → node_of_word p (Some 1) X u ≡ node_of_word p (Some 1) [] u
   alone X (cell_of s) = refl

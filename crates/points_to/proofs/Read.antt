@@ -7,6 +7,7 @@ use Rattle.std.specs.Ordering.{nat_cmp, match_ordering}
 use Rattle.std.specs.declared.cmp.Ordering.{Ordering}
 use Rattle.std.specs.declared.cmp.Ordering.TheVariants.{Less, Equal, Greater}
 use Rattle.std.specs.BTreeSet.{insert_key}
+use Rattle.std.proofs.lemmas.Bool.Decides.{nat_tests}
 use Rattle.std.proofs.lemmas.Map.Keys.{IsStrictlyIncreasing-from_sorted}
 use Rattle.std.proofs.lemmas.Option.{slice_get_past}
 use Rattle.std.proofs.lemmas.List.{take_all, take_more}
@@ -25,8 +26,10 @@ use Rattle.points_to.specs.Known.{held}
 use Rattle.points_to.specs.Wanted.{tag_in, site_in, wanted_of, wanted, place_of, SameSet, is_in, Lists, numbers_by, IsTable}
 use Rattle.points_to.specs.Joined.{Joined}
 use Rattle.points_to.proofs.Member.{none_in, cons_in, one_in, in_left, in_right, in_split, when_in, in_flat, flat_in}
-use Rattle.points_to.proofs.Given.{eq_from, eq_self}
-use Rattle.points_to.proofs.Order.{nat_equal}
+use Rattle.points_to.proofs.GivenItems.{eq_from, eq_self}
+
+nat_equal : (m n : ℕ) → nat_cmp m n ≡ Equal → m ≡ n
+nat_equal m n e = grind (arith, nat_tests)
 
 -- a number is put into an ordered list
 number_kept : (ks : List ℕ) (k j : ℕ) → In j ks → In j (insert_key nat_cmp ks k)
@@ -91,18 +94,18 @@ or_true : (a : Bool) → (a || true) ≡ true
 or_true true = refl
 or_true false = refl
 
-is_in-in : (n : ℕ) (ns : List ℕ) → is_in n ns ≡ true → In n ns
+pub is_in-in : (n : ℕ) (ns : List ℕ) → is_in n ns ≡ true → In n ns
 is_in-in n [] e = cc
 is_in-in n (m ∷ ns) e = ⊎_elim (λ a. subst (λ k. In n (k ∷ ns)) (eq_from n m a) here) (λ b. there (is_in-in n ns b)) (or_cases (nat_eq n m) (is_in n ns) e)
 
-in-is_in : (n : ℕ) (ns : List ℕ) → In n ns → is_in n ns ≡ true
+pub in-is_in : (n : ℕ) (ns : List ℕ) → In n ns → is_in n ns ≡ true
 in-is_in n [] h = none_in h
 in-is_in n (m ∷ ns) h = ⊎_elim
     (λ e. subst (λ k. (nat_eq n k || is_in n ns) ≡ true) e (ap (λ b. b || is_in n ns) (eq_self n)))
     (λ t. ap (λ b. nat_eq n m || b) (in-is_in n ns t) ∙ or_true (nat_eq n m))
     (cons_in m ns h)
 
-both_ways : (a b : Bool) → (a ≡ true → b ≡ true) → (b ≡ true → a ≡ true) → a ≡ b
+pub both_ways : (a b : Bool) → (a ≡ true → b ≡ true) → (b ≡ true → a ≡ true) → a ≡ b
 both_ways true b f g = sym (f refl)
 both_ways false true f g = g refl
 both_ways false false f g = refl
@@ -128,6 +131,26 @@ unwrapped number wrap e (n ∷ ns) = ap (λ k. k ∷ map number (map wrap ns)) (
 no_numbers : (w : Wanted) → Lists w [] []
 no_numbers w = record { ascending = λ k lt. absurd (omega (arith, lt)); same = λ n. refl }
 
+module _ {X : Type 0} (number : X → ℕ) where
+  pub longer : (table : List (List X)) (xs : List X) → length (table ++ xs ∷ []) ≡ length table + 1
+  longer [] xs = refl
+  longer (y ∷ table) xs = let e : length (table ++ xs ∷ []) ≡ length table + 1 = longer table xs in omega (arith, e)
+
+  -- what holds of each entry and of one that is put after them holds of each
+  pub entry : (table : List (List X)) (m : ℕ) (xs : List X) (P : ℕ → List ℕ → Type 0)
+      → ((m : ℕ) → m < length table → P m (numbers_by number (slice_get table m)))
+      → P (length table) (map number xs) → m < length table + 1
+      → P m (numbers_by number (slice_get (table ++ xs ∷ []) m))
+  entry [] zero xs P all last lt = last
+  entry [] (suc m) xs P all last lt = absurd (omega (arith, lt))
+  entry (y ∷ table) zero xs P all last lt = all 0 (omega arith)
+  entry (y ∷ table) (suc m) xs P all last lt = entry table m xs (λ m. P (suc m)) (λ m lt. all (suc m) (omega (arith, lt))) last (omega (arith, lt))
+
+pub below_or_not : (j i : ℕ) → (j < i) ⊎ (i ≤ j)
+below_or_not j zero = inr (omega arith)
+below_or_not zero (suc i) = inl (omega arith)
+below_or_not (suc j) (suc i) = ⊎_elim (λ a. inl (omega (arith, a))) (λ b. inr (omega (arith, b))) (below_or_not j i)
+
 module _ {X : Type 0} (number : X → ℕ) (f : Facts) (k : Kind) (w : Wanted) where
   pub record TableSoFar (table : List (List X)) (n : ℕ) : Type 0 where
     pub many : length table ≡ n
@@ -138,30 +161,15 @@ module _ {X : Type 0} (number : X → ℕ) (f : Facts) (k : Kind) (w : Wanted) w
 
   pub table_more : (table : List (List X)) (n : ℕ) (xs : List X) → TableSoFar table n → Lists w (held f (place_of k n)) (map number xs) → TableSoFar (table ++ xs ∷ []) (n + 1)
   table_more table n xs t l = record {
-    many = longer table ∙ ap (λ m. m + 1) t.many;
-    lists = λ m lt. entry table m xs (λ m. Lists w (held f (place_of k m))) (λ m lt. t.lists m (omega (arith, t.many))) (subst (λ n. Lists w (held f (place_of k n)) (map number xs)) (sym t.many) l) (omega (arith, t.many, lt));
+    many = longer number table xs ∙ ap (λ m. m + 1) t.many;
+    lists = λ m lt. entry number table m xs (λ m. Lists w (held f (place_of k m))) (λ m lt. t.lists m (omega (arith, t.many))) (subst (λ n. Lists w (held f (place_of k n)) (map number xs)) (sym t.many) l) (omega (arith, t.many, lt));
   }
-    where
-      longer : (table : List (List X)) → length (table ++ xs ∷ []) ≡ length table + 1
-      longer [] = refl
-      longer (y ∷ table) = let e : length (table ++ xs ∷ []) ≡ length table + 1 = longer table in omega (arith, e)
-
-      entry : (table : List (List X)) (m : ℕ) (xs : List X) (P : ℕ → List ℕ → Type 0) → ((m : ℕ) → m < length table → P m (numbers_by number (slice_get table m))) → P (length table) (map number xs) → m < length table + 1 → P m (numbers_by number (slice_get (table ++ xs ∷ []) m))
-      entry [] zero xs P all last lt = last
-      entry [] (suc m) xs P all last lt = absurd (omega (arith, lt))
-      entry (y ∷ table) zero xs P all last lt = all 0 (omega arith)
-      entry (y ∷ table) (suc m) xs P all last lt = entry table m xs (λ m. P (suc m)) (λ m lt. all (suc m) (omega (arith, lt))) last (omega (arith, lt))
 
   pub table_done : (table : List (List X)) (n : ℕ) → TableSoFar table n → ((m : ℕ) → n ≤ m → held f (place_of k m) ≡ []) → IsTable number f k w table
   table_done table n t past m = ⊎_elim
       (λ lt. t.lists m lt)
       (λ le. subst (λ X. Lists w X (numbers_by number (slice_get table m))) (sym (past m le)) (subst (λ o. Lists w [] (numbers_by number o)) (sym (slice_get_past table m (omega (arith, t.many, le)))) (no_numbers w)))
       (below_or_not m n)
-    where
-      below_or_not : (j i : ℕ) → (j < i) ⊎ (i ≤ j)
-      below_or_not j zero = inr (omega arith)
-      below_or_not zero (suc i) = inl (omega arith)
-      below_or_not (suc j) (suc i) = ⊎_elim (λ a. inl (omega (arith, a))) (λ b. inr (omega (arith, b))) (below_or_not j i)
 
 -- what readers say
 tag_is : (u : Element) (t : ℕ) → In t (tag_in u) → u ≡ Tag t

@@ -1,94 +1,129 @@
 -- Rows of words, and the items that they hold.
-use Rattle.std.proofs.Common.{◌≡◌, ◌+◌, ◌<◌, ℕ, zero, suc, Bool, true, false, cond, ◌||◌, List, [], ◌∷◌, ◌++◌, length, get_or, slice_set, take, Some, slice_get, refl, sym, ap, ◌∙◌, subst, inl, inr, ⊎_elim, arith}
+use Rattle.std.proofs.Common.{◌≡◌, ◌≢◌, ◌+◌, ◌-◌, ◌*◌, ◌/◌, ◌%◌, ◌<◌, ℕ, zero, suc, Bool, true, false, cond, nat_eq, List, [], ◌∷◌, ◌++◌, map, length, get_or, slice_set, take, Some, slice_get, refl, sym, ap, ◌∙◌, subst, inl, inr, ⊎_elim, arith}
 use Rattle.std.specs.Prelude.{◌⊎◌, IsTrue}
-use Rattle.std.specs.List.{list_any, flat_map}
-use Rattle.std.specs.BTreeSet.{insert_key}
-use Rattle.std.specs.BTreeMap.{is_at}
-use Rattle.std.specs.declared.cmp.Ordering.{Ordering}
-use Rattle.std.specs.declared.cmp.Ordering.TheVariants.{Less, Equal, Greater}
-use Rattle.std.specs.Ordering.{is_eq, match_ordering}
+use Rattle.std.specs.List.{flat_map}
+use Rattle.std.proofs.lemmas.Bool.{cases_eq}
+use Rattle.std.proofs.lemmas.Bool.Decides.{nat_tests}
 use Rattle.std.proofs.lemmas.Option.{slice_get_read}
 use Rattle.flow_system.specs.declared.fact.Element.{Element}
+use Rattle.flow_system.specs.declared.fact.Element.TheVariants.{Cell, Tag, Number}
 use Rattle.flow_system.specs.declared.fact.Part.{Part}
 use Rattle.points_to.specs.declared.facts.Item.{Item}
 use Rattle.points_to.specs.declared.items.Row.{Row}
-use Rattle.points_to.specs.Held.{In, here, there, item, same_part, picked, in_part}
-use Rattle.points_to.specs.Rows.{row_items, HasPart, Gets}
-use Rattle.points_to.proofs.Member.{none_in, cons_in, one_in, in_left, in_right, in_split, in_map, map_in}
-use Rattle.points_to.proofs.Given.{same_part-true, same_part-self}
-use Rattle.points_to.proofs.Order.{word_order, word_equal, word_self}
+use Rattle.points_to.specs.Held.{In, item, same_part, picked, in_part}
+use Rattle.points_to.specs.Bits.{block_numbers, number_of, word_of}
+use Rattle.points_to.specs.Rows.{numbers_in, block_words, row_words, row_items, HasPart, Gets}
+use Rattle.points_to.proofs.Member.{none_in, in_left, in_right, in_split, in_map, map_in}
+use Rattle.points_to.proofs.GivenItems.{same_part-true, same_part-self}
 use Rattle.points_to.proofs.Loops.{flat_next}
 
-any_in : (u : Element) (ks : List Element) → list_any (is_at (word_order u)) ks ≡ true → In u ks
-any_in u [] e = cc
-any_in u (k ∷ ks) e = go (any_in u ks) (word_order u k) refl e
+map_append : {X Y : Type 0} (f : X → Y) (xs ys : List X) → map f (xs ++ ys) ≡ map f xs ++ map f ys
+map_append f [] ys = refl
+map_append f (x ∷ xs) ys = ap (λ l. f x ∷ l) (map_append f xs ys)
+
+nat_apart : (m n : ℕ) → (m ≡ n → ⊥) → nat_eq m n ≡ false
+nat_apart m n h = grind (arith, nat_tests)
+
+nat_same : (m n : ℕ) → m ≡ n → nat_eq m n ≡ true
+nat_same m n h = grind (arith, nat_tests)
+
+-- the number that follows an even one is a tag's, that follows an odd one a cell's
+even_next : (k : ℕ) → k % 2 ≡ 0 → word_of (k + 1) ≡ Tag (k / 2)
+even_next k e =
+    ap (λ b. cond b Number (cond (nat_eq ((k + 1 - 1) % 2) 0) (Tag ((k + 1 - 1) / 2)) (Cell ((k + 1 - 1) / 2)))) (nat_apart (k + 1) 0 (λ z. absurd (omega (arith, z))))
+    ∙ ap (λ m. cond (nat_eq (m % 2) 0) (Tag (m / 2)) (Cell (m / 2))) back
+    ∙ ap (λ b. cond b (Tag (k / 2)) (Cell (k / 2))) (nat_same (k % 2) 0 e)
   where
-    go : (list_any (is_at (word_order u)) ks ≡ true → In u ks) → (o : Ordering) → word_order u k ≡ o → (is_eq o || list_any (is_at (word_order u)) ks) ≡ true → In u (k ∷ ks)
-    go again Less q e = there (again e)
-    go again Equal q e = subst (λ j. In u (j ∷ ks)) (word_equal u k q) here
-    go again Greater q e = there (again e)
+    back : k + 1 - 1 ≡ k
+    back = omega arith
 
-or_true : (a : Bool) → (a || true) ≡ true
-or_true true = refl
-or_true false = refl
-
-in_any : (u : Element) (ks : List Element) → In u ks → list_any (is_at (word_order u)) ks ≡ true
-in_any u [] h = none_in h
-in_any u (k ∷ ks) h = ⊎_elim
-    (λ e. subst (λ j. (is_eq (word_order u j) || list_any (is_at (word_order u)) ks) ≡ true) e (ap (λ o. is_eq o || list_any (is_at (word_order u)) ks) (word_self u)))
-    (λ t. ap (λ b. is_eq (word_order u k) || b) (in_any u ks t) ∙ or_true (is_eq (word_order u k)))
-    (cons_in k ks h)
-
--- an insertion
-insert_kept : (ks : List Element) (k j : Element) → In j ks → In j (insert_key word_order ks k)
-insert_kept [] k j h = none_in h
-insert_kept (x ∷ ks) k j h = go (insert_kept ks k j) (word_order k x) h
+odd_next : (k : ℕ) → k % 2 ≡ 1 → word_of (k + 1) ≡ Cell (k / 2)
+odd_next k e =
+    ap (λ b. cond b Number (cond (nat_eq ((k + 1 - 1) % 2) 0) (Tag ((k + 1 - 1) / 2)) (Cell ((k + 1 - 1) / 2)))) (nat_apart (k + 1) 0 (λ z. absurd (omega (arith, z))))
+    ∙ ap (λ m. cond (nat_eq (m % 2) 0) (Tag (m / 2)) (Cell (m / 2))) back
+    ∙ ap (λ b. cond b (Tag (k / 2)) (Cell (k / 2))) (nat_apart (k % 2) 0 (λ z. absurd (omega (arith, e, z))))
   where
-    go : (In j ks → In j (insert_key word_order ks k)) → (o : Ordering) → In j (x ∷ ks) → In j (match_ordering o (k ∷ x ∷ ks) (x ∷ ks) (x ∷ insert_key word_order ks k))
-    go again Less h = there h
-    go again Equal h = h
-    go again Greater h = ⊎_elim (λ e. subst (λ y. In j (y ∷ insert_key word_order ks k)) e here) (λ t. there (again t)) (cons_in x ks h)
+    back : k + 1 - 1 ≡ k
+    back = omega arith
 
-insert_put : (ks : List Element) (k : Element) → In k (insert_key word_order ks k)
-insert_put [] k = here
-insert_put (x ∷ ks) k = go (insert_put ks k) (word_order k x) refl
+tag_number : (t : ℕ) → word_of (2 * t + 1) ≡ Tag t
+tag_number t = even_next (2 * t) (omega arith) ∙ ap Tag half
   where
-    go : In k (insert_key word_order ks k) → (o : Ordering) → word_order k x ≡ o → In k (match_ordering o (k ∷ x ∷ ks) (x ∷ ks) (x ∷ insert_key word_order ks k))
-    go again Less q = here
-    go again Equal q = subst (λ y. In k (y ∷ ks)) (word_equal k x q) here
-    go again Greater q = there again
+    half : 2 * t / 2 ≡ t
+    half = omega arith
 
-insert_only : (ks : List Element) (k j : Element) → In j (insert_key word_order ks k) → In j ks ⊎ (j ≡ k)
-insert_only [] k j h = inr (one_in k h)
-insert_only (x ∷ ks) k j h = go (insert_only ks k j) (word_order k x) h
+cell_number : (s : ℕ) → word_of (2 * s + 2) ≡ Cell s
+cell_number s = ap word_of next ∙ odd_next (2 * s + 1) (omega arith) ∙ ap Cell half
   where
-    go : (In j (insert_key word_order ks k) → In j ks ⊎ (j ≡ k)) → (o : Ordering) → In j (match_ordering o (k ∷ x ∷ ks) (x ∷ ks) (x ∷ insert_key word_order ks k)) → In j (x ∷ ks) ⊎ (j ≡ k)
-    go again Less h = ⊎_elim (λ e. inr e) (λ t. inl t) (cons_in k (x ∷ ks) h)
-    go again Equal h = inl h
-    go again Greater h = ⊎_elim (λ e. inl (subst (λ y. In j (y ∷ ks)) e here)) (λ t. ⊎_elim (λ a. inl (there a)) (λ b. inr b) (again t)) (cons_in x (insert_key word_order ks k) h)
+    next : 2 * s + 2 ≡ (2 * s + 1) + 1
+    next = omega arith
+
+    half : (2 * s + 1) / 2 ≡ s
+    half = omega arith
+
+number_word : (n : ℕ) → number_of (word_of n) ≡ n
+number_word zero = refl
+number_word (suc k) = ⊎_elim
+    (λ e. ap number_of (ap word_of next ∙ even_next k e) ∙ omega (arith, e))
+    (λ e. ap number_of (ap word_of next ∙ odd_next k e) ∙ omega (arith, e))
+    parity
+  where
+    next : suc k ≡ k + 1
+    next = omega arith
+
+    parity : (k % 2 ≡ 0) ⊎ (k % 2 ≡ 1)
+    parity = ⊎_elim (λ e. inl e) (λ d. let n : k % 2 ≢ 0 = d in inr (omega (arith, n))) (cases_eq (k % 2) 0)
+
+-- the words of blocks are those of their numbers
+words_are : (es : List (ℕ × ℕ)) → flat_map block_words es ≡ map word_of (flat_map block_numbers es)
+words_are [] = refl
+words_are (e ∷ es) = ap (λ l. block_words e ++ l) (words_are es) ∙ sym (map_append word_of (block_numbers e) (flat_map block_numbers es))
+
+-- words and their numbers
+pub word_number : (u : Element) → word_of (number_of u) ≡ u
+word_number (Cell s) = cell_number s
+word_number (Tag t) = tag_number t
+word_number Number = refl
+
+-- a function of the members
+map_gets : {X Y : Type 0} (f : X → Y) (old new : List X) (x : X) → Gets old new x → Gets (map f old) (map f new) (f x)
+map_gets f old new x g = record {
+  kept = λ y h. let w = map_in f old h in subst (λ z. In z (map f new)) (sym w.2) (in_map f new (g.kept w.0 w.1));
+  put = in_map f new g.put;
+  only = λ y h. let w = map_in f new h in ⊎_elim (λ a. inl (subst (λ z. In z (map f old)) (sym w.2) (in_map f old a))) (λ e. inr (w.2 ∙ ap f e)) (g.only w.0 w.1);
+}
 
 -- a row's items
-pub row_yes : (r : Row) (i : Item) (b : Bool) → same_part r.part i.part ≡ true → b ≡ list_any (is_at (word_order i.word)) r.words.keys → (IsTrue b → In i (row_items r)) × (In i (row_items r) → IsTrue b)
-row_yes r i b e q = (
-  λ t. subst (λ p. In (item p i.word) (row_items r)) (same_part-true r.part i.part e) (in_map (item r.part) r.words.keys (any_in i.word r.words.keys (sym q ∙ t))),
-  λ h. let w = map_in (item r.part) r.words.keys h in q ∙ in_any i.word r.words.keys (subst (λ u. In u r.words.keys) (sym (ap (λ j. j.word) w.2)) w.1),
-)
+pub row_yes : (r : Row) (i : Item) (n : ℕ) (b : Bool) → same_part r.part i.part ≡ true → n ≡ number_of i.word → (IsTrue b → In n (numbers_in r.words)) × (In n (numbers_in r.words) → IsTrue b) → (IsTrue b → In i (row_items r)) × (In i (row_items r) → IsTrue b)
+row_yes r i n b e q t =
+    let words : row_words r ≡ map word_of (numbers_in r.words) = words_are r.words.blocks.entries in
+    let its : word_of n ≡ i.word = ap word_of q ∙ word_number i.word in (
+      λ h. subst (λ p. In (item p i.word) (row_items r)) (same_part-true r.part i.part e) (in_map (item r.part) (row_words r) (subst (In i.word) (sym words) (subst (λ u. In u (map word_of (numbers_in r.words))) its (in_map word_of (numbers_in r.words) (t.0 h))))),
+      λ h.
+          let w = map_in (item r.part) (row_words r) h in
+          let v = map_in word_of (numbers_in r.words) (subst (In w.0) words w.1) in
+          let same : v.0 ≡ n = sym (number_word v.0) ∙ ap number_of (sym v.2) ∙ ap number_of (sym (ap (λ j. j.word) w.2)) ∙ sym q in
+          t.1 (subst (λ m. In m (numbers_in r.words)) same v.1),
+    )
 
 pub row_no : (r : Row) (i : Item) → same_part r.part i.part ≡ false → (IsTrue false → In i (row_items r)) × (In i (row_items r) → IsTrue false)
-row_no r i e = (λ t. cc, λ h. let w = map_in (item r.part) r.words.keys h in sym e ∙ subst (λ q. same_part r.part q ≡ true) (sym (ap (λ j. j.part) w.2)) (same_part-self r.part))
+row_no r i e = (λ t. cc, λ h. let w = map_in (item r.part) (row_words r) h in sym e ∙ subst (λ q. same_part r.part q ≡ true) (sym (ap (λ j. j.part) w.2)) (same_part-self r.part))
 
-pub row_gets : (r r' : Row) (i : Item) → r.part ≡ i.part → r'.part ≡ r.part → r'.words.keys ≡ insert_key word_order r.words.keys i.word → Gets (row_items r) (row_items r') i
-row_gets r r' i e e' k = subst (λ l. Gets (row_items r) l i) (sym same) (record {
-  kept = λ j h. let w = map_in (item r.part) r.words.keys h in subst (λ x. In x (in_part r.part (insert_key word_order r.words.keys i.word))) (sym w.2) (in_map (item r.part) _ (insert_kept r.words.keys i.word w.0 w.1));
-  put = subst (λ p. In (item p i.word) (in_part r.part (insert_key word_order r.words.keys i.word))) e (in_map (item r.part) _ (insert_put r.words.keys i.word));
-  only = λ j h. let w = map_in (item r.part) (insert_key word_order r.words.keys i.word) h in ⊎_elim
-      (λ a. inl (subst (λ x. In x (row_items r)) (sym w.2) (in_map (item r.part) r.words.keys a)))
-      (λ b. inr (w.2 ∙ ap (item r.part) b ∙ ap (λ p. item p i.word) e))
-      (insert_only r.words.keys i.word w.0 w.1);
-})
+pub row_gets : (r r' : Row) (i : Item) (n : ℕ) → r.part ≡ i.part → r'.part ≡ r.part → n ≡ number_of i.word → Gets (numbers_in r.words) (numbers_in r'.words) n → Gets (row_items r) (row_items r') i
+row_gets r r' i n e e' q g =
+    subst (Gets (row_items r) (row_items r')) its
+    (subst (λ p. Gets (row_items r) (in_part p (row_words r')) (item r.part (word_of n))) (sym e')
+    (map_gets (item r.part) (row_words r) (row_words r') (word_of n)
+    (subst (λ l. Gets l (row_words r') (word_of n)) (sym (words_are r.words.blocks.entries))
+    (subst (λ l. Gets (map word_of (numbers_in r.words)) l (word_of n)) (sym (words_are r'.words.blocks.entries))
+    (map_gets word_of (numbers_in r.words) (numbers_in r'.words) n g)))))
   where
-    same : row_items r' ≡ in_part r.part (insert_key word_order r.words.keys i.word)
-    same = ap (λ p. in_part p r'.words.keys) e' ∙ ap (in_part r.part) k
+    its : item r.part (word_of n) ≡ i
+    its = ap (item r.part) (ap word_of q ∙ word_number i.word) ∙ ap (λ p. item p i.word) e
+
+-- a new row
+pub row_none : (r : Row) → numbers_in r.words ≡ [] → row_items r ≡ []
+row_none r e = ap (in_part r.part) (words_are r.words.blocks.entries ∙ ap (map word_of) e)
 
 -- several rows
 pub not_yet : (rows : List Row) (n : ℕ) (r : Row) (b : Bool) (x : Item) → n < length rows → r ≡ get_or rows n r → b ≡ false → (In x (row_items r) → IsTrue b) → (In x (flat_map row_items (take n rows)) → ⊥) → In x (flat_map row_items (take (n + 1) rows)) → ⊥

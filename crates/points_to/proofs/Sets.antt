@@ -41,14 +41,14 @@ set_same [] n s lt = absurd (omega arith)
 set_same (x ∷ xs) zero s lt = refl
 set_same (x ∷ xs) (suc n) s lt = set_same xs n s (omega arith)
 
-set_other : (xs : List (List Item)) (n m : ℕ) (s : List Item) → (m ≡ n → ⊥) → items_at (slice_set xs n s) m ≡ items_at xs m
+pub set_other : (xs : List (List Item)) (n m : ℕ) (s : List Item) → (m ≡ n → ⊥) → items_at (slice_set xs n s) m ≡ items_at xs m
 set_other [] n m s ne = refl
 set_other (x ∷ xs) zero zero s ne = absurd (ne refl)
 set_other (x ∷ xs) zero (suc m) s ne = refl
 set_other (x ∷ xs) (suc n) zero s ne = refl
 set_other (x ∷ xs) (suc n) (suc m) s ne = set_other xs n m s (λ e. ne (ap suc e))
 
-same_or_not : (m n : ℕ) → (m ≡ n) ⊎ (m ≡ n → ⊥)
+pub same_or_not : (m n : ℕ) → (m ≡ n) ⊎ (m ≡ n → ⊥)
 same_or_not zero zero = inl refl
 same_or_not zero (suc n) = inr (λ e. cc)
 same_or_not (suc m) zero = inr (λ e. cc)

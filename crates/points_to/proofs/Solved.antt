@@ -20,7 +20,7 @@ use Rattle.points_to.specs.Asked.{fact, demands}
 use Rattle.points_to.specs.Known.{held, Grows, solution_of}
 use Rattle.points_to.specs.Rounds.{InEvery, Satisfied, AllSatisfied, Counted}
 use Rattle.points_to.proofs.Member.{none_in, cons_in, in_left, in_right, in_split}
-use Rattle.points_to.proofs.Given.{eq_from, eq_self, picked_in, in_picked}
+use Rattle.points_to.proofs.GivenItems.{eq_from, eq_self, picked_in, in_picked}
 use Rattle.points_to.proofs.Exact.{demands_mean, in_demands}
 
 -- the solution that has what is known
@@ -95,11 +95,11 @@ grows_more H H' H'' fs f g k = record {
   only = λ q j h. ⊎_elim (λ a. ⊎_elim (λ x. inl x) (λ y. inr (in_left fs (f ∷ []) y)) (g.only q j a)) (λ b. inr (in_right fs (f ∷ []) b)) (k.only q j h);
 }
 
-or_false-left : (a b : Bool) → (a || b) ≡ false → a ≡ false
+pub or_false-left : (a b : Bool) → (a || b) ≡ false → a ≡ false
 or_false-left true b e = cc
 or_false-left false b e = refl
 
-or_false-right : (a b : Bool) → (a || b) ≡ false → b ≡ false
+pub or_false-right : (a b : Bool) → (a || b) ≡ false → b ≡ false
 or_false-right true b e = cc
 or_false-right false b e = e
 

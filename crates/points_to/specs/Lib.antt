@@ -1,10 +1,17 @@
 pub mod Held
 pub mod Asked
+pub mod Applied
 pub mod Known
 pub mod Rounds
+pub mod Bits
+pub mod ByTag
 pub mod Row
 pub mod Rows
+pub mod Reads
 pub mod Shift
 pub mod Wanted
 pub mod Joined
+pub mod Met
 pub mod Found
+pub mod Waiting
+pub mod Worklist

@@ -1,17 +1,19 @@
 // What inclusions ask for, by what is known so far.
 
-ghost use Rattle.std.specs.Prelude.{◌≡◌, [], ◌∷◌, ◌++◌, Some, OnOk};
+ghost use Rattle.std.specs.Prelude.{◌≡◌, ◌++◌, None, Some, OnOk};
 ghost use Rattle.std.specs.List.{flat_map};
-ghost use Rattle.flow_system.specs.Inclusions.{held as held', value, evaluated, arguments, to, into, forces, applies};
-ghost use Rattle.flow_system.specs.Solution.{width};
+ghost use Rattle.flow_system.specs.Inclusions.{held as held', evaluated, into, forces, applies};
 ghost use Rattle.flow_system.specs.Shown.{tables_of, source_of, sink_of, inclusion_of};
 ghost use Rattle.flow_system.specs.Tables.{params_of};
 ghost use Rattle.points_to.specs.Held.{in_part, as_word, as_nodes, elements, items};
-ghost use Rattle.points_to.specs.Asked.{facts_at, vector_facts, target_facts, cell_facts, asked, flow_facts, delayed_facts, forced, called_facts, applied, demands};
+ghost use Rattle.points_to.specs.Asked.{facts_at, vector_facts, target_facts, cell_facts, asked, flow_facts, delayed_facts, forced, demands};
+ghost use Rattle.points_to.specs.Applied.{call_arguments, call_facts, tag_applied};
+ghost use Rattle.points_to.specs.ByTag.{IsByTag};
 ghost use Rattle.points_to.specs.Known.{held};
 
+use crate::by_tag::ByTag;
 use crate::facts::{Fact, Facts, Item};
-use crate::give::{arguments, elements, items, value_nodes, width};
+use crate::give::{arguments_by_tag, elements, items, value_nodes, width};
 use crate::nodes::{as_nodes, as_word, evaluated, in_part, picked};
 use crate::tags::{called, delayed};
 use flow_system::fact::{Element, Part, Place};
@@ -39,7 +41,8 @@ fn nodes_at_place(
     place: Place,
     out: &mut Seq<Fact>,
 ) -> Result<(), AllocError>
-    ensures { OnOk result (out.new ≡ out.old ++ facts_at place (as_nodes (tables_of system.now) k items.now)) }
+    ensures { OnOk result (out.new ≡ out.old
+        ++ facts_at place (as_nodes (tables_of system.now) k items.now)) }
 {
     let mut nodes = Seq::new(alloc);
     as_nodes(alloc, system, k, items, &mut nodes)?;
@@ -53,7 +56,8 @@ fn words_at_variable(
     words: &[Element],
     out: &mut Seq<Fact>,
 ) -> Result<(), AllocError>
-    ensures { OnOk result (out.new ≡ out.old ++ facts_at (Place.Var x.0) (in_part (Part.Word 0) words.now)) }
+    ensures { OnOk result (out.new ≡ out.old
+        ++ facts_at (Place.Var x.0) (in_part (Part.Word 0) words.now)) }
 {
     let mut found = Seq::new(alloc);
     in_part(Part::Word(0), words, &mut found)?;
@@ -69,7 +73,9 @@ fn word_facts(
     x: VarId,
     out: &mut Seq<Fact>,
 ) -> Result<(), AllocError>
-    ensures { OnOk result (out.new ≡ out.old ++ facts_at (Place.Var x.0) (in_part (Part.Word 0) (as_word (tables_of system.now) j items.now))) }
+    ensures { OnOk result (out.new ≡ out.old
+        ++ facts_at (Place.Var x.0)
+        (in_part (Part.Word 0) (as_word (tables_of system.now) j items.now))) }
 {
     let mut words = Seq::new(alloc);
     as_word(alloc, system, j, items, &mut words)?;
@@ -84,7 +90,8 @@ fn vector_facts(
     xs: &[VarId],
     out: &mut Seq<Fact>,
 ) -> Result<(), AllocError>
-    ensures { OnOk result (out.new ≡ out.old ++ vector_facts (tables_of system.now) items.now 0 xs.now) }
+    ensures { OnOk result (out.new ≡ out.old
+        ++ vector_facts (tables_of system.now) items.now 0 xs.now) }
 {
     let mut j: u32 = 0;
     for x in xs {
@@ -102,7 +109,8 @@ fn target_facts(
     target: &Target,
     out: &mut Seq<Fact>,
 ) -> Result<(), AllocError>
-    ensures { OnOk result (out.new ≡ out.old ++ target_facts (tables_of system.now) k items.now target.now) }
+    ensures { OnOk result (out.new ≡ out.old
+        ++ target_facts (tables_of system.now) k items.now target.now) }
 {
     match target {
         Target::Nothing => Ok(()),
@@ -145,7 +153,8 @@ fn asked(
     sink: &Sink,
     out: &mut Seq<Fact>,
 ) -> Result<(), AllocError>
-    ensures { OnOk result (out.new ≡ out.old ++ asked (tables_of system.now) (held facts.now) k items.now (sink_of sink.now)) }
+    ensures { OnOk result (out.new ≡ out.old
+        ++ asked (tables_of system.now) (held facts.now) k items.now (sink_of sink.now)) }
 {
     match sink {
         Sink::To(target) => target_facts(alloc, system, k, items, target, out),
@@ -164,7 +173,9 @@ fn cells_asked(
     w: Word,
     out: &mut Seq<Fact>,
 ) -> Result<(), AllocError>
-    ensures { OnOk result (out.new ≡ out.old ++ flat_map (cell_facts (as_nodes (tables_of system.now) k items.now)) (elements (tables_of system.now) (held facts.now) w)) }
+    ensures { OnOk result (out.new ≡ out.old
+        ++ flat_map (cell_facts (as_nodes (tables_of system.now) k items.now))
+        (elements (tables_of system.now) (held facts.now) w)) }
 {
     let mut nodes = Seq::new(alloc);
     as_nodes(alloc, system, k, items, &mut nodes)?;
@@ -181,7 +192,9 @@ fn flow_facts(
     sink: &Sink,
     out: &mut Seq<Fact>,
 ) -> Result<(), AllocError>
-    ensures { OnOk result (out.new ≡ out.old ++ flow_facts (tables_of system.now) (held facts.now) (source_of source.now) (sink_of sink.now)) }
+    ensures { OnOk result (out.new ≡ out.old
+        ++ flow_facts (tables_of system.now) (held facts.now) (source_of source.now)
+        (sink_of sink.now)) }
 {
     let mut given = Seq::new(alloc);
     items(alloc, system, facts, source, &mut given)?;
@@ -204,7 +217,9 @@ fn params_facts(
     items: &[Item],
     out: &mut Seq<Fact>,
 ) -> Result<(), AllocError>
-    ensures { OnOk result (out.new ≡ out.old ++ target_facts (tables_of system.now) (Some 1) items.now (params_of (tables_of system.now) f)) }
+    ensures { OnOk result (out.new ≡ out.old
+        ++ target_facts (tables_of system.now) (Some 1) items.now
+        (params_of (tables_of system.now) f)) }
 {
     match system.params.get(f as usize) {
         Some(xs) => vector_facts(alloc, system, items, xs.as_slice(), out),
@@ -212,37 +227,25 @@ fn params_facts(
     }
 }
 
-// The fields of a tag at a site, as arguments.
-fn delayed_arguments(
+// The fields of a tag among some nodes, followed by words, at the parameters of a procedure.
+fn call_params(
     alloc: Global,
     system: &FlowSystem,
     facts: &Facts,
-    s: u32,
-    t: u32,
-    out: &mut Seq<Item>,
-) -> Result<(), AllocError>
-    ensures { OnOk result (out.new ≡ out.old ++ items (tables_of system.now) (held facts.now) (arguments (held' (Place.Site s)) t [])) }
-{
-    let mut there = Seq::new(alloc);
-    facts.append(Place::Site(s), &mut there)?;
-    let mut nodes = Seq::new(alloc);
-    as_nodes(alloc, system, None, there.as_slice(), &mut nodes)?;
-    arguments(alloc, system, facts, t, &[], nodes.as_slice(), out)
-}
-
-fn delayed_calls(
-    alloc: Global,
-    system: &FlowSystem,
-    facts: &Facts,
-    s: u32,
+    nodes: &ByTag,
+    words: &[Word],
     t: u32,
     f: u32,
     out: &mut Seq<Fact>,
 ) -> Result<(), AllocError>
-    ensures { OnOk result (out.new ≡ out.old ++ flow_facts (tables_of system.now) (held facts.now) (arguments (held' (Place.Site s)) t []) (to (params_of (tables_of system.now) f))) }
+    requires { IsByTag nodes.now }
+    ensures { OnOk result (out.new ≡ out.old
+        ++ target_facts (tables_of system.now) (Some 1)
+        (call_arguments (tables_of system.now) (held facts.now) nodes.now.nodes t words.now)
+        (params_of (tables_of system.now) f)) }
 {
     let mut given = Seq::new(alloc);
-    delayed_arguments(alloc, system, facts, s, t, &mut given)?;
+    arguments_by_tag(alloc, system, facts, t, words, nodes, &mut given)?;
     params_facts(alloc, system, f, given.as_slice(), out)
 }
 
@@ -254,7 +257,8 @@ fn evaluated_result(
     f: u32,
     out: &mut Seq<Item>,
 ) -> Result<(), AllocError>
-    ensures { OnOk result (out.new ≡ out.old ++ items (tables_of system.now) (held facts.now) (evaluated (held' (Place.Result f)))) }
+    ensures { OnOk result (out.new ≡ out.old
+        ++ items (tables_of system.now) (held facts.now) (evaluated (held' (Place.Result f)))) }
 {
     let mut results = Seq::new(alloc);
     facts.append(Place::Result(f), &mut results)?;
@@ -269,7 +273,9 @@ fn evaluated_results(
     f: u32,
     out: &mut Seq<Fact>,
 ) -> Result<(), AllocError>
-    ensures { OnOk result (out.new ≡ out.old ++ flow_facts (tables_of system.now) (held facts.now) (evaluated (held' (Place.Result f))) (into (Place.Site s))) }
+    ensures { OnOk result (out.new ≡ out.old
+        ++ flow_facts (tables_of system.now) (held facts.now) (evaluated (held' (Place.Result f)))
+        (into (Place.Site s))) }
 {
     let mut given = Seq::new(alloc);
     evaluated_result(alloc, system, facts, f, &mut given)?;
@@ -288,14 +294,19 @@ fn delayed_facts(
     alloc: Global,
     system: &FlowSystem,
     facts: &Facts,
+    nodes: &ByTag,
     s: u32,
     t: u32,
     f: u32,
     out: &mut Seq<Fact>,
 ) -> Result<(), AllocError>
-    ensures { OnOk result (out.new ≡ out.old ++ delayed_facts (tables_of system.now) (held facts.now) s t (Some f)) }
+    requires by_tag { IsByTag nodes.now }
+    requires nodes { nodes.now.nodes
+        ≡ as_nodes (tables_of system.now) None (held facts.now (Place.Site s)) }
+    ensures { OnOk result (out.new ≡ out.old
+        ++ delayed_facts (tables_of system.now) (held facts.now) s t (Some f)) }
 {
-    delayed_calls(alloc, system, facts, s, t, f, out)?;
+    call_params(alloc, system, facts, nodes, &[], t, f, out)?;
     evaluated_results(alloc, system, facts, s, f, out)?;
     Ok(())
 }
@@ -304,16 +315,21 @@ fn forced(
     alloc: Global,
     system: &FlowSystem,
     facts: &Facts,
+    nodes: &ByTag,
     s: u32,
     word: Element,
     out: &mut Seq<Fact>,
 ) -> Result<(), AllocError>
-    ensures { OnOk result (out.new ≡ out.old ++ forced (tables_of system.now) (held facts.now) s word) }
+    requires by_tag { IsByTag nodes.now }
+    requires nodes { nodes.now.nodes
+        ≡ as_nodes (tables_of system.now) None (held facts.now (Place.Site s)) }
+    ensures { OnOk result (out.new ≡ out.old
+        ++ forced (tables_of system.now) (held facts.now) s word) }
 {
     match word {
         Element::Cell(_) => Ok(()),
         Element::Tag(t) => match delayed(system, t) {
-            Some(f) => delayed_facts(alloc, system, facts, s, t, f, out),
+            Some(f) => delayed_facts(alloc, system, facts, nodes, s, t, f, out),
             None => Ok(()),
         },
         Element::Number => Ok(()),
@@ -324,14 +340,19 @@ fn forced_all(
     alloc: Global,
     system: &FlowSystem,
     facts: &Facts,
+    nodes: &ByTag,
     s: u32,
     words: &[Element],
     out: &mut Seq<Fact>,
 ) -> Result<(), AllocError>
-    ensures { OnOk result (out.new ≡ out.old ++ flat_map (forced (tables_of system.now) (held facts.now) s) words.now) }
+    requires by_tag { IsByTag nodes.now }
+    requires nodes { nodes.now.nodes
+        ≡ as_nodes (tables_of system.now) None (held facts.now (Place.Site s)) }
+    ensures { OnOk result (out.new ≡ out.old
+        ++ flat_map (forced (tables_of system.now) (held facts.now) s) words.now) }
 {
     for word in words {
-        forced(alloc, system, facts, s, *word, out)?;
+        forced(alloc, system, facts, nodes, s, *word, out)?;
     }
     Ok(())
 }
@@ -343,104 +364,83 @@ fn forces_facts(
     s: u32,
     out: &mut Seq<Fact>,
 ) -> Result<(), AllocError>
-    ensures { OnOk result (out.new ≡ out.old ++ demands (tables_of system.now) (held facts.now) (forces s)) }
+    ensures { OnOk result (out.new ≡ out.old
+        ++ demands (tables_of system.now) (held facts.now) (forces s)) }
 {
     let mut there = Seq::new(alloc);
     facts.append(Place::Site(s), &mut there)?;
     let mut found = Seq::new(alloc);
     picked(Part::Tags, there.as_slice(), &mut found)?;
-    forced_all(alloc, system, facts, s, found.as_slice(), out)
-}
-
-// The fields of a tag among the nodes that a value may be, and one argument more.
-fn called_arguments(
-    alloc: Global,
-    system: &FlowSystem,
-    facts: &Facts,
-    v: &Val,
-    a: Word,
-    t: u32,
-    out: &mut Seq<Item>,
-) -> Result<(), AllocError>
-    ensures { OnOk result (out.new ≡ out.old ++ items (tables_of system.now) (held facts.now) (arguments (value v.now) t (a ∷ []))) }
-{
-    let mut nodes = Seq::new(alloc);
-    value_nodes(alloc, system, facts, v, &mut nodes)?;
-    arguments(alloc, system, facts, t, &[a], nodes.as_slice(), out)
-}
-
-fn called_params(
-    alloc: Global,
-    system: &FlowSystem,
-    facts: &Facts,
-    v: &Val,
-    a: Word,
-    t: u32,
-    f: u32,
-    out: &mut Seq<Fact>,
-) -> Result<(), AllocError>
-    ensures { OnOk result (out.new ≡ out.old ++ flow_facts (tables_of system.now) (held facts.now) (arguments (value v.now) t (a ∷ [])) (to (params_of (tables_of system.now) f))) }
-{
     let mut given = Seq::new(alloc);
-    called_arguments(alloc, system, facts, v, a, t, &mut given)?;
-    params_facts(alloc, system, f, given.as_slice(), out)
+    as_nodes(alloc, system, None, there.as_slice(), &mut given)?;
+    let nodes = ByTag::new(alloc, given)?;
+    forced_all(alloc, system, facts, &nodes, s, found.as_slice(), out)
 }
 
 // The calls of f with one argument more: their results are at the sink.
-fn called_facts(
+fn call_facts(
     alloc: Global,
     system: &FlowSystem,
     facts: &Facts,
-    v: &Val,
+    nodes: &ByTag,
     a: Word,
     sink: &Sink,
     t: u32,
     f: u32,
     out: &mut Seq<Fact>,
 ) -> Result<(), AllocError>
-    ensures { OnOk result (out.new ≡ out.old ++ called_facts (tables_of system.now) (held facts.now) v.now a (sink_of sink.now) t (Some f)) }
+    requires { IsByTag nodes.now }
+    ensures { OnOk result (out.new ≡ out.old
+        ++ call_facts (tables_of system.now) (held facts.now) nodes.now.nodes a (sink_of sink.now) t
+        (Some f)) }
 {
-    called_params(alloc, system, facts, v, a, t, f, out)?;
+    call_params(alloc, system, facts, nodes, &[a], t, f, out)?;
     flow_facts(alloc, system, facts, &Source::Result(ProcId(f)), sink, out)?;
     Ok(())
 }
 
-fn applied(
+fn tag_applied(
     alloc: Global,
     system: &FlowSystem,
     facts: &Facts,
-    v: &Val,
+    nodes: &ByTag,
     a: Word,
     sink: &Sink,
     word: Element,
     out: &mut Seq<Fact>,
 ) -> Result<(), AllocError>
-    ensures { OnOk result (out.new ≡ out.old ++ applied (tables_of system.now) (held facts.now) v.now a (sink_of sink.now) word) }
+    requires { IsByTag nodes.now }
+    ensures { OnOk result (out.new ≡ out.old
+        ++ tag_applied (tables_of system.now) (held facts.now) nodes.now.nodes a (sink_of sink.now)
+        word) }
 {
     match word {
         Element::Cell(_) => Ok(()),
         Element::Tag(t) => match called(system, t) {
-            Some(f) => called_facts(alloc, system, facts, v, a, sink, t, f, out),
+            Some(f) => call_facts(alloc, system, facts, nodes, a, sink, t, f, out),
             None => Ok(()),
         },
         Element::Number => Ok(()),
     }
 }
 
-fn applied_all(
+fn tags_applied(
     alloc: Global,
     system: &FlowSystem,
     facts: &Facts,
-    v: &Val,
+    nodes: &ByTag,
     a: Word,
     sink: &Sink,
     words: &[Element],
     out: &mut Seq<Fact>,
 ) -> Result<(), AllocError>
-    ensures { OnOk result (out.new ≡ out.old ++ flat_map (applied (tables_of system.now) (held facts.now) v.now a (sink_of sink.now)) words.now) }
+    requires { IsByTag nodes.now }
+    ensures { OnOk result (out.new ≡ out.old
+        ++ flat_map (tag_applied (tables_of system.now) (held facts.now) nodes.now.nodes a
+        (sink_of sink.now)) words.now) }
 {
     for word in words {
-        applied(alloc, system, facts, v, a, sink, *word, out)?;
+        tag_applied(alloc, system, facts, nodes, a, sink, *word, out)?;
     }
     Ok(())
 }
@@ -454,13 +454,14 @@ fn applies_facts(
     sink: &Sink,
     out: &mut Seq<Fact>,
 ) -> Result<(), AllocError>
-    ensures { OnOk result (out.new ≡ out.old ++ demands (tables_of system.now) (held facts.now) (applies v.now a (sink_of sink.now))) }
+    ensures { OnOk result (out.new ≡ out.old
+        ++ demands (tables_of system.now) (held facts.now) (applies v.now a (sink_of sink.now))) }
 {
-    let mut nodes = Seq::new(alloc);
-    value_nodes(alloc, system, facts, v, &mut nodes)?;
-    let mut found = Seq::new(alloc);
-    picked(Part::Tags, nodes.as_slice(), &mut found)?;
-    applied_all(alloc, system, facts, v, a, sink, found.as_slice(), out)
+    let mut given = Seq::new(alloc);
+    value_nodes(alloc, system, facts, v, &mut given)?;
+    let nodes = ByTag::new(alloc, given)?;
+    let tags = nodes.tags.as_slice();
+    tags_applied(alloc, system, facts, &nodes, a, sink, tags, out)
 }
 
 /// All that an inclusion asks for.
@@ -471,7 +472,8 @@ pub fn demands(
     inclusion: &Inclusion,
     out: &mut Seq<Fact>,
 ) -> Result<(), AllocError>
-    ensures { OnOk result (out.new ≡ out.old ++ demands (tables_of system.now) (held facts.now) (inclusion_of inclusion.now)) }
+    ensures { OnOk result (out.new ≡ out.old
+        ++ demands (tables_of system.now) (held facts.now) (inclusion_of inclusion.now)) }
 {
     match inclusion {
         Inclusion::Flows(source, sink) => flow_facts(alloc, system, facts, source, sink, out),

@@ -1,6 +1,6 @@
 // What is known of a program: for each place, which words stand in which of its parts.
 
-ghost use Rattle.std.specs.Prelude.{◌≡◌, ℕ, ◌<◌, ◌≤◌, ◌+◌, [], ◌∷◌, ◌++◌, length, IsTrue, ◌↔◌, OnOk, IfOk, true, false};
+ghost use Rattle.std.specs.Prelude.{◌≡◌, ℕ, ◌<◌, ◌≤◌, ◌+◌, [], ◌∷◌, ◌++◌, length, IsTrue, ◌↔◌, ◌⊎◌, OnOk, IfOk, true, false};
 ghost use Rattle.flow_system.specs.declared.fact.Place.{Place as Place'};
 ghost use Rattle.flow_system.specs.Shown.{tables_of};
 ghost use Rattle.points_to.specs.Held.{In, picked, done_items};
@@ -102,7 +102,8 @@ impl Facts {
         site: u32,
         out: &mut Seq<Item>,
     ) -> Result<(), AllocError>
-        ensures { OnOk result (out.new ≡ out.old ++ done_items (tables_of system.now) (held self.now (Place.Site site))) }
+        ensures { OnOk result (out.new ≡ out.old
+            ++ done_items (tables_of system.now) (held self.now (Place.Site site))) }
     {
         append_done(system, self.sites.as_slice(), site, out)
     }
@@ -112,6 +113,8 @@ impl Facts {
         ensures grown { OnOk result (Grows (held self.old) (held self.new) (fact ∷ [])) }
         ensures still { IfOk result (λ added. added ≡ false → self.new ≡ self.old) }
         ensures counted { IfOk result (λ added. added ≡ true → self.old.count < self.new.count) }
+        ensures elsewhere { OnOk result ((q : Place') → (q ≡ fact.place)
+            ⊎ (held self.new q ≡ held self.old q)) }
     {
         if self.has(fact) {
             return Ok(false);
@@ -124,6 +127,8 @@ impl Facts {
     fn put(&mut self, alloc: Global, fact: Fact) -> Result<(), AllocError>
         ensures grown { OnOk result (Grows (held self.old) (held self.new) (fact ∷ [])) }
         ensures same_count { OnOk result (self.new.count ≡ self.old.count) }
+        ensures elsewhere { OnOk result ((q : Place') → (q ≡ fact.place)
+            ⊎ (held self.new q ≡ held self.old q)) }
     {
         match fact.place {
             Place::Site(n) => put_item(alloc, &mut self.sites, n, fact.item),
@@ -173,7 +178,8 @@ fn append_done(
     n: u32,
     out: &mut Seq<Item>,
 ) -> Result<(), AllocError>
-    ensures { OnOk result (out.new ≡ out.old ++ done_items (tables_of system.now) (items_at sets.now n)) }
+    ensures { OnOk result (out.new ≡ out.old
+        ++ done_items (tables_of system.now) (items_at sets.now n)) }
 {
     match sets.get(n as usize) {
         None => Ok(()),
@@ -211,7 +217,9 @@ fn grow(alloc: Global, sets: &mut Vec<Items>, n: u32) -> Result<(), AllocError>
 }
 
 fn put_item(alloc: Global, sets: &mut Vec<Items>, n: u32, item: Item) -> Result<(), AllocError>
-    ensures { OnOk result (Puts (items_at sets.old.items) (items_at sets.new.items) n item) }
+    ensures puts { OnOk result (Puts (items_at sets.old.items) (items_at sets.new.items) n item) }
+    ensures elsewhere { OnOk result ((m : ℕ) → (m ≡ n)
+        ⊎ (items_at sets.new.items m ≡ items_at sets.old.items m)) }
 {
     grow(alloc, sets, n)?;
     sets[n as usize].insert(alloc, item)?;

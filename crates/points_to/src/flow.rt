@@ -1,16 +1,18 @@
 // The least solution of a flow system, and what is read from it.
 
-ghost use Rattle.std.specs.Prelude.{◌≡◌, ℕ, map, slice_get, ◌⊎◌, ◌↔◌, IsTrue, IfOk};
+ghost use Rattle.std.specs.Prelude.{◌≡◌, ℕ, map, ◌⊎◌, ◌↔◌, IsTrue, IfOk};
 ghost use Rattle.std.specs.List.Sorted.{IsStrictlyIncreasing};
 ghost use Rattle.flow_system.specs.Solution.{At};
 ghost use Rattle.points_to.specs.declared.wanted.Kind.TheVariants.{Sites as of_sites, Vars, Results};
 ghost use Rattle.points_to.specs.declared.wanted.Wanted.TheVariants.{NodeTags, Tags as all_tags, Sites as cell_sites};
 ghost use Rattle.points_to.specs.Held.{In};
-ghost use Rattle.points_to.specs.Wanted.{TagTable, SiteTable, numbers_by};
+ghost use Rattle.points_to.specs.Wanted.{TagTable, SiteTable};
+ghost use Rattle.points_to.specs.Met.{MetTable};
 ghost use Rattle.points_to.specs.Known.{held, solution_of};
 
 use crate::facts::{Fact, Facts, Item};
-use crate::tables::{site_table, tag_table};
+use crate::met::met_table;
+use crate::tables::{site_entry, site_table, tag_entry, tag_table};
 use crate::wanted::{Kind, Wanted};
 use flow_system::fact::{Element, Part, Place};
 use grin_syntax::program::{ProcId, Site, TagId, VarId};
@@ -24,10 +26,12 @@ pub struct Flow {
     site_tags: Seq<Seq<TagId>>,
     var_sites: Seq<Seq<Site>>,
     var_tags: Seq<Seq<TagId>>,
+    met_tags: Seq<Seq<TagId>>,
     result_tags: Seq<Seq<TagId>>,
     ghost at_sites: { TagTable facts of_sites NodeTags site_tags },
     ghost cells_of_vars: { SiteTable facts Vars cell_sites var_sites },
     ghost tags_of_vars: { TagTable facts Vars all_tags var_tags },
+    ghost tags_in_cells: { MetTable site_tags var_sites met_tags },
     ghost tags_of_results: { TagTable facts Results all_tags result_tags },
 }
 
@@ -41,12 +45,14 @@ impl Flow {
         let site_tags = tag_table(alloc, &facts, Kind::Sites, Wanted::NodeTags)?;
         let var_sites = site_table(alloc, &facts, Kind::Vars, Wanted::Sites)?;
         let var_tags = tag_table(alloc, &facts, Kind::Vars, Wanted::Tags)?;
+        let met_tags = met_table(alloc, &var_sites, &site_tags)?;
         let result_tags = tag_table(alloc, &facts, Kind::Results, Wanted::Tags)?;
         Ok(Flow {
             facts,
             site_tags,
             var_sites,
             var_tags,
+            met_tags,
             result_tags,
         })
     }
@@ -54,45 +60,63 @@ impl Flow {
     /// The tags of the nodes that the cells of a site may hold, ascending and without repeats.
     pub fn tags_at(&self, site: Site) -> &[TagId]
         ensures ascending { IsStrictlyIncreasing (map (λ t. t.0) result.now) }
-        ensures exact { (t : ℕ) → In t (map (λ t. t.0) result.now) ↔ At (found self.now) (Place.Site site.0) Part.Tags (Element.Tag t) }
+        ensures exact { (t : ℕ) → In t (map (λ t. t.0) result.now)
+            ↔ At (found self.now) (Place.Site site.0) Part.Tags (Element.Tag t) }
     {
-        tag_entry(&self.site_tags, site.0)
+        tag_entry(&self.site_tags, site.0 as usize)
     }
 
     /// The sites of the cells that a variable of one word may stand for, ascending and without repeats.
     pub fn locs_of(&self, var: VarId) -> &[Site]
         ensures ascending { IsStrictlyIncreasing (map (λ s. s.0) result.now) }
-        ensures exact { (s : ℕ) → In s (map (λ s. s.0) result.now) ↔ At (found self.now) (Place.Var var.0) (Part.Word 0) (Element.Cell s) }
+        ensures exact { (s : ℕ) → In s (map (λ s. s.0) result.now)
+            ↔ At (found self.now) (Place.Var var.0) (Part.Word 0) (Element.Cell s) }
     {
-        site_entry(&self.var_sites, var.0)
+        site_entry(&self.var_sites, var.0 as usize)
+    }
+
+    /// The tags of the nodes in the cells that a variable of one word may stand for, ascending and without repeats.
+    pub fn tags_met(&self, var: VarId) -> &[TagId]
+        ensures ascending { IsStrictlyIncreasing (map (λ t. t.0) result.now) }
+        ensures exact { (t : ℕ) → In t (map (λ t. t.0) result.now) ↔ ((s : ℕ)
+            × At (found self.now) (Place.Var var.0) (Part.Word 0) (Element.Cell s)
+            × At (found self.now) (Place.Site s) Part.Tags (Element.Tag t)) }
+    {
+        tag_entry(&self.met_tags, var.0 as usize)
     }
 
     /// The tags of the nodes that a variable may hold, or the tags in its set where it is of one word, ascending and without repeats.
     pub fn nodes_of(&self, var: VarId) -> &[TagId]
         ensures ascending { IsStrictlyIncreasing (map (λ t. t.0) result.now) }
-        ensures exact { (t : ℕ) → In t (map (λ t. t.0) result.now) ↔ (At (found self.now) (Place.Var var.0) Part.Tags (Element.Tag t) ⊎ At (found self.now) (Place.Var var.0) (Part.Word 0) (Element.Tag t)) }
+        ensures exact { (t : ℕ) → In t (map (λ t. t.0) result.now)
+            ↔ (At (found self.now) (Place.Var var.0) Part.Tags (Element.Tag t)
+            ⊎ At (found self.now) (Place.Var var.0) (Part.Word 0) (Element.Tag t)) }
     {
-        tag_entry(&self.var_tags, var.0)
+        tag_entry(&self.var_tags, var.0 as usize)
     }
 
     /// The tags of the nodes that a procedure may give, those in its first word among them, ascending and without repeats.
     pub fn result_of(&self, proc: ProcId) -> &[TagId]
         ensures ascending { IsStrictlyIncreasing (map (λ t. t.0) result.now) }
-        ensures exact { (t : ℕ) → In t (map (λ t. t.0) result.now) ↔ (At (found self.now) (Place.Result proc.0) Part.Tags (Element.Tag t) ⊎ At (found self.now) (Place.Result proc.0) (Part.Word 0) (Element.Tag t)) }
+        ensures exact { (t : ℕ) → In t (map (λ t. t.0) result.now)
+            ↔ (At (found self.now) (Place.Result proc.0) Part.Tags (Element.Tag t)
+            ⊎ At (found self.now) (Place.Result proc.0) (Part.Word 0) (Element.Tag t)) }
     {
-        tag_entry(&self.result_tags, proc.0)
+        tag_entry(&self.result_tags, proc.0 as usize)
     }
 
     /// Whether a variable of one word may stand for a number.
     pub fn holds_number(&self, var: VarId) -> bool
-        ensures { IsTrue result ↔ At (found self.now) (Place.Var var.0) (Part.Word 0) Element.Number }
+        ensures { IsTrue result ↔ At (found self.now) (Place.Var var.0) (Part.Word 0)
+            Element.Number }
     {
         self.holds(var, Element::Number)
     }
 
     /// Whether a variable of one word may stand for a tag.
     pub fn holds_tag(&self, var: VarId, tag: TagId) -> bool
-        ensures { IsTrue result ↔ At (found self.now) (Place.Var var.0) (Part.Word 0) (Element.Tag tag.0) }
+        ensures { IsTrue result ↔ At (found self.now) (Place.Var var.0) (Part.Word 0)
+            (Element.Tag tag.0) }
     {
         self.holds(var, Element::Tag(tag.0))
     }
@@ -105,23 +129,5 @@ impl Flow {
         let item = Item { part, word };
         let place = Place::Var(var.0);
         self.facts.has(Fact { place, item })
-    }
-}
-
-fn tag_entry(table: &Seq<Seq<TagId>>, n: u32) -> &[TagId]
-    ensures { map (λ t. t.0) result.now ≡ numbers_by (λ t. t.0) (slice_get table.now n) }
-{
-    match table.get(n as usize) {
-        Some(tags) => tags.as_slice(),
-        None => &[],
-    }
-}
-
-fn site_entry(table: &Seq<Seq<Site>>, n: u32) -> &[Site]
-    ensures { map (λ s. s.0) result.now ≡ numbers_by (λ s. s.0) (slice_get table.now n) }
-{
-    match table.get(n as usize) {
-        Some(sites) => sites.as_slice(),
-        None => &[],
     }
 }

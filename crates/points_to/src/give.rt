@@ -9,9 +9,12 @@ ghost use Rattle.flow_system.specs.declared.fact.Part.TheVariants.{Tags as tags'
 ghost use Rattle.points_to.specs.Held.{picked, in_part, done_items, node_of_word, as_nodes, item, elements, numbered, value_items, cell_items, fetched_at, last_field, longer_node, longer_tag, after_fields, arguments_of, items};
 ghost use Rattle.points_to.specs.Known.{held};
 ghost use Rattle.points_to.specs.Row.{row_part};
+ghost use Rattle.points_to.specs.ByTag.{IsByTag};
 
+use crate::by_tag::ByTag;
 use crate::facts::{Facts, Item};
-use crate::nodes::{Shift, as_nodes, fetched, in_part, nodes_of_words, picked, shift_all};
+use crate::fetch::fetched_from;
+use crate::nodes::{Shift, append_shifted, as_nodes, in_part, nodes_of_words, picked};
 use crate::tags::{fields_of, longer};
 use flow_system::fact::{Element, Part, Place};
 use flow_system::inclusion::{FlowSystem, Source};
@@ -34,7 +37,8 @@ pub fn elements(
     w: Word,
     out: &mut Seq<Element>,
 ) -> Result<(), AllocError>
-    ensures { OnOk result (out.new ≡ out.old ++ elements (tables_of system.now) (held facts.now) w) }
+    ensures { OnOk result (out.new ≡ out.old
+        ++ elements (tables_of system.now) (held facts.now) w) }
 {
     match w {
         Word::Lit(_) => out.push(Element::Number),
@@ -56,7 +60,8 @@ fn elements_in(
     w: Word,
     out: &mut Seq<Item>,
 ) -> Result<(), AllocError>
-    ensures { OnOk result (out.new ≡ out.old ++ in_part part (elements (tables_of system.now) (held facts.now) w)) }
+    ensures { OnOk result (out.new ≡ out.old
+        ++ in_part part (elements (tables_of system.now) (held facts.now) w)) }
 {
     let mut words = Seq::new(alloc);
     elements(alloc, system, facts, w, &mut words)?;
@@ -82,7 +87,8 @@ fn elements_at(
     w: Word,
     out: &mut Seq<Item>,
 ) -> Result<(), AllocError>
-    ensures { OnOk result (out.new ≡ out.old ++ in_part (row_part row j) (elements (tables_of system.now) (held facts.now) w)) }
+    ensures { OnOk result (out.new ≡ out.old
+        ++ in_part (row_part row j) (elements (tables_of system.now) (held facts.now) w)) }
 {
     elements_in(alloc, system, facts, part_at(row, j), w, out)
 }
@@ -97,7 +103,8 @@ pub fn numbered(
     words: &[Word],
     out: &mut Seq<Item>,
 ) -> Result<(), AllocError>
-    ensures { OnOk result (out.new ≡ out.old ++ numbered (tables_of system.now) (held facts.now) (row_part row) first words.now) }
+    ensures { OnOk result (out.new ≡ out.old
+        ++ numbered (tables_of system.now) (held facts.now) (row_part row) first words.now) }
 {
     let mut j = first;
     for word in words {
@@ -115,7 +122,8 @@ pub fn value_items(
     v: &Val,
     out: &mut Seq<Item>,
 ) -> Result<(), AllocError>
-    ensures { OnOk result (out.new ≡ out.old ++ value_items (tables_of system.now) (held facts.now) v.now) }
+    ensures { OnOk result (out.new ≡ out.old
+        ++ value_items (tables_of system.now) (held facts.now) v.now) }
 {
     match v {
         Val::NodeVar(x) => facts.append(Place::Var(x.0), out),
@@ -166,7 +174,9 @@ fn items_at_cells(
     w: Word,
     out: &mut Seq<Item>,
 ) -> Result<(), AllocError>
-    ensures { OnOk result (out.new ≡ out.old ++ flat_map (cell_items (held facts.now)) (elements (tables_of system.now) (held facts.now) w)) }
+    ensures { OnOk result (out.new ≡ out.old
+        ++ flat_map (cell_items (held facts.now))
+        (elements (tables_of system.now) (held facts.now) w)) }
 {
     let mut cells = Seq::new(alloc);
     elements(alloc, system, facts, w, &mut cells)?;
@@ -181,14 +191,11 @@ fn fetched_at(
     word: Element,
     out: &mut Seq<Element>,
 ) -> Result<(), AllocError>
-    ensures { OnOk result (out.new ≡ out.old ++ fetched_at (tables_of system.now) (held facts.now) i word) }
+    ensures { OnOk result (out.new ≡ out.old
+        ++ fetched_at (tables_of system.now) (held facts.now) i word) }
 {
     match word {
-        Element::Cell(s) => {
-            let mut items = Seq::new(alloc);
-            facts.append(Place::Site(s), &mut items)?;
-            fetched(alloc, system, i, items.as_slice(), out)
-        }
+        Element::Cell(s) => fetched_from(alloc, system, facts, s, i, out),
         Element::Tag(_) => Ok(()),
         Element::Number => Ok(()),
     }
@@ -202,7 +209,8 @@ fn fetched_at_all(
     words: &[Element],
     out: &mut Seq<Element>,
 ) -> Result<(), AllocError>
-    ensures { OnOk result (out.new ≡ out.old ++ flat_map (fetched_at (tables_of system.now) (held facts.now) i) words.now) }
+    ensures { OnOk result (out.new ≡ out.old
+        ++ flat_map (fetched_at (tables_of system.now) (held facts.now) i) words.now) }
 {
     for word in words {
         fetched_at(alloc, system, facts, i, *word, out)?;
@@ -219,7 +227,10 @@ fn word_at(
     i: u32,
     out: &mut Seq<Item>,
 ) -> Result<(), AllocError>
-    ensures { OnOk result (out.new ≡ out.old ++ in_part (Part.Word 0) (flat_map (fetched_at (tables_of system.now) (held facts.now) i) (elements (tables_of system.now) (held facts.now) w))) }
+    ensures { OnOk result (out.new ≡ out.old
+        ++ in_part (Part.Word 0)
+        (flat_map (fetched_at (tables_of system.now) (held facts.now) i)
+        (elements (tables_of system.now) (held facts.now) w))) }
 {
     let mut cells = Seq::new(alloc);
     elements(alloc, system, facts, w, &mut cells)?;
@@ -237,7 +248,8 @@ fn last_field(
     m: Option<u32>,
     out: &mut Seq<Item>,
 ) -> Result<(), AllocError>
-    ensures { OnOk result (out.new ≡ out.old ++ last_field (tables_of system.now) (held facts.now) a longer m) }
+    ensures { OnOk result (out.new ≡ out.old
+        ++ last_field (tables_of system.now) (held facts.now) a longer m) }
 {
     match m {
         Some(m) => elements_in(alloc, system, facts, Part::Field(longer, m), a, out),
@@ -251,17 +263,19 @@ fn longer_node(
     system: &FlowSystem,
     facts: &Facts,
     a: Word,
-    items: &[Item],
+    nodes: &ByTag,
     t: u32,
     longer: u32,
     out: &mut Seq<Item>,
 ) -> Result<(), AllocError>
-    ensures { OnOk result (out.new ≡ out.old ++ longer_node (tables_of system.now) (held facts.now) a items.now t (Some longer)) }
+    requires { IsByTag nodes.now }
+    ensures { OnOk result (out.new ≡ out.old
+        ++ longer_node (tables_of system.now) (held facts.now) a nodes.now.nodes t (Some longer)) }
 {
     let part = Part::Tags;
     let word = Element::Tag(longer);
     out.push(Item { part, word })?;
-    shift_all(system, Shift::Renamed(t, longer), items, out)?;
+    append_shifted(system, Shift::Renamed(t, longer), nodes.fields_of(t), out)?;
     last_field(alloc, system, facts, a, longer, fields_of(system, t), out)?;
     Ok(())
 }
@@ -271,16 +285,18 @@ fn longer_tag(
     system: &FlowSystem,
     facts: &Facts,
     a: Word,
-    items: &[Item],
+    nodes: &ByTag,
     word: Element,
     out: &mut Seq<Item>,
 ) -> Result<(), AllocError>
-    ensures { OnOk result (out.new ≡ out.old ++ longer_tag (tables_of system.now) (held facts.now) a items.now word) }
+    requires { IsByTag nodes.now }
+    ensures { OnOk result (out.new ≡ out.old
+        ++ longer_tag (tables_of system.now) (held facts.now) a nodes.now.nodes word) }
 {
     match word {
         Element::Cell(_) => Ok(()),
         Element::Tag(t) => match longer(system, t)? {
-            Some(u) => longer_node(alloc, system, facts, a, items, t, u, out),
+            Some(u) => longer_node(alloc, system, facts, a, nodes, t, u, out),
             None => Ok(()),
         },
         Element::Number => Ok(()),
@@ -292,14 +308,17 @@ fn longer_tags(
     system: &FlowSystem,
     facts: &Facts,
     a: Word,
-    items: &[Item],
+    nodes: &ByTag,
     words: &[Element],
     out: &mut Seq<Item>,
 ) -> Result<(), AllocError>
-    ensures { OnOk result (out.new ≡ out.old ++ flat_map (longer_tag (tables_of system.now) (held facts.now) a items.now) words.now) }
+    requires { IsByTag nodes.now }
+    ensures { OnOk result (out.new ≡ out.old
+        ++ flat_map (longer_tag (tables_of system.now) (held facts.now) a nodes.now.nodes)
+        words.now) }
 {
     for word in words {
-        longer_tag(alloc, system, facts, a, items, *word, out)?;
+        longer_tag(alloc, system, facts, a, nodes, *word, out)?;
     }
     Ok(())
 }
@@ -312,7 +331,8 @@ fn after_fields(
     m: Option<u32>,
     out: &mut Seq<Item>,
 ) -> Result<(), AllocError>
-    ensures { OnOk result (out.new ≡ out.old ++ after_fields (tables_of system.now) (held facts.now) words.now m) }
+    ensures { OnOk result (out.new ≡ out.old
+        ++ after_fields (tables_of system.now) (held facts.now) words.now m) }
 {
     match m {
         Some(m) => numbered(alloc, system, facts, Row::Words, m, words, out),
@@ -330,13 +350,14 @@ fn arguments_of(
     word: Element,
     out: &mut Seq<Item>,
 ) -> Result<(), AllocError>
-    ensures { OnOk result (out.new ≡ out.old ++ arguments_of (tables_of system.now) (held facts.now) t words.now items.now word) }
+    ensures { OnOk result (out.new ≡ out.old
+        ++ arguments_of (tables_of system.now) (held facts.now) t words.now items.now word) }
 {
     match word {
         Element::Cell(_) => Ok(()),
         Element::Tag(u) => {
             if u == t {
-                shift_all(system, Shift::Arguments(t), items, out)?;
+                append_shifted(system, Shift::Arguments(t), items, out)?;
                 after_fields(alloc, system, facts, words, fields_of(system, t), out)?;
             }
             Ok(())
@@ -355,7 +376,9 @@ fn arguments_of_all(
     found: &[Element],
     out: &mut Seq<Item>,
 ) -> Result<(), AllocError>
-    ensures { OnOk result (out.new ≡ out.old ++ flat_map (arguments_of (tables_of system.now) (held facts.now) t words.now items.now) found.now) }
+    ensures { OnOk result (out.new ≡ out.old
+        ++ flat_map (arguments_of (tables_of system.now) (held facts.now) t words.now items.now)
+        found.now) }
 {
     for word in found {
         arguments_of(alloc, system, facts, t, words, items, *word, out)?;
@@ -363,8 +386,8 @@ fn arguments_of_all(
     Ok(())
 }
 
-/// The fields of the nodes of a tag, followed by words, as arguments.
-pub fn arguments(
+// The fields of the nodes of a tag, followed by words, as arguments.
+fn arguments(
     alloc: Global,
     system: &FlowSystem,
     facts: &Facts,
@@ -373,11 +396,33 @@ pub fn arguments(
     nodes: &[Item],
     out: &mut Seq<Item>,
 ) -> Result<(), AllocError>
-    ensures { OnOk result (out.new ≡ out.old ++ flat_map (arguments_of (tables_of system.now) (held facts.now) t words.now nodes.now) (picked tags' nodes.now)) }
+    ensures { OnOk result (out.new ≡ out.old
+        ++ flat_map (arguments_of (tables_of system.now) (held facts.now) t words.now nodes.now)
+        (picked tags' nodes.now)) }
 {
     let mut found = Seq::new(alloc);
     picked(Part::Tags, nodes, &mut found)?;
     arguments_of_all(alloc, system, facts, t, words, nodes, found.as_slice(), out)
+}
+
+/// The fields of the nodes of a tag, followed by words, as arguments, where the fields are at hand by the tag.
+pub fn arguments_by_tag(
+    alloc: Global,
+    system: &FlowSystem,
+    facts: &Facts,
+    t: u32,
+    words: &[Word],
+    nodes: &ByTag,
+    out: &mut Seq<Item>,
+) -> Result<(), AllocError>
+    requires { IsByTag nodes.now }
+    ensures { OnOk result (out.new ≡ out.old
+        ++ flat_map (arguments_of (tables_of system.now) (held facts.now) t words.now
+        nodes.now.nodes) (picked tags' nodes.now.nodes)) }
+{
+    let fields = nodes.fields_of(t);
+    let tags = nodes.tags.as_slice();
+    arguments_of_all(alloc, system, facts, t, words, fields, tags, out)
 }
 
 /// The nodes that a value may be.
@@ -388,7 +433,9 @@ pub fn value_nodes(
     v: &Val,
     out: &mut Seq<Item>,
 ) -> Result<(), AllocError>
-    ensures { OnOk result (out.new ≡ out.old ++ as_nodes (tables_of system.now) (width (value v.now)) (value_items (tables_of system.now) (held facts.now) v.now)) }
+    ensures { OnOk result (out.new ≡ out.old
+        ++ as_nodes (tables_of system.now) (width (value v.now))
+        (value_items (tables_of system.now) (held facts.now) v.now)) }
 {
     let mut items = Seq::new(alloc);
     value_items(alloc, system, facts, v, &mut items)?;
@@ -416,21 +463,14 @@ fn extended(
     a: Word,
     out: &mut Seq<Item>,
 ) -> Result<(), AllocError>
-    ensures { OnOk result (out.new ≡ out.old ++ items (tables_of system.now) (held facts.now) (extended v.now a)) }
+    ensures { OnOk result (out.new ≡ out.old
+        ++ items (tables_of system.now) (held facts.now) (extended v.now a)) }
 {
-    let mut nodes = Seq::new(alloc);
-    value_nodes(alloc, system, facts, v, &mut nodes)?;
-    let mut found = Seq::new(alloc);
-    picked(Part::Tags, nodes.as_slice(), &mut found)?;
-    longer_tags(
-        alloc,
-        system,
-        facts,
-        a,
-        nodes.as_slice(),
-        found.as_slice(),
-        out,
-    )
+    let mut given = Seq::new(alloc);
+    value_nodes(alloc, system, facts, v, &mut given)?;
+    let nodes = ByTag::new(alloc, given)?;
+    let tags = nodes.tags.as_slice();
+    longer_tags(alloc, system, facts, a, &nodes, tags, out)
 }
 
 // The evaluated nodes at a cell.
@@ -440,7 +480,8 @@ fn done_at(
     word: Element,
     out: &mut Seq<Item>,
 ) -> Result<(), AllocError>
-    ensures { OnOk result (out.new ≡ out.old ++ done_items (tables_of system.now) (cell_items (held facts.now) word)) }
+    ensures { OnOk result (out.new ≡ out.old
+        ++ done_items (tables_of system.now) (cell_items (held facts.now) word)) }
 {
     match word {
         Element::Cell(s) => facts.append_done(system, s, out),
@@ -455,7 +496,9 @@ fn done_at_all(
     words: &[Element],
     out: &mut Seq<Item>,
 ) -> Result<(), AllocError>
-    ensures { OnOk result (out.new ≡ out.old ++ flat_map (λ w. done_items (tables_of system.now) (cell_items (held facts.now) w)) words.now) }
+    ensures { OnOk result (out.new ≡ out.old
+        ++ flat_map (λ w. done_items (tables_of system.now) (cell_items (held facts.now) w))
+        words.now) }
 {
     for word in words {
         done_at(system, facts, *word, out)?;
@@ -465,7 +508,8 @@ fn done_at_all(
 
 // The first words at a cell.
 fn first_at(facts: &Facts, word: Element, out: &mut Seq<Element>) -> Result<(), AllocError>
-    ensures { OnOk result (out.new ≡ out.old ++ picked (Part.Word 0) (cell_items (held facts.now) word)) }
+    ensures { OnOk result (out.new ≡ out.old
+        ++ picked (Part.Word 0) (cell_items (held facts.now) word)) }
 {
     match word {
         Element::Cell(s) => facts.append_words(Place::Site(s), Part::Word(0), out),
@@ -475,7 +519,8 @@ fn first_at(facts: &Facts, word: Element, out: &mut Seq<Element>) -> Result<(), 
 }
 
 fn first_at_all(facts: &Facts, words: &[Element], out: &mut Seq<Element>) -> Result<(), AllocError>
-    ensures { OnOk result (out.new ≡ out.old ++ flat_map (λ w. picked (Part.Word 0) (cell_items (held facts.now) w)) words.now) }
+    ensures { OnOk result (out.new ≡ out.old
+        ++ flat_map (λ w. picked (Part.Word 0) (cell_items (held facts.now) w)) words.now) }
 {
     for word in words {
         first_at(facts, *word, out)?;
@@ -490,11 +535,13 @@ fn done_alone(
     words: &[Element],
     out: &mut Seq<Item>,
 ) -> Result<(), AllocError>
-    ensures { OnOk result (out.new ≡ out.old ++ done_items (tables_of system.now) (flat_map (node_of_word (tables_of system.now) (Some 1) []) words.now)) }
+    ensures { OnOk result (out.new ≡ out.old
+        ++ done_items (tables_of system.now)
+        (flat_map (node_of_word (tables_of system.now) (Some 1) []) words.now)) }
 {
     let mut nodes = Seq::new(alloc);
     nodes_of_words(system, Some(1), &[], words, &mut nodes)?;
-    shift_all(system, Shift::Evaluated, nodes.as_slice(), out)
+    append_shifted(system, Shift::Evaluated, nodes.as_slice(), out)
 }
 
 // The evaluated ones among the nodes at the cells of a word. The fields of delayed calls there, which may be many, are passed over.
@@ -505,7 +552,8 @@ fn evaluated_at(
     w: Word,
     out: &mut Seq<Item>,
 ) -> Result<(), AllocError>
-    ensures { OnOk result (out.new ≡ out.old ++ items (tables_of system.now) (held facts.now) (evaluated (nodes_at w))) }
+    ensures { OnOk result (out.new ≡ out.old
+        ++ items (tables_of system.now) (held facts.now) (evaluated (nodes_at w))) }
 {
     let mut cells = Seq::new(alloc);
     elements(alloc, system, facts, w, &mut cells)?;
@@ -524,7 +572,8 @@ fn fields_of_value(
     t: u32,
     out: &mut Seq<Item>,
 ) -> Result<(), AllocError>
-    ensures { OnOk result (out.new ≡ out.old ++ items (tables_of system.now) (held facts.now) (arguments (value v.now) t [])) }
+    ensures { OnOk result (out.new ≡ out.old
+        ++ items (tables_of system.now) (held facts.now) (arguments (value v.now) t [])) }
 {
     let mut nodes = Seq::new(alloc);
     value_nodes(alloc, system, facts, v, &mut nodes)?;
@@ -539,7 +588,8 @@ pub fn items(
     source: &Source,
     out: &mut Seq<Item>,
 ) -> Result<(), AllocError>
-    ensures { OnOk result (out.new ≡ out.old ++ items (tables_of system.now) (held facts.now) (source_of source.now)) }
+    ensures { OnOk result (out.new ≡ out.old
+        ++ items (tables_of system.now) (held facts.now) (source_of source.now)) }
 {
     match source {
         Source::Value(v) => value_items(alloc, system, facts, v, out),

@@ -1,11 +1,13 @@
 // The items at a place, in rows of words: one row for each part where something stands.
 
-ghost use Rattle.std.specs.Prelude.{◌≡◌, [], ◌∷◌, ◌++◌, ◌↔◌, IsTrue, IfSome, OnOk};
+ghost use Rattle.std.specs.Prelude.{◌≡◌, [], ◌∷◌, ◌++◌, ◌↔◌, map, IsTrue, IfSome, OnOk};
 ghost use Rattle.std.specs.List.{flat_map};
 ghost use Rattle.flow_system.specs.Shown.{tables_of};
 ghost use Rattle.points_to.specs.Held.{In, picked, in_part, done_items};
-ghost use Rattle.points_to.specs.Rows.{row_items, HasPart, Gets};
+ghost use Rattle.points_to.specs.Bits.{word_of};
+ghost use Rattle.points_to.specs.Rows.{row_words, row_items, HasPart, Gets};
 
+use crate::bits::{Bits, Block, number_of, word_of};
 use crate::facts::Item;
 use crate::nodes::{push_if, same_part};
 use crate::tags::is_done;
@@ -13,14 +15,13 @@ use flow_system::fact::{Element, Part};
 use flow_system::inclusion::FlowSystem;
 use seq::Seq;
 use std::alloc::{AllocError, Global};
-use std::collections::BTreeSet;
 use std::marker::Model;
 
-/// The words in one part, ascending and without repeats.
+/// The words in one part: a set of their numbers.
 #[derive(Drop)]
 struct Row {
     part: Part,
-    words: BTreeSet<Element>,
+    words: Bits,
 }
 
 /// The items at a place. A contract sees their list, row by row; the code goes over one row alone where one part is asked for.
@@ -90,7 +91,7 @@ fn row_has(row: &Row, item: Item) -> bool
     ensures { IsTrue result ↔ In item (row_items row.now) }
 {
     if same_part(row.part, item.part) {
-        return row.words.contains(&item.word);
+        return row.words.has(number_of(item.word));
     }
     false
 }
@@ -122,19 +123,20 @@ fn insert_word(row: &mut Row, item: Item) -> Result<(), AllocError>
     requires { row.old.part ≡ item.part }
     ensures { OnOk result (Gets (row_items row.old) (row_items row.new) item) }
 {
-    row.words.insert(item.word)?;
+    row.words.insert(number_of(item.word))?;
     Ok(())
 }
 
 fn insert_in(alloc: Global, rows: &mut Vec<Row>, item: Item) -> Result<(), AllocError>
-    ensures { OnOk result (Gets (flat_map row_items rows.old.items) (flat_map row_items rows.new.items) item) }
+    ensures { OnOk result (Gets (flat_map row_items rows.old.items)
+        (flat_map row_items rows.new.items) item) }
 {
     match row_of(rows.as_slice(), item.part) {
         Some(k) => insert_word(&mut rows[k], item),
         None => {
             let mut row = Row {
                 part: item.part,
-                words: BTreeSet::new(alloc),
+                words: Bits::new(alloc),
             };
             insert_word(&mut row, item)?;
             rows.push(row)?;
@@ -143,12 +145,22 @@ fn insert_in(alloc: Global, rows: &mut Vec<Row>, item: Item) -> Result<(), Alloc
     }
 }
 
+fn append_block(part: Part, block: Block, out: &mut Seq<Item>) -> Result<(), AllocError>
+    ensures { OnOk result (out.new ≡ out.old ++ in_part part (map word_of block)) }
+{
+    let mut left = block;
+    'words: while let Some(n) = left.next() {
+        let word = word_of(n)?;
+        out.push(Item { part, word })?;
+    }
+    Ok(())
+}
+
 fn append_row(row: &Row, out: &mut Seq<Item>) -> Result<(), AllocError>
     ensures { OnOk result (out.new ≡ out.old ++ row_items row.now) }
 {
-    let part = row.part;
-    for word in &row.words {
-        out.push(Item { part, word: *word })?;
+    for (number, bits) in &row.words.blocks {
+        append_block(row.part, Block::new(*number, *bits), out)?;
     }
     Ok(())
 }
@@ -162,11 +174,21 @@ fn append_rows(rows: &[Row], out: &mut Seq<Item>) -> Result<(), AllocError>
     Ok(())
 }
 
-fn append_keys(words: &BTreeSet<Element>, out: &mut Seq<Element>) -> Result<(), AllocError>
-    ensures { OnOk result (out.new ≡ out.old ++ words.now.keys) }
+fn append_block_words(block: Block, out: &mut Seq<Element>) -> Result<(), AllocError>
+    ensures { OnOk result (out.new ≡ out.old ++ map word_of block) }
 {
-    for word in words {
-        out.push(*word)?;
+    let mut left = block;
+    'words: while let Some(n) = left.next() {
+        out.push(word_of(n)?)?;
+    }
+    Ok(())
+}
+
+fn append_words(row: &Row, out: &mut Seq<Element>) -> Result<(), AllocError>
+    ensures { OnOk result (out.new ≡ out.old ++ row_words row.now) }
+{
+    for (number, bits) in &row.words.blocks {
+        append_block_words(Block::new(*number, *bits), out)?;
     }
     Ok(())
 }
@@ -175,7 +197,7 @@ fn append_row_picked(row: &Row, part: Part, out: &mut Seq<Element>) -> Result<()
     ensures { OnOk result (out.new ≡ out.old ++ picked part (row_items row.now)) }
 {
     if same_part(part, row.part) {
-        return append_keys(&row.words, out);
+        return append_words(row, out);
     }
     Ok(())
 }
@@ -190,7 +212,8 @@ fn append_picked(rows: &[Row], part: Part, out: &mut Seq<Element>) -> Result<(),
 }
 
 fn push_done_tag(system: &FlowSystem, word: Element, out: &mut Seq<Item>) -> Result<(), AllocError>
-    ensures { OnOk result (out.new ≡ out.old ++ done_items (tables_of system.now) (in_part Part.Tags (word ∷ []))) }
+    ensures { OnOk result (out.new ≡ out.old
+        ++ done_items (tables_of system.now) (in_part Part.Tags (word ∷ []))) }
 {
     let part = Part::Tags;
     match word {
@@ -200,24 +223,37 @@ fn push_done_tag(system: &FlowSystem, word: Element, out: &mut Seq<Item>) -> Res
     }
 }
 
-fn append_done_tags(
+fn append_done_block(
     system: &FlowSystem,
-    words: &BTreeSet<Element>,
+    block: Block,
     out: &mut Seq<Item>,
 ) -> Result<(), AllocError>
-    ensures { OnOk result (out.new ≡ out.old ++ done_items (tables_of system.now) (in_part Part.Tags words.now.keys)) }
+    ensures { OnOk result (out.new ≡ out.old
+        ++ done_items (tables_of system.now) (in_part Part.Tags (map word_of block))) }
 {
-    for word in words {
-        push_done_tag(system, *word, out)?;
+    let mut left = block;
+    'words: while let Some(n) = left.next() {
+        push_done_tag(system, word_of(n)?, out)?;
+    }
+    Ok(())
+}
+
+fn append_done_tags(system: &FlowSystem, row: &Row, out: &mut Seq<Item>) -> Result<(), AllocError>
+    ensures { OnOk result (out.new ≡ out.old
+        ++ done_items (tables_of system.now) (in_part Part.Tags (row_words row.now))) }
+{
+    for (number, bits) in &row.words.blocks {
+        append_done_block(system, Block::new(*number, *bits), out)?;
     }
     Ok(())
 }
 
 fn append_done_row(system: &FlowSystem, row: &Row, out: &mut Seq<Item>) -> Result<(), AllocError>
-    ensures { OnOk result (out.new ≡ out.old ++ done_items (tables_of system.now) (row_items row.now)) }
+    ensures { OnOk result (out.new ≡ out.old
+        ++ done_items (tables_of system.now) (row_items row.now)) }
 {
     match row.part {
-        Part::Tags => append_done_tags(system, &row.words, out),
+        Part::Tags => append_done_tags(system, row, out),
         Part::Field(t, _) => {
             if is_done(system, t) {
                 return append_row(row, out);
@@ -233,7 +269,8 @@ fn append_done_rows(
     rows: &[Row],
     out: &mut Seq<Item>,
 ) -> Result<(), AllocError>
-    ensures { OnOk result (out.new ≡ out.old ++ done_items (tables_of system.now) (flat_map row_items rows.now)) }
+    ensures { OnOk result (out.new ≡ out.old
+        ++ done_items (tables_of system.now) (flat_map row_items rows.now)) }
 {
     for row in rows {
         append_done_row(system, row, out)?;

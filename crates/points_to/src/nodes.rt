@@ -110,7 +110,8 @@ fn field_of_word(
 }
 
 fn shift_done(system: &FlowSystem, item: Item, out: &mut Seq<Item>) -> Result<(), AllocError>
-    ensures { OnOk result (out.new ≡ out.old ++ shifted (tables_of system.now) Shift.Evaluated item) }
+    ensures { OnOk result (out.new ≡ out.old
+        ++ shifted (tables_of system.now) Shift.Evaluated item) }
 {
     match item.part {
         Part::Tags => match item.word {
@@ -172,13 +173,14 @@ fn shift_item(
 }
 
 /// What becomes of each item.
-pub fn shift_all(
+pub fn append_shifted(
     system: &FlowSystem,
     by: Shift,
     items: &[Item],
     out: &mut Seq<Item>,
 ) -> Result<(), AllocError>
-    ensures { OnOk result (out.new ≡ out.old ++ flat_map (shifted (tables_of system.now) by) items.now) }
+    ensures { OnOk result (out.new ≡ out.old
+        ++ flat_map (shifted (tables_of system.now) by) items.now) }
 {
     for item in items {
         shift_item(system, by, *item, out)?;
@@ -194,7 +196,8 @@ fn field_of_tag(
     word: Element,
     out: &mut Seq<Element>,
 ) -> Result<(), AllocError>
-    ensures { OnOk result (out.new ≡ out.old ++ field_of_tag (tables_of system.now) i items.now word) }
+    ensures { OnOk result (out.new ≡ out.old
+        ++ field_of_tag (tables_of system.now) i items.now word) }
 {
     match word {
         Element::Cell(_) => Ok(()),
@@ -229,7 +232,8 @@ fn fields_of_tags(
     words: &[Element],
     out: &mut Seq<Element>,
 ) -> Result<(), AllocError>
-    ensures { OnOk result (out.new ≡ out.old ++ flat_map (field_of_tag (tables_of system.now) i items.now) words.now) }
+    ensures { OnOk result (out.new ≡ out.old
+        ++ flat_map (field_of_tag (tables_of system.now) i items.now) words.now) }
 {
     for word in words {
         field_of_tag(system, i, items, *word, out)?;
@@ -237,8 +241,8 @@ fn fields_of_tags(
     Ok(())
 }
 
-/// Word i of the nodes among some items: the tag, then the fields, then numbers.
-pub fn fetched(
+// Word i of the nodes among some items: the tag, then the fields, then numbers.
+fn fetched(
     alloc: Global,
     system: &FlowSystem,
     i: u32,
@@ -292,7 +296,10 @@ fn node_of_words(
     let part = Part::Tags;
     let word = Element::Tag(t);
     out.push(Item { part, word })?;
-    shift_all(system, Shift::Fields(t, m), items, out)?;
+    if m == 0 {
+        return Ok(());
+    }
+    append_shifted(system, Shift::Fields(t, m), items, out)?;
     Ok(())
 }
 
@@ -303,7 +310,8 @@ fn node_of_word(
     word: Element,
     out: &mut Seq<Item>,
 ) -> Result<(), AllocError>
-    ensures { OnOk result (out.new ≡ out.old ++ node_of_word (tables_of system.now) k items.now word) }
+    ensures { OnOk result (out.new ≡ out.old
+        ++ node_of_word (tables_of system.now) k items.now word) }
 {
     match word {
         Element::Cell(_) => Ok(()),
@@ -328,7 +336,8 @@ pub fn nodes_of_words(
     words: &[Element],
     out: &mut Seq<Item>,
 ) -> Result<(), AllocError>
-    ensures { OnOk result (out.new ≡ out.old ++ flat_map (node_of_word (tables_of system.now) k items.now) words.now) }
+    ensures { OnOk result (out.new ≡ out.old
+        ++ flat_map (node_of_word (tables_of system.now) k items.now) words.now) }
 {
     for word in words {
         node_of_word(system, k, items, *word, out)?;
@@ -346,7 +355,7 @@ pub fn as_nodes(
 ) -> Result<(), AllocError>
     ensures { OnOk result (out.new ≡ out.old ++ as_nodes (tables_of system.now) k items.now) }
 {
-    shift_all(system, Shift::Nodes, items, out)?;
+    append_shifted(system, Shift::Nodes, items, out)?;
     let mut firsts = Seq::new(alloc);
     picked(Part::Word(0), items, &mut firsts)?;
     nodes_of_words(system, k, items, firsts.as_slice(), out)?;
@@ -361,9 +370,10 @@ pub fn evaluated(
     items: &[Item],
     out: &mut Seq<Item>,
 ) -> Result<(), AllocError>
-    ensures { OnOk result (out.new ≡ out.old ++ done_items (tables_of system.now) (as_nodes (tables_of system.now) k items.now)) }
+    ensures { OnOk result (out.new ≡ out.old
+        ++ done_items (tables_of system.now) (as_nodes (tables_of system.now) k items.now)) }
 {
     let mut nodes = Seq::new(alloc);
     as_nodes(alloc, system, k, items, &mut nodes)?;
-    shift_all(system, Shift::Evaluated, nodes.as_slice(), out)
+    append_shifted(system, Shift::Evaluated, nodes.as_slice(), out)
 }

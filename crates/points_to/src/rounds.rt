@@ -40,7 +40,9 @@ fn satisfy(
     facts: &mut Facts,
     inclusion: &Inclusion,
 ) -> Result<bool, AllocError>
-    ensures grown { OnOk result (Grows (held facts.old) (held facts.new) (demands (tables_of system.now) (held facts.old) (inclusion_of inclusion.now))) }
+    ensures grown { OnOk result
+        (Grows (held facts.old) (held facts.new)
+        (demands (tables_of system.now) (held facts.old) (inclusion_of inclusion.now))) }
     ensures still { IfOk result (λ added. added ≡ false → facts.new ≡ facts.old) }
     ensures counted { IfOk result (λ added. Counted facts.old facts.new added) }
 {
@@ -51,8 +53,11 @@ fn satisfy(
 
 // One round of all inclusions. Says whether a fact is new; where none is, nothing is wanting.
 fn round(alloc: Global, system: &FlowSystem, facts: &mut Facts) -> Result<bool, AllocError>
-    ensures sound { OnOk result (InEvery (tables_of system.now) (inclusions_of system.now) (held facts.old) → InEvery (tables_of system.now) (inclusions_of system.now) (held facts.new)) }
-    ensures done { IfOk result (λ added. added ≡ false → AllSatisfied (tables_of system.now) (inclusions_of system.now) (held facts.new)) }
+    ensures sound { OnOk result
+        (InEvery (tables_of system.now) (inclusions_of system.now) (held facts.old)
+        → InEvery (tables_of system.now) (inclusions_of system.now) (held facts.new)) }
+    ensures done { IfOk result (λ added. added ≡ false
+        → AllSatisfied (tables_of system.now) (inclusions_of system.now) (held facts.new)) }
     ensures counted { IfOk result (λ added. Counted facts.old facts.new added) }
 {
     let mut added = false;
@@ -64,7 +69,8 @@ fn round(alloc: Global, system: &FlowSystem, facts: &mut Facts) -> Result<bool, 
 
 /// The facts of the least solution: rounds of all inclusions, until one adds nothing.
 pub fn least_facts(alloc: Global, system: &FlowSystem) -> Result<Facts, AllocError>
-    ensures { IfOk result (λ f. IsLeast (tables_of system.now) (inclusions_of system.now) (solution_of (held f))) }
+    ensures { IfOk result (λ f.
+        IsLeast (tables_of system.now) (inclusions_of system.now) (solution_of (held f))) }
 {
     let mut facts = Facts::new(alloc);
     let mut more = true;

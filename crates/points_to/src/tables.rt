@@ -1,10 +1,10 @@
 // Lists of what readers want, place by place.
 
-ghost use Rattle.std.specs.Prelude.{◌≡◌, ◌<◌, ℕ, [], ◌∷◌, ◌++◌, map, length, OnOk, IfOk};
+ghost use Rattle.std.specs.Prelude.{◌≡◌, ◌<◌, ℕ, [], ◌∷◌, ◌++◌, map, length, slice_get, OnOk, IfOk};
 ghost use Rattle.std.specs.Ordering.{nat_cmp};
 ghost use Rattle.std.specs.BTreeSet.{IsOrdered};
 ghost use Rattle.points_to.specs.Known.{held};
-ghost use Rattle.points_to.specs.Wanted.{tag_in, site_in, wanted_of, wanted, place_of, SameSet, Lists, tag_id, site_id, TagTable, SiteTable};
+ghost use Rattle.points_to.specs.Wanted.{tag_in, site_in, wanted_of, wanted, place_of, SameSet, Lists, tag_id, site_id, numbers_by, TagTable, SiteTable};
 ghost use Rattle.points_to.specs.Joined.{Joined};
 
 use crate::facts::{Facts, Item};
@@ -15,7 +15,8 @@ use seq::Seq;
 use std::alloc::{AllocError, Global};
 use std::collections::BTreeSet;
 
-fn put_number(numbers: &mut BTreeSet<u32>, n: u32) -> Result<(), AllocError>
+/// A number is put into a set.
+pub fn put_number(numbers: &mut BTreeSet<u32>, n: u32) -> Result<(), AllocError>
     ensures joined { OnOk result (Joined numbers.old.keys (n ∷ []) numbers.new.keys) }
     ensures ordered { OnOk result (IsOrdered nat_cmp numbers.new) }
 {
@@ -57,7 +58,8 @@ fn put_site(word: Element, numbers: &mut BTreeSet<u32>) -> Result<(), AllocError
 
 fn put_wanted(w: Wanted, item: Item, numbers: &mut BTreeSet<u32>) -> Result<(), AllocError>
     requires { IsOrdered nat_cmp numbers.old }
-    ensures joined { OnOk result (Joined numbers.old.keys (wanted_of w item.part item.word) numbers.new.keys) }
+    ensures joined { OnOk result
+        (Joined numbers.old.keys (wanted_of w item.part item.word) numbers.new.keys) }
     ensures ordered { OnOk result (IsOrdered nat_cmp numbers.new) }
 {
     match w {
@@ -103,7 +105,8 @@ fn wanted_numbers(alloc: Global, items: &[Item], w: Wanted) -> Result<BTreeSet<u
     Ok(numbers)
 }
 
-fn append_numbers(numbers: &BTreeSet<u32>, out: &mut Seq<u32>) -> Result<(), AllocError>
+/// The numbers of a set, ascending.
+pub fn append_numbers(numbers: &BTreeSet<u32>, out: &mut Seq<u32>) -> Result<(), AllocError>
     ensures { OnOk result (out.new ≡ out.old ++ numbers.now.keys) }
 {
     for n in numbers {
@@ -124,7 +127,8 @@ fn numbers_at(alloc: Global, facts: &Facts, place: Place, w: Wanted) -> Result<S
     Ok(out)
 }
 
-fn as_tags(numbers: &[u32], out: &mut Seq<TagId>) -> Result<(), AllocError>
+/// Numbers as tags.
+pub fn as_tags(numbers: &[u32], out: &mut Seq<TagId>) -> Result<(), AllocError>
     ensures { OnOk result (out.new ≡ out.old ++ map tag_id numbers.now) }
 {
     for n in numbers {
@@ -202,4 +206,24 @@ pub fn site_table(
         table.push(sites_of(alloc, facts, place_of(kind, n), w)?)?;
     }
     Ok(table)
+}
+
+/// The tags in an entry of a table, none where there is no entry.
+pub fn tag_entry(table: &Seq<Seq<TagId>>, n: usize) -> &[TagId]
+    ensures { map (λ t. t.0) result.now ≡ numbers_by (λ t. t.0) (slice_get table.now n) }
+{
+    match table.get(n) {
+        Some(tags) => tags.as_slice(),
+        None => &[],
+    }
+}
+
+/// The sites in an entry of a table, none where there is no entry.
+pub fn site_entry(table: &Seq<Seq<Site>>, n: usize) -> &[Site]
+    ensures { map (λ s. s.0) result.now ≡ numbers_by (λ s. s.0) (slice_get table.now n) }
+{
+    match table.get(n) {
+        Some(sites) => sites.as_slice(),
+        None => &[],
+    }
 }

@@ -8,8 +8,6 @@ mod assign;
 mod holders;
 mod registers;
 mod scan;
-#[cfg(test)]
-mod tests;
 mod uses;
 mod walk;
 mod written;

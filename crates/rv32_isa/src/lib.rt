@@ -5,8 +5,6 @@ mod decoder;
 mod encoder;
 mod fields;
 mod instr;
-#[cfg(test)]
-mod tests;
 mod text;
 
 pub use decoder::decode;

@@ -9,12 +9,12 @@ pub fn items_show()
     ensures reached { ItemsAreReached }
 {}
 
-/// The machine enters the addresses of just the labels that the course passes, each with an instruction right behind it.
+/// The machine enters the addresses of just the labels that the course passes, each with an instruction right after it.
 pub fn items_enter()
     ensures { ItemsEnter }
 {}
 
-/// Where each return goes behind the last call that is open, the machine goes forward.
+/// Where each return goes to the item after the last call that is open, the machine goes forward.
 pub fn items_go_forward()
     ensures { ItemsGoForward }
 {}

@@ -18,16 +18,21 @@ pub enum Cond {
     Geu,
 }
 
+/// A piece of code before its layout.
 #[derive(Clone, Copy, Debug, PartialEq, Eq, Drop)]
 pub enum Item {
+    /// A place that branches and jumps can name.
     Label(u32),
+    /// An instruction.
     Plain(Instr),
+    /// Goes to the label where the condition holds of two registers.
     Branch {
         cond: Cond,
         left: Reg,
         right: Reg,
         label: u32,
     },
+    /// Goes to the label; the register gets the address after it.
     Jump {
         link: Reg,
         label: u32,

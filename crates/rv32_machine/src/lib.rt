@@ -7,8 +7,6 @@ mod machine;
 mod memory;
 mod run;
 mod store;
-#[cfg(test)]
-mod tests;
 
 pub use laws::{
     end_stays, input_is_used_in_order, operations_agree, output_grows, pieces_are_the_output,

@@ -56,7 +56,7 @@ pub(crate) fn add_immediate(to: Reg, from: Reg, n: Imm12) -> Instr
     Instr::OpImm(ImmKind::Addi, to, from, n)
 }
 
-/// How many bytes behind x2 a slot stands: word 0 of a frame is the return address.
+/// How many bytes past x2 a slot stands: word 0 of a frame is the return address.
 fn slot_bytes(k: u32) -> u64
     ensures { result ≡ bytes_of_slot k }
 {

@@ -103,7 +103,7 @@ impl<'a> Context<'a> {
         code.globals(step, globals)
     }
 
-    /// The call of the start, and the exit behind it.
+    /// The call of the start, and the exit after it.
     pub(crate) fn first_call(&self, code: &mut Code) -> Result<(), AllocError>
         requires { Writable (program_of self.now.low.now) self.now.places.now }
         ensures { OnOk result (code.new ≡ code.old ++ first_call_items (program_of self.now.low.now) self.now.places.now self.now.cells self.now.stack) }
@@ -148,7 +148,7 @@ impl<'a> Context<'a> {
         Ok(())
     }
 
-    /// The stops, behind all procedures.
+    /// The stops, after all procedures.
     pub(crate) fn stops(&self, code: &mut Code) -> Result<(), AllocError>
         requires { Writable (program_of self.now.low.now) self.now.places.now }
         ensures { OnOk result (code.new ≡ code.old ++ stop_items (no_alternative_label (program_of self.now.low.now) self.now.places.now self.now.cells self.now.stack)) }

@@ -232,7 +232,7 @@ impl Code {
         self.instr(add_immediate(Reg(3), Reg(3), Imm12(step as i32)))
     }
 
-    /// The places get the addresses of cells, one behind another.
+    /// The places get the addresses of cells, one after another.
     fn cells(&mut self, step: u32, places: &[Spot]) -> Result<(), AllocError>
         requires { (step < 2048) × AllInRange places.now }
         ensures { OnOk result (self.new ≡ self.old ++ plain (cells_code step 0 places.now)) }

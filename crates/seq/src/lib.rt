@@ -4,6 +4,3 @@
 pub mod list;
 
 pub use list::{Seq, Text};
-
-#[cfg(test)]
-mod tests;

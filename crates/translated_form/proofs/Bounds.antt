@@ -13,7 +13,7 @@ use Rattle.grin_translate.specs.declared.tags.Delay.{Delay}
 use Rattle.grin_translate.specs.declared.tags.Delay.TheVariants.{Calls, Applies, Operates, Reads}
 use Rattle.grin_translate.specs.declared.tags.Kind.{Kind}
 use Rattle.grin_translate.specs.declared.tags.Kind.TheVariants.{Constructor, Waits, Lacks}
-use Rattle.grin_translate.specs.Tags.{numbers_from, takes_input, delays, kinds, parts, parts_of, tag_of, con_tag, delay_name, delay_params}
+use Rattle.grin_translate.specs.Tags.{numbers_from, takes_input, delays, kinds, parts, function_parts, tag_of, con_tag, delay_name, delay_params}
 use Rattle.grin_translate.specs.Translation.{procedure, delay_body, span, delayed_procs, rest, print_body, start_body, tr}
 use Rattle.grin_translate.proofs.Places.{all_append, all_map}
 use Rattle.grin_translate.proofs.Lookups.{length-numbers_from}
@@ -68,13 +68,13 @@ module _ (p : Program) (limited : Limited p) where
   lacks_narrow : (f r : ℕ) → NarrowTag (Lacks f r)
   lacks_narrow f r = let l = few_params f in record { few = omega (arith, l); few_of_value = omega (arith, l) }
 
-  narrow_parts_of : (f n : ℕ) → AllOf NarrowTag (parts_of f n)
+  narrow_parts_of : (f n : ℕ) → AllOf NarrowTag (function_parts f n)
   narrow_parts_of f zero = tt
   narrow_parts_of f (suc n) = (lacks_narrow f (suc n), narrow_parts_of f n)
 
   narrow_parts : (gs : List Function) (f : ℕ) → AllOf NarrowTag (parts gs f)
   narrow_parts [] f = tt
-  narrow_parts (g ∷ gs) f = all_append NarrowTag (parts_of f g.params) _ (narrow_parts_of f g.params) (narrow_parts gs (suc f))
+  narrow_parts (g ∷ gs) f = all_append NarrowTag (function_parts f g.params) _ (narrow_parts_of f g.params) (narrow_parts gs (suc f))
 
   narrow_kinds : AllOf NarrowTag (kinds p)
   unfolding kinds

@@ -19,7 +19,8 @@ use Rattle.grin_translate.specs.Translation.{print, delayed_procs, span, print_p
 use Rattle.grin_translate.specs.WellFormed.{HasFields, HasParams, VarOk, FormOk}
 use Rattle.grin_translate.proofs.Places.{Has, found}
 use Rattle.grin_translate.proofs.Found.{delay_sound, delay_itself, has_calls, has_applies, has_operates, has_number, has_constructor, has_waits, has_lacks, tag_found}
-use Rattle.grin_translate.proofs.Scoping.{as_many, global_below}
+use Rattle.grin_translate.proofs.Scoping.{as_many}
+use Rattle.core_meaning.proofs.Shared.{global_below}
 use Rattle.translated_form.proofs.Scopes.{Scoped}
 
 module _ (p : Program) where

@@ -14,7 +14,7 @@ use Rattle.grin_syntax.specs.Formed.{AllOf, OnePart, HasNext, TagFormed}
 use Rattle.grin_translate.specs.declared.tags.Delay.TheVariants.{Calls}
 use Rattle.grin_translate.specs.declared.tags.Kind.{Kind}
 use Rattle.grin_translate.specs.declared.tags.Kind.TheVariants.{Constructor, Waits, Lacks}
-use Rattle.grin_translate.specs.Tags.{numbers_from, delays, kinds, parts, parts_of, tag_of, con_tag, proc}
+use Rattle.grin_translate.specs.Tags.{numbers_from, delays, kinds, parts, function_parts, tag_of, con_tag, proc}
 use Rattle.grin_translate.specs.Translation.{tr}
 use Rattle.grin_translate.proofs.Places.{true_not_false, all_append, all_map}
 use Rattle.grin_translate.proofs.Found.{has_calls}
@@ -59,30 +59,30 @@ module _ (p : Program) where
     fails_by : (g q : ℕ) (b : Bool) → g < length p.funs → (nat_eq g f && nat_eq q r) ≡ b → IsThis (tag_of p (Lacks g q)) ≡ b
     fails_by g q b lt e = part_test g q lt ∙ e
 
-    of_other : (g n : ℕ) → g < length p.funs → g ≢ f → Passing (parts_of g n) ≡ []
+    of_other : (g n : ℕ) → g < length p.funs → g ≢ f → Passing (function_parts g n) ≡ []
     of_other g zero lt ne = refl
     of_other g (suc n) lt ne =
-        skipped IsThis (tag_of p (Lacks g (suc n))) (map (tag_of p) (parts_of g n)) (fails_by g (suc n) false lt (ap (λ b. b && nat_eq (suc n) r) (eqb_no g f ne)))
+        skipped IsThis (tag_of p (Lacks g (suc n))) (map (tag_of p) (function_parts g n)) (fails_by g (suc n) false lt (ap (λ b. b && nat_eq (suc n) r) (eqb_no g f ne)))
         ∙ of_other g n lt ne
 
-    of_fewer : (n : ℕ) → n < r → Passing (parts_of f n) ≡ []
+    of_fewer : (n : ℕ) → n < r → Passing (function_parts f n) ≡ []
     of_fewer zero lt = refl
     of_fewer (suc n) lt =
-        skipped IsThis (tag_of p (Lacks f (suc n))) (map (tag_of p) (parts_of f n)) (fails_by f (suc n) false f_below (both_no (nat_eq f f) _ (eqb_no (suc n) r (λ e. omega (arith, lt, e)))))
+        skipped IsThis (tag_of p (Lacks f (suc n))) (map (tag_of p) (function_parts f n)) (fails_by f (suc n) false f_below (both_no (nat_eq f f) _ (eqb_no (suc n) r (λ e. omega (arith, lt, e)))))
         ∙ of_fewer n (omega (arith, lt))
 
-    of_this : (n : ℕ) → 0 < r → r ≤ n → Passing (parts_of f n) ≡ tag_of p (Lacks f r) ∷ []
+    of_this : (n : ℕ) → 0 < r → r ≤ n → Passing (function_parts f n) ≡ tag_of p (Lacks f r) ∷ []
     of_this zero lt le = absurd (omega (arith, lt, le))
     of_this (suc n) lt le = by_test (nat_eq (suc n) r) refl (of_this n lt)
       where
-        by_test : (b : Bool) → nat_eq (suc n) r ≡ b → (r ≤ n → Passing (parts_of f n) ≡ tag_of p (Lacks f r) ∷ []) → Passing (Lacks f (suc n) ∷ parts_of f n) ≡ tag_of p (Lacks f r) ∷ []
+        by_test : (b : Bool) → nat_eq (suc n) r ≡ b → (r ≤ n → Passing (function_parts f n) ≡ tag_of p (Lacks f r) ∷ []) → Passing (Lacks f (suc n) ∷ function_parts f n) ≡ tag_of p (Lacks f r) ∷ []
         by_test true e ih =
             let same : suc n ≡ r = eqb-true (suc n) r e in
-            passed IsThis (tag_of p (Lacks f (suc n))) (map (tag_of p) (parts_of f n)) (fails_by f (suc n) true f_below (ap (λ b. b && nat_eq (suc n) r) (eq-eqb f f refl) ∙ e))
+            passed IsThis (tag_of p (Lacks f (suc n))) (map (tag_of p) (function_parts f n)) (fails_by f (suc n) true f_below (ap (λ b. b && nat_eq (suc n) r) (eq-eqb f f refl) ∙ e))
             ∙ (λ z. tag_of p (Lacks f (same z)) ∷ of_fewer n (omega (arith, same)) z)
         by_test false e ih =
             let ne : suc n ≢ r = λ i. true_not_false (nat_eq (suc n) r) (eq-eqb (suc n) r i) e in
-            skipped IsThis (tag_of p (Lacks f (suc n))) (map (tag_of p) (parts_of f n)) (fails_by f (suc n) false f_below (both_no (nat_eq f f) _ e))
+            skipped IsThis (tag_of p (Lacks f (suc n))) (map (tag_of p) (function_parts f n)) (fails_by f (suc n) false f_below (both_no (nat_eq f f) _ e))
             ∙ ih (omega (arith, le, ne))
 
     of_later : (gs : List Function) (k : ℕ) → f < k → k + length gs ≤ length p.funs → Passing (parts gs k) ≡ []
@@ -90,20 +90,20 @@ module _ (p : Program) where
     of_later (g ∷ gs) k lt le =
         let first = of_other k g.params (omega (arith, le)) (λ e. omega (arith, lt, e)) in
         let others = of_later gs (suc k) (omega (arith, lt)) (omega (arith, le)) in
-        filter_mapped IsThis (tag_of p) (parts_of k g.params) (parts gs (suc k)) ∙ (λ z. first z ++ others z)
+        filter_mapped IsThis (tag_of p) (function_parts k g.params) (parts gs (suc k)) ∙ (λ z. first z ++ others z)
 
     of_all : (gs : List Function) (k i : ℕ) (g : Function) → slice_get gs i ≡ Some g → k + i ≡ f → k + length gs ≤ length p.funs → 0 < r → r ≤ g.params → Passing (parts gs k) ≡ tag_of p (Lacks f r) ∷ []
     of_all [] k i g e at le lt few = absurd (none-some g e)
     of_all (h ∷ gs) k zero g e at le lt few =
         let here : k ≡ f = omega (arith, at) in
         let same : h ≡ g = same_Some h g e in
-        let first : Passing (parts_of k h.params) ≡ tag_of p (Lacks f r) ∷ [] = subst (λ x. Passing (parts_of x h.params) ≡ tag_of p (Lacks f r) ∷ []) (sym here) (of_this h.params lt (subst (λ x. r ≤ x.params) (sym same) few)) in
+        let first : Passing (function_parts k h.params) ≡ tag_of p (Lacks f r) ∷ [] = subst (λ x. Passing (function_parts x h.params) ≡ tag_of p (Lacks f r) ∷ []) (sym here) (of_this h.params lt (subst (λ x. r ≤ x.params) (sym same) few)) in
         let others = of_later gs (suc k) (omega (arith, here)) (omega (arith, le)) in
-        filter_mapped IsThis (tag_of p) (parts_of k h.params) (parts gs (suc k)) ∙ (λ z. first z ++ others z)
+        filter_mapped IsThis (tag_of p) (function_parts k h.params) (parts gs (suc k)) ∙ (λ z. first z ++ others z)
     of_all (h ∷ gs) k (suc i) g e at le lt few =
         let first = of_other k h.params (omega (arith, le)) (λ q. omega (arith, at, q)) in
         let others = of_all gs (suc k) i g e (omega (arith, at)) (omega (arith, le)) lt few in
-        filter_mapped IsThis (tag_of p) (parts_of k h.params) (parts gs (suc k)) ∙ (λ z. first z ++ others z)
+        filter_mapped IsThis (tag_of p) (function_parts k h.params) (parts gs (suc k)) ∙ (λ z. first z ++ others z)
 
     con_no_part : (o : Option arity.Con) → IsThis (con_tag o) ≡ false
     con_no_part None = refl
@@ -142,7 +142,7 @@ module _ (p : Program) where
   con_formed None = tt
   con_formed (Some c) = tt
 
-  parts_of_formed : (f n : ℕ) (g : Function) → slice_get p.funs f ≡ Some g → n ≤ g.params → AllOf KindFormed' (parts_of f n)
+  parts_of_formed : (f n : ℕ) (g : Function) → slice_get p.funs f ≡ Some g → n ≤ g.params → AllOf KindFormed' (function_parts f n)
   parts_of_formed f zero g e le = tt
   parts_of_formed f (suc n) g e le = ((proc_known p (Calls f) (has_calls p f g e), omega arith, next_formed f (suc n) g e le), parts_of_formed f n g e (omega (arith, le)))
 
@@ -150,7 +150,7 @@ module _ (p : Program) where
   parts_formed [] k at = tt
   parts_formed (g ∷ gs) k at =
       let here : k + 0 ≡ k = omega arith in
-      all_append KindFormed' (parts_of k g.params) _ (parts_of_formed k g.params g (subst (λ i. slice_get p.funs i ≡ Some g) here (at 0 g refl)) (omega arith))
+      all_append KindFormed' (function_parts k g.params) _ (parts_of_formed k g.params g (subst (λ i. slice_get p.funs i ≡ Some g) here (at 0 g refl)) (omega arith))
       (parts_formed gs (suc k) (λ i h e. let next : k + suc i ≡ suc k + i = omega arith in subst (λ j. slice_get p.funs j ≡ Some h) next (at (suc i) h e)))
 
   kinds_formed : AllOf KindFormed' (kinds p)

@@ -8,6 +8,7 @@ use Rattle.grin_syntax.specs.Tree.{Code, end, store, bind, Act, unit, fetch, fet
 use Rattle.grin_syntax.specs.Formed.{AllOf}
 use Rattle.grin_meaning.proofs.Checked.{left_true, right_true, both_true}
 use Rattle.flow_system.specs.Solution.{Solution}
+use Rattle.pass_ground.proofs.Tests.{all_both, all_front, all_back}
 use Rattle.unbox.specs.declared.ties.Tie.{Tie}
 use Rattle.unbox.specs.Ends.{Procedures, is_int, has_int, act_calls, code_calls, arms_calls, IntAct, IntCode, IntArms}
 use Rattle.unbox.specs.Members.{ActClosed, CodeClosed, ArmsClosed, ProcedureClosed, ProceduresClosed, IsMembers}
@@ -27,18 +28,6 @@ or_false false = refl
 
 spread : (a b c d : Bool) → (a && c) ≡ true → (b && d) ≡ true → ((a && b) && (c && d)) ≡ true
 spread a b c d h k = both_true (a && b) (c && d) (both_true a b (left_true a c h) (left_true b d k)) (both_true c d (right_true a c h) (right_true b d k))
-
-pub all_both : {X : Type 0} (P : X → Type 0) (xs ys : List X) → AllOf P xs → AllOf P ys → AllOf P (xs ++ ys)
-all_both P [] ys h k = k
-all_both P (x ∷ xs) ys h k = (h.0, all_both P xs ys h.1 k)
-
-pub all_front : {X : Type 0} (P : X → Type 0) (xs ys : List X) → AllOf P (xs ++ ys) → AllOf P xs
-all_front P [] ys h = tt
-all_front P (x ∷ xs) ys h = (h.0, all_front P xs ys h.1)
-
-pub all_rest : {X : Type 0} (P : X → Type 0) (xs ys : List X) → AllOf P (xs ++ ys) → AllOf P ys
-all_rest P [] ys h = h
-all_rest P (x ∷ xs) ys h = all_rest P xs ys h.1
 
 module _ (A : Solution) (S : Procedures) where
   any_append : (xs ys : List ProcId) → any_in S (xs ++ ys) ≡ (any_in S xs || any_in S ys)
@@ -183,11 +172,11 @@ module _ (A : Solution) (S : Procedures) where
     code_closed : (b : Code) → AllOf (Heeds S) (code_ties A b) → CodeClosed A S b
     code_closed (end o) h = act_closed o h
     code_closed (store cs b) h = code_closed b h
-    code_closed (bind t o b) h = ((λ e. int_act o (h.0 (act_any o ∙ e))), act_closed o (all_front (Heeds S) (act_ties A o) (code_ties A b) h.1), code_closed b (all_rest (Heeds S) (act_ties A o) (code_ties A b) h.1))
+    code_closed (bind t o b) h = ((λ e. int_act o (h.0 (act_any o ∙ e))), act_closed o (all_front (Heeds S) (act_ties A o) (code_ties A b) h.1), code_closed b (all_back (Heeds S) (act_ties A o) (code_ties A b) h.1))
 
     arms_closed : (as' : Arms) → AllOf (Heeds S) (arms_ties A as') → ArmsClosed A S as'
     arms_closed no_arm h = tt
-    arms_closed (arm s b as') h = (code_closed b (all_front (Heeds S) (code_ties A b) (arms_ties A as') h), arms_closed as' (all_rest (Heeds S) (code_ties A b) (arms_ties A as') h))
+    arms_closed (arm s b as') h = (code_closed b (all_front (Heeds S) (code_ties A b) (arms_ties A as') h), arms_closed as' (all_back (Heeds S) (code_ties A b) (arms_ties A as') h))
 
   body_heeds : (f : ℕ) (q : Procedure) → ProcedureClosed A S f q → Heeds S (body_tie A f q)
   body_heeds f q k e =
@@ -223,7 +212,7 @@ module _ (A : Solution) (S : Procedures) where
   heeds_closed f [] h = tt
   heeds_closed f (q ∷ qs) h = (
     body_closed f q h.0 (all_front (Heeds S) (code_ties A q.body) (ties_from A (suc f) qs) h.1),
-    heeds_closed (suc f) qs (all_rest (Heeds S) (code_ties A q.body) (ties_from A (suc f) qs) h.1),
+    heeds_closed (suc f) qs (all_back (Heeds S) (code_ties A q.body) (ties_from A (suc f) qs) h.1),
   )
 
 pub greatest_members : (A : Solution) (g : Program) (M : Procedures) → IsGreatest (length g.procs) (ties_from A 0 g.procs) M → IsMembers A g M

@@ -10,4 +10,4 @@ pub mod Shape
 pub mod SoFar
 pub mod Sweeping
 pub mod Well
-pub mod Whole
+pub mod PassContract

@@ -8,7 +8,7 @@ use Rattle.unbox.specs.declared.ties.Tie.{Tie}
 use Rattle.unbox.specs.Ends.{Procedures, is_member}
 use Rattle.unbox.specs.Ties.{any_in, all_in, Heeds}
 use Rattle.unbox.specs.Rounds.{trues, is_among, Within, Fewer, Taken, Heeded}
-use Rattle.unbox.proofs.Joined.{all_both, all_front, all_rest}
+use Rattle.pass_ground.proofs.Tests.{all_both, all_front, all_back}
 
 and_true : (a : Bool) → (a && true) ≡ a
 and_true true = refl
@@ -168,7 +168,7 @@ none_heeded bs = record { sound = λ T all w. w; done = λ _. tt; fewer = same_c
 
 pub more_heeded : (old mid new : List Bool) (xs ys : List Tie) (a b : Bool) → Heeded old mid xs a → Heeded mid new ys b → Heeded old new (xs ++ ys) (a || b)
 more_heeded old mid new xs ys a b f k = record {
-  sound = λ T all w. k.sound T (all_rest (Heeds T) xs ys all) (f.sound T (all_front (Heeds T) xs ys all) w);
+  sound = λ T all w. k.sound T (all_back (Heeds T) xs ys all) (f.sound T (all_front (Heeds T) xs ys all) w);
   done = λ e. all_both (Heeds (is_member new)) xs ys (subst (λ bs. AllOf (Heeds (is_member bs)) xs) (sym (k.fewer.still (right e))) (f.done (left e))) (k.done (right e));
   fewer = fewer_more old mid new a b f.fewer k.fewer;
 }

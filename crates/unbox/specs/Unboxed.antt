@@ -10,6 +10,7 @@ use Rattle.flow_system.specs.Solution.{Solution, IsLeast}
 use Rattle.pass_ground.specs.Vectors.{StaysOfVectors}
 use Rattle.unbox.specs.Ends.{Procedures, act_calls}
 use Rattle.unbox.specs.Members.{IsMembers}
+use Rattle.unbox.specs.Unboxing.{unboxed}
 
 -- ---- the shape
 
@@ -94,3 +95,11 @@ pub record Unboxed (g h : Program) : Type 0 where
   pub are_members : IsMembers solution g members
   pub one_word : OneWordFrom members 0 h.procs
   pub same_updates : updates_of h.procs ≡ updates_of g.procs
+
+-- h is what the pass makes of g, whatever program this is
+pub record ByLeast (g h : Program) : Type 0 where
+  pub solution : Solution
+  pub least : IsLeast (tables g) (system g) solution
+  pub members : Procedures
+  pub are_members : IsMembers solution g members
+  pub made : h ≡ unboxed members g

@@ -6,8 +6,8 @@ ghost use Rattle.grin_syntax.specs.Tree.{Code, bind, act_of, before_of, arm_of, 
 ghost use Rattle.unbox.specs.Ends.{is_member, act_calls, code_calls, arms_calls};
 ghost use Rattle.unbox.specs.Unboxing.{given, number_word, word_or_zero, without_second, zeros, tag_and_zeros, boxed, boxed_vector, bound, unbox_act, unbox_code, unbox_arm};
 
-use crate::truth::either;
 use grin_syntax::{Alt, Block, Op, ProcId, Stmt, TagId, Target, Val, VarId, Word};
+use pass_ground::truth::either;
 use seq::Seq;
 use std::alloc::{AllocError, Global};
 
@@ -73,7 +73,8 @@ impl Members {
     /// A block whose ends give the number alone, where `bare` holds, or what they gave.
     #[cycle(unbox)]
     pub(crate) fn block(&self, alloc: Global, bare: bool, block: Block) -> Result<Block, AllocError>
-        ensures { IfOk result (λ b. code_of b ≡ unbox_code (is_member self.now.inside) bare (code_of block)) }
+        ensures { IfOk result (λ b. code_of b
+            ≡ unbox_code (is_member self.now.inside) bare (code_of block)) }
     {
         let mut stmts = Seq::new(alloc);
         for stmt in block.stmts.into_vec() {
@@ -88,7 +89,10 @@ impl Members {
 
     #[cycle(unbox)]
     fn stmt(&self, alloc: Global, stmt: Stmt, out: &mut Seq<Stmt>) -> Result<(), AllocError>
-        ensures { OnOk result ((bare : Bool) (c : Code) → all_before (map before_of out.new) (unbox_code (is_member self.now.inside) bare c) ≡ all_before (map before_of out.old) (unbox_code (is_member self.now.inside) bare (before_of stmt c))) }
+        ensures { OnOk result ((bare : Bool) (c : Code)
+            → all_before (map before_of out.new) (unbox_code (is_member self.now.inside) bare c)
+            ≡ all_before (map before_of out.old)
+            (unbox_code (is_member self.now.inside) bare (before_of stmt c))) }
     {
         match stmt {
             Stmt::Store(cells) => {
@@ -107,7 +111,8 @@ impl Members {
     #[cycle(unbox)]
     #[tactic(auto, using(grin_syntax::proofs::TreeOf::tree_of, crate::proofs::Loops::case_unboxed), unfolding(crate::specs::Unboxing::unbox_act))]
     fn op(&self, alloc: Global, bare: bool, op: Op) -> Result<Op, AllocError>
-        ensures { IfOk result (λ o. act_of o ≡ unbox_act (is_member self.now.inside) bare (act_of op)) }
+        ensures { IfOk result (λ o. act_of o
+            ≡ unbox_act (is_member self.now.inside) bare (act_of op)) }
     {
         match op {
             Op::Unit(v) => Ok(Op::Unit(given(bare, v))),
@@ -137,7 +142,8 @@ impl Members {
 
     #[cycle(unbox)]
     fn alt(&self, alloc: Global, bare: bool, alt: Alt) -> Result<Alt, AllocError>
-        ensures { IfOk result (λ a. arm_of a ≡ unbox_arm (is_member self.now.inside) bare (arm_of alt)) }
+        ensures { IfOk result (λ a. arm_of a
+            ≡ unbox_arm (is_member self.now.inside) bare (arm_of alt)) }
     {
         Ok(Alt {
             pattern: alt.pattern,
@@ -186,7 +192,8 @@ fn put_bound(
     op: Op,
     out: &mut Seq<Stmt>,
 ) -> Result<(), AllocError>
-    ensures { OnOk result ((c : Code) → all_before (map before_of out.new) c ≡ all_before (map before_of out.old) (bound bare target (act_of op) c)) }
+    ensures { OnOk result ((c : Code) → all_before (map before_of out.new) c
+        ≡ all_before (map before_of out.old) (bound bare target (act_of op) c)) }
 {
     if bare {
         return put_boxed(alloc, target, op, out);
@@ -196,7 +203,8 @@ fn put_bound(
 
 // Puts a statement that binds a number without its tag, and one that puts the tag and zeros beside it.
 fn put_boxed(alloc: Global, target: Target, op: Op, out: &mut Seq<Stmt>) -> Result<(), AllocError>
-    ensures { OnOk result ((c : Code) → all_before (map before_of out.new) c ≡ all_before (map before_of out.old) (boxed target (act_of op) c)) }
+    ensures { OnOk result ((c : Code) → all_before (map before_of out.new) c
+        ≡ all_before (map before_of out.old) (boxed target (act_of op) c)) }
 {
     match target {
         Target::Vector(vars) => put_vector(alloc, vars, op, out),
@@ -212,7 +220,8 @@ fn put_vector(
     op: Op,
     out: &mut Seq<Stmt>,
 ) -> Result<(), AllocError>
-    ensures { OnOk result ((c : Code) → all_before (map before_of out.new) c ≡ all_before (map before_of out.old) (boxed_vector vars (act_of op) c)) }
+    ensures { OnOk result ((c : Code) → all_before (map before_of out.new) c
+        ≡ all_before (map before_of out.old) (boxed_vector vars (act_of op) c)) }
 {
     if vars.len() < 2 {
         put(Target::Vector(vars), op, out)?;
@@ -228,7 +237,8 @@ fn put_vector(
 
 // Puts one statement.
 fn put(target: Target, op: Op, out: &mut Seq<Stmt>) -> Result<(), AllocError>
-    ensures { OnOk result ((c : Code) → all_before (map before_of out.new) c ≡ all_before (map before_of out.old) (bind target (act_of op) c)) }
+    ensures { OnOk result ((c : Code) → all_before (map before_of out.new) c
+        ≡ all_before (map before_of out.old) (bind target (act_of op) c)) }
 {
     out.push(Stmt::Bind(target, op))?;
     Ok(())

@@ -6,9 +6,5 @@ mod blocks;
 mod members;
 mod pass;
 mod ties;
-mod truth;
 
-pub use pass::Unbox;
-
-#[cfg(test)]
-mod tests;
+pub use pass::{Unbox, with_bare_numbers};

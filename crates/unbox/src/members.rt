@@ -9,8 +9,8 @@ ghost use Rattle.unbox.specs.Rounds.{trues, Within, Taken, Heeded};
 
 use crate::blocks::Members;
 use crate::ties::Tie;
-use crate::truth::{both, either};
 use grin_syntax::ProcId;
+use pass_ground::truth::{both, either};
 use seq::Seq;
 use std::alloc::{AllocError, Global};
 
@@ -73,7 +73,8 @@ impl Members {
 
     // Heeds each tie, the last one first, so that chains of ends that call each other take few rounds.
     fn back(&mut self, ties: &[Tie])
-        ensures sound { (T : Procedures) → AllOf (Heeds T) ties.now → Within T self.old.inside → Within T self.new.inside }
+        ensures sound { (T : Procedures) → AllOf (Heeds T) ties.now → Within T self.old.inside
+            → Within T self.new.inside }
         ensures fewer { trues self.new.inside ≤ trues self.old.inside }
     {
         let mut left = ties.len();
@@ -97,7 +98,8 @@ impl Members {
 }
 
 fn all_inside(alloc: Global, count: usize) -> Result<Members, AllocError>
-    ensures { IfOk result (λ m. (T : Procedures) → ((f : ℕ) → T f ≡ true → f < count) → Within T m.inside) }
+    ensures { IfOk result (λ m. (T : Procedures) → ((f : ℕ) → T f ≡ true → f < count)
+        → Within T m.inside) }
 {
     let mut inside = Seq::new(alloc);
     for _ in 0..count {

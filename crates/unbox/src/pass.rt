@@ -4,23 +4,20 @@
 ghost use Rattle.std.specs.Prelude.{◌≡◌, IfOk};
 ghost use Rattle.grin_syntax.specs.Tree.{program_of};
 ghost use Rattle.grin_meaning.specs.Ready.{IsFetchedByWords};
-ghost use Rattle.flow_system.specs.Tables.{tables};
-ghost use Rattle.flow_system.specs.System.{system};
-ghost use Rattle.flow_system.specs.Solution.{IsLeast};
 ghost use Rattle.points_to.specs.Found.{found};
 ghost use Rattle.pass_ground.specs.Vectors.{OfVectors};
 ghost use Rattle.unbox.specs.Ends.{is_member};
 ghost use Rattle.unbox.specs.Members.{IsMembers};
 ghost use Rattle.unbox.specs.Unboxing.{unboxed};
-ghost use Rattle.unbox.specs.Unboxed.{Unboxed};
+ghost use Rattle.unbox.specs.Unboxed.{Unboxed, ByLeast};
 
 use crate::blocks::Members;
 use crate::members::members;
 use crate::ties::ties;
-use flow_system::system::system;
 use grin_meaning::Pass;
 use grin_syntax::{Grin, Proc, ProcId};
-use points_to::{Flow, solve};
+use least_flow::least;
+use points_to::Flow;
 use seq::Seq;
 use std::alloc::{AllocError, Global};
 
@@ -35,25 +32,25 @@ impl Pass for Unbox {
     ghost gives = { λ g h. Unboxed (program_of g) (program_of h) };
 
     fn apply(&self, alloc: Global, g: Grin) -> Result<Grin, AllocError> {
-        let flow = least(alloc, &g)?;
-        let members = found_members(alloc, &flow, &g)?;
-        let h = with_members(alloc, g, &members)?;
+        let h = with_bare_numbers(alloc, g)?;
         Ok(h)
     }
 }
 
-// The least solution of a program's flow system.
-pub(crate) fn least(alloc: Global, g: &Grin) -> Result<Flow, AllocError>
-    ensures { IfOk result (λ f. IsLeast (tables (program_of g.now)) (system (program_of g.now)) (found f)) }
+/// What the pass makes of any program, whatever its runs do.
+pub fn with_bare_numbers(alloc: Global, g: Grin) -> Result<Grin, AllocError>
+    ensures { IfOk result (λ h. ByLeast (program_of g) (program_of h)) }
 {
-    let system = system(alloc, g)?;
-    let flow = solve(alloc, &system)?;
-    Ok(flow)
+    let flow = least(alloc, &g)?;
+    let members = found_members(alloc, &flow, &g)?;
+    let h = with_members(alloc, g, &members)?;
+    Ok(h)
 }
 
 // The members of a program.
-pub(crate) fn found_members(alloc: Global, flow: &Flow, g: &Grin) -> Result<Members, AllocError>
-    ensures { IfOk result (λ m. IsMembers (found flow.now) (program_of g.now) (is_member m.inside)) }
+fn found_members(alloc: Global, flow: &Flow, g: &Grin) -> Result<Members, AllocError>
+    ensures { IfOk result (λ m.
+        IsMembers (found flow.now) (program_of g.now) (is_member m.inside)) }
 {
     let procs = g.procs.as_slice();
     let ties = ties(alloc, flow, procs)?;
@@ -61,8 +58,9 @@ pub(crate) fn found_members(alloc: Global, flow: &Flow, g: &Grin) -> Result<Memb
     Ok(members)
 }
 
-pub(crate) fn with_members(alloc: Global, g: Grin, members: &Members) -> Result<Grin, AllocError>
-    ensures { IfOk result (λ h. program_of h ≡ unboxed (is_member members.now.inside) (program_of g)) }
+fn with_members(alloc: Global, g: Grin, members: &Members) -> Result<Grin, AllocError>
+    ensures { IfOk result (λ h. program_of h
+        ≡ unboxed (is_member members.now.inside) (program_of g)) }
 {
     let mut procs = Seq::new(alloc);
     let mut f = 0_u32;

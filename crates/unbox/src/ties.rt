@@ -11,8 +11,8 @@ ghost use Rattle.points_to.specs.Found.{found};
 ghost use Rattle.unbox.specs.Ends.{only_int, is_int, is_int_word, has_int};
 ghost use Rattle.unbox.specs.Ties.{act_called, code_called, arms_called, act_ints, code_ints, arms_ints, act_ties, code_ties, arms_ties, body_tie as body_tie', ties_from};
 
-use crate::truth::both;
 use grin_syntax::{Alt, Block, Op, Proc, ProcId, Stmt, TagId, Val, VarId, Word};
+use pass_ground::truth::both;
 use points_to::Flow;
 use seq::Seq;
 use std::alloc::{AllocError, Global};
@@ -147,7 +147,8 @@ fn only_int(flow: &Flow, x: VarId) -> bool
 
 // Whether a tag is that of numbers, or the variable does not stand for it.
 fn is_no_other(flow: &Flow, x: VarId, tag: TagId) -> bool
-    ensures { result ≡ (nat_eq tag.0 0 || not (among (tag' tag.0) (found flow.now (var x.0) (word 0)))) }
+    ensures { result ≡ (nat_eq tag.0 0 || not
+        (among (tag' tag.0) (found flow.now (var x.0) (word 0)))) }
 {
     tag.0 == 0 || !flow.holds_tag(x, tag)
 }
@@ -182,7 +183,8 @@ fn block_ties(
 #[cycle(ties)]
 #[tactic(auto, using(grin_syntax::proofs::TreeOf::tree_of), unfolding(crate::specs::Ties::act_ties))]
 fn stmt_ties(alloc: Global, flow: &Flow, stmt: &Stmt, out: &mut Seq<Tie>) -> Result<(), AllocError>
-    ensures { OnOk result ((c : Code) → out.old ++ code_ties (found flow.now) (before_of stmt.now c) ≡ out.new ++ code_ties (found flow.now) c) }
+    ensures { OnOk result ((c : Code) → out.old ++ code_ties (found flow.now) (before_of stmt.now c)
+        ≡ out.new ++ code_ties (found flow.now) c) }
 {
     match stmt {
         Stmt::Store(_) => Ok(()),
@@ -223,7 +225,8 @@ fn op_ties(alloc: Global, flow: &Flow, op: &Op, out: &mut Seq<Tie>) -> Result<()
 
 #[cycle(ties)]
 fn alts_ties(alloc: Global, flow: &Flow, alts: &[Alt], out: &mut Seq<Tie>) -> Result<(), AllocError>
-    ensures { OnOk result (out.new ≡ out.old ++ arms_ties (found flow.now) (arms_of (map arm_of alts.now))) }
+    ensures { OnOk result (out.new ≡ out.old
+        ++ arms_ties (found flow.now) (arms_of (map arm_of alts.now))) }
 {
     for alt in alts {
         block_ties(alloc, flow, &alt.body, out)?;

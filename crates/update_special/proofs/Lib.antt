@@ -4,4 +4,4 @@ pub mod Same
 pub mod Shape
 pub mod Step
 pub mod Well
-pub mod Whole
+pub mod PassContract

@@ -27,7 +27,8 @@ use Rattle.flow_system.specs.Solution.{Solution, Solves}
 use Rattle.flow_system.specs.Covers.{Lies}
 use Rattle.flow_system.proofs.Covered.{covers}
 use Rattle.flow_system.proofs.Starting.{formed_is_started}
-use Rattle.update_special.specs.Updates.{most_tags, tags_of, tag_variable, update_arms, specialised, update_act, update_code, update_all, updated}
+use Rattle.pass_ground.specs.OpenUpdates.{tag_variable}
+use Rattle.update_special.specs.Updates.{most_tags, tags_of, update_arms, specialised, update_act, update_code, update_all, updated}
 use Rattle.update_special.proofs.Listed.{Among}
 use Rattle.update_special.proofs.Step.{tag_there, tag_listed, case_comes}
 

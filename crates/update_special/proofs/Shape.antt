@@ -12,8 +12,9 @@ use Rattle.grin_syntax.specs.Binders.{target_vars}
 use Rattle.grin_syntax.specs.Formed.{AllOf}
 use Rattle.grin_meaning.specs.Rewritten.{rewritten_procedure}
 use Rattle.grin_meaning.specs.Ready.{EachAct, EachCode, EachArms, Any, Inlined, ByWords, NoNodeTarget, NoNodeVar, BindsNothing, NarrowAct, NarrowCode, NarrowArms}
-use Rattle.update_special.specs.Updates.{most_tags, tag_variable, tagged, update_arms, specialised, update_act, update_code, update_all}
-use Rattle.update_special.specs.Updated.{LiteralOrMany, act_sum, code_sum, arms_sum, procs_sum, one_if_some, one_if_wide}
+use Rattle.pass_ground.specs.OpenUpdates.{tag_variable, act_sum, code_sum, arms_sum, procs_sum, one_if_some}
+use Rattle.update_special.specs.Updates.{most_tags, tagged, update_arms, specialised, update_act, update_code, update_all}
+use Rattle.update_special.specs.Updated.{LiteralOrMany, one_if_wide}
 
 no_variable : (v : Val) (t : ℕ) → tag_variable (tagged t v) ≡ None
 no_variable (NodeVar x) t = refl

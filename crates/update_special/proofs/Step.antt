@@ -17,7 +17,8 @@ use Rattle.flow_system.specs.declared.fact.Place.TheVariants.{Var as var}
 use Rattle.flow_system.specs.Solution.{Solution, At}
 use Rattle.flow_system.specs.Covers.{Lies, ValueIn}
 use Rattle.flow_system.proofs.Lying.{from_some}
-use Rattle.update_special.specs.Updates.{stands_for, tags_of, variable_of, tag_variable, tagged, update_arms}
+use Rattle.pass_ground.specs.OpenUpdates.{variable_of, tag_variable}
+use Rattle.update_special.specs.Updates.{stands_for, tags_of, tagged, update_arms}
 use Rattle.update_special.proofs.Listed.{Among, those_have}
 
 -- ---- values

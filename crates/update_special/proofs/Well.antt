@@ -14,7 +14,8 @@ use Rattle.grin_syntax.specs.SameOutside.{names_of, SameOutside}
 use Rattle.grin_syntax.proofs.Scopes.{with_procs, known_again, same_sites, formed_with}
 use Rattle.grin_meaning.specs.Rewritten.{rewritten_procedure}
 use Rattle.flow_system.specs.Solution.{Solution}
-use Rattle.update_special.specs.Updates.{most_tags, stands_for, tags_of, tag_variable, tagged, update_arms, specialised, update_act, update_code, update_all, updated}
+use Rattle.pass_ground.specs.OpenUpdates.{tag_variable}
+use Rattle.update_special.specs.Updates.{most_tags, stands_for, tags_of, tagged, update_arms, specialised, update_act, update_code, update_all, updated}
 use Rattle.update_special.proofs.Listed.{those_below}
 
 module _ (T : ℕ → List ℕ) where

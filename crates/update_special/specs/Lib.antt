@@ -1,2 +1,3 @@
 pub mod Updated
 pub mod Updates
+pub mod Known

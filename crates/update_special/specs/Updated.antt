@@ -9,7 +9,8 @@ use Rattle.flow_system.specs.Tables.{tables}
 use Rattle.flow_system.specs.System.{system}
 use Rattle.flow_system.specs.Solution.{Solution, IsLeast}
 use Rattle.pass_ground.specs.Vectors.{StaysOfVectors}
-use Rattle.update_special.specs.Updates.{most_tags, tags_of, tag_variable}
+use Rattle.pass_ground.specs.OpenUpdates.{tag_variable, procs_sum, open_updates}
+use Rattle.update_special.specs.Updates.{most_tags, tags_of, updated}
 
 -- ---- the shape
 
@@ -21,40 +22,11 @@ LiteralOrMany T _ = Unit {0}
 
 -- ---- how many updates are left without a literal tag
 
-unfoldable mutual
-  -- what the updates of a piece count together, each as the value that it takes does
-  pub act_sum : (Val → ℕ) → Act → ℕ
-  act_sum count (update a v) = count v
-  act_sum count (case v as') = arms_sum count as'
-  act_sum count (nested b) = code_sum count b
-  act_sum count _ = 0
-
-  pub code_sum : (Val → ℕ) → Code → ℕ
-  code_sum count (end o) = act_sum count o
-  code_sum count (store cs b) = code_sum count b
-  code_sum count (bind t o b) = act_sum count o + code_sum count b
-
-  pub arms_sum : (Val → ℕ) → Arms → ℕ
-  arms_sum count no_arm = 0
-  arms_sum count (arm s b as') = code_sum count b + arms_sum count as'
-
-abbrev pub procs_sum : (Val → ℕ) → List Procedure → ℕ
-procs_sum count [] = 0
-procs_sum count (q ∷ qs) = code_sum count q.body + procs_sum count qs
-
-abbrev pub one_if_some : Option VarId → ℕ
-one_if_some None = 0
-one_if_some (Some x) = 1
-
--- the updates of a program whose tag is a variable
-abbrev pub open_updates : Program → ℕ
-open_updates p = procs_sum (λ v. one_if_some (tag_variable v)) p.procs
-
 abbrev pub one_if_wide : (ℕ → List ℕ) → Option VarId → ℕ
 one_if_wide T None = 0
 one_if_wide T (Some x) = cond (nat_le (length (T x.0)) most_tags) 0 1
 
--- those of them whose tag may be one of more than eight
+-- the updates of a program whose tag is a variable that may stand for more than eight
 abbrev pub wide_updates : Solution → Program → ℕ
 wide_updates A p =
     let T : ℕ → List ℕ = tags_of (length p.tags) A in
@@ -77,3 +49,9 @@ pub record Updated (g h : Program) : Type 0 where
   pub solution : Solution
   pub least : IsLeast (tables g) (system g) solution
   pub updates : ByTags solution g h
+
+-- h is what the pass makes of g, whatever program this is
+pub record ByLeast (g h : Program) : Type 0 where
+  pub solution : Solution
+  pub least : IsLeast (tables g) (system g) solution
+  pub made : h ≡ updated solution g

@@ -15,6 +15,7 @@ use Rattle.flow_system.specs.declared.fact.Element.TheVariants.{Tag as tag}
 use Rattle.flow_system.specs.declared.fact.Place.TheVariants.{Var as var}
 use Rattle.flow_system.specs.declared.fact.Part.TheVariants.{Word as word}
 use Rattle.flow_system.specs.Solution.{Solution, among}
+use Rattle.pass_ground.specs.OpenUpdates.{tag_variable}
 
 -- ---- tags of variables
 
@@ -32,21 +33,6 @@ abbrev pub tags_of : ℕ → Solution → ℕ → List ℕ
 tags_of count A x = those (stands_for A x) 0 count
 
 -- ---- tags of values
-
-abbrev pub variable_of : W.Word → Option VarId
-variable_of (Var x) = Some x
-variable_of (Lit k) = None
-variable_of (Global i) = None
-variable_of (TagWord t) = None
-
--- The variable that stands for the tag of a value. Where there is none, a value without node
--- variables has a literal tag, or it stands for no node, so that nothing can be updated with it:
--- it begins with a number or a cell, or is empty.
-abbrev pub tag_variable : V.Val → Option VarId
-tag_variable (NodeVar x) = None
-tag_variable (Node t ws) = None
-tag_variable (Vector ws) = and_then (slice_get ws 0) variable_of
-tag_variable (One a) = variable_of a
 
 -- a value with a literal tag in place of its first word
 abbrev pub tagged : ℕ → V.Val → V.Val

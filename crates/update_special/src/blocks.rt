@@ -4,7 +4,9 @@
 ghost use Rattle.std.specs.Prelude.{◌≡◌, ◌&&◌, map, nat_lt, IfOk};
 ghost use Rattle.grin_syntax.specs.Tree.{Code, act_of, before_of, arm_of, code_of};
 ghost use Rattle.points_to.specs.Found.{found};
-ghost use Rattle.update_special.specs.Updates.{stands_for, tags_of, variable_of, tag_variable, tagged, by_tags, update_with, specialised, update_act, update_code, update_arm};
+ghost use Rattle.pass_ground.specs.OpenUpdates.{variable_of, tag_variable};
+ghost use Rattle.update_special.specs.Known.{tags_by};
+ghost use Rattle.update_special.specs.Updates.{stands_for, tagged, by_tags, update_with, specialised, update_act, update_code, update_arm};
 
 use grin_syntax::{Alt, Block, Op, Shape, Stmt, TagId, Val, VarId, Word};
 use points_to::Flow;
@@ -26,7 +28,7 @@ impl Tags<'_> {
     /// A block with its updates as cases.
     #[cycle(update)]
     pub(crate) fn block(&self, alloc: Global, block: Block) -> Result<Block, AllocError>
-        ensures { IfOk result (λ b. code_of b ≡ update_code (tags_of self.now.count (found self.now.flow.now)) (code_of block)) }
+        ensures { IfOk result (λ b. code_of b ≡ update_code (tags_by self.now) (code_of block)) }
     {
         let mut stmts = Seq::new(alloc);
         for stmt in block.stmts.into_vec() {
@@ -41,7 +43,8 @@ impl Tags<'_> {
 
     #[cycle(update)]
     fn stmt(&self, alloc: Global, stmt: Stmt) -> Result<Stmt, AllocError>
-        ensures { IfOk result (λ s. (c : Code) → before_of s (update_code (tags_of self.now.count (found self.now.flow.now)) c) ≡ update_code (tags_of self.now.count (found self.now.flow.now)) (before_of stmt c)) }
+        ensures { IfOk result (λ s. (c : Code) → before_of s (update_code (tags_by self.now) c)
+            ≡ update_code (tags_by self.now) (before_of stmt c)) }
     {
         match stmt {
             Stmt::Store(cells) => Ok(Stmt::Store(cells)),
@@ -52,7 +55,7 @@ impl Tags<'_> {
     #[cycle(update)]
     #[tactic(auto, using(grin_syntax::proofs::TreeOf::tree_of, crate::proofs::Loops::case_updated), unfolding(crate::specs::Updates::update_act))]
     fn op(&self, alloc: Global, op: Op) -> Result<Op, AllocError>
-        ensures { IfOk result (λ o. act_of o ≡ update_act (tags_of self.now.count (found self.now.flow.now)) (act_of op)) }
+        ensures { IfOk result (λ o. act_of o ≡ update_act (tags_by self.now) (act_of op)) }
     {
         match op {
             Op::Update(word, value) => self.update(alloc, word, value),
@@ -82,7 +85,7 @@ impl Tags<'_> {
 
     #[cycle(update)]
     fn alt(&self, alloc: Global, alt: Alt) -> Result<Alt, AllocError>
-        ensures { IfOk result (λ a. arm_of a ≡ update_arm (tags_of self.now.count (found self.now.flow.now)) (arm_of alt)) }
+        ensures { IfOk result (λ a. arm_of a ≡ update_arm (tags_by self.now) (arm_of alt)) }
     {
         Ok(Alt {
             pattern: alt.pattern,
@@ -92,7 +95,8 @@ impl Tags<'_> {
 
     // An update, or a case over the tags of what it puts into the cell.
     fn update(&self, alloc: Global, word: Word, value: Val) -> Result<Op, AllocError>
-        ensures { IfOk result (λ o. act_of o ≡ specialised (tags_of self.now.count (found self.now.flow.now)) word value (tag_variable value)) }
+        ensures { IfOk result (λ o. act_of o
+            ≡ specialised (tags_by self.now) word value (tag_variable value)) }
     {
         match tag_variable(&value) {
             Some(var) => {
@@ -105,7 +109,7 @@ impl Tags<'_> {
 
     // The tags that a variable may stand for, ascending.
     fn tags_of(&self, alloc: Global, var: VarId) -> Result<Seq<TagId>, AllocError>
-        ensures { IfOk result (λ ts. map (λ t. t.0) ts ≡ tags_of self.now.count (found self.now.flow.now) var.0) }
+        ensures { IfOk result (λ ts. map (λ t. t.0) ts ≡ tags_by self.now var.0) }
     {
         let mut made = Seq::new(alloc);
         for tag in self.flow.nodes_of(var) {
@@ -118,7 +122,8 @@ impl Tags<'_> {
 
     // Whether a variable may stand for a tag of the program.
     fn may_be(&self, var: VarId, tag: TagId) -> bool
-        ensures { result ≡ (nat_lt tag.0 self.now.count && stands_for (found self.now.flow.now) var.0 tag.0) }
+        ensures { result ≡ (nat_lt tag.0 self.now.count && stands_for (found self.now.flow.now)
+            var.0 tag.0) }
     {
         (tag.0 as usize) < self.count && self.flow.holds_tag(var, tag)
     }

@@ -4,7 +4,4 @@
 mod blocks;
 mod pass;
 
-pub use pass::Updates;
-
-#[cfg(test)]
-mod tests;
+pub use pass::{Updates, with_literal_tags};

@@ -3,19 +3,16 @@
 
 ghost use Rattle.std.specs.Prelude.{◌≡◌, IfOk};
 ghost use Rattle.grin_syntax.specs.Tree.{program_of};
-ghost use Rattle.flow_system.specs.Tables.{tables};
-ghost use Rattle.flow_system.specs.System.{system};
-ghost use Rattle.flow_system.specs.Solution.{IsLeast};
 ghost use Rattle.points_to.specs.Found.{found};
 ghost use Rattle.pass_ground.specs.Vectors.{OfVectors};
 ghost use Rattle.update_special.specs.Updates.{updated};
-ghost use Rattle.update_special.specs.Updated.{Updated};
+ghost use Rattle.update_special.specs.Updated.{Updated, ByLeast};
 
 use crate::blocks::Tags;
-use flow_system::system::system;
 use grin_meaning::Pass;
 use grin_syntax::{Grin, Proc};
-use points_to::{Flow, solve};
+use least_flow::least;
+use points_to::Flow;
 use seq::Seq;
 use std::alloc::{AllocError, Global};
 
@@ -30,22 +27,21 @@ impl Pass for Updates {
     ghost gives = { λ g h. Updated (program_of g) (program_of h) };
 
     fn apply(&self, alloc: Global, g: Grin) -> Result<Grin, AllocError> {
-        let flow = least(alloc, &g)?;
-        let h = with_cases(alloc, g, &flow)?;
+        let h = with_literal_tags(alloc, g)?;
         Ok(h)
     }
 }
 
-// The least solution of a program's flow system.
-pub(crate) fn least(alloc: Global, g: &Grin) -> Result<Flow, AllocError>
-    ensures { IfOk result (λ f. IsLeast (tables (program_of g.now)) (system (program_of g.now)) (found f)) }
+/// What the pass makes of any program, whatever its runs do.
+pub fn with_literal_tags(alloc: Global, g: Grin) -> Result<Grin, AllocError>
+    ensures { IfOk result (λ h. ByLeast (program_of g) (program_of h)) }
 {
-    let system = system(alloc, g)?;
-    let flow = solve(alloc, &system)?;
-    Ok(flow)
+    let flow = least(alloc, &g)?;
+    let h = with_cases(alloc, g, &flow)?;
+    Ok(h)
 }
 
-pub(crate) fn with_cases(alloc: Global, g: Grin, flow: &Flow) -> Result<Grin, AllocError>
+fn with_cases(alloc: Global, g: Grin, flow: &Flow) -> Result<Grin, AllocError>
     ensures { IfOk result (λ h. program_of h ≡ updated (found flow.now) (program_of g)) }
 {
     let tags = Tags {

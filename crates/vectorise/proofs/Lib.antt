@@ -6,4 +6,4 @@ pub mod Standing
 pub mod Steps
 pub mod Simulated
 pub mod Shape
-pub mod Whole
+pub mod PassContract

@@ -23,7 +23,8 @@ impl Vectors {
     #[cycle(widen)]
     #[tactic(auto, using(grin_syntax::proofs::TreeOf::tree_of, crate::proofs::Loops::case_widens), unfolding(crate::specs::Vectors::wide_act))]
     fn op(&self, alloc: Global, op: Op) -> Result<Op, AllocError>
-        ensures { IfOk result (λ o. act_of o ≡ wide_act self.now.layout self.now.known (act_of op)) }
+        ensures { IfOk result (λ o. act_of o
+            ≡ wide_act self.now.layout self.now.known (act_of op)) }
     {
         match op {
             Op::Unit(v) => Ok(Op::Unit(given_val(alloc, &self.layout, &self.known, v)?)),
@@ -60,7 +61,8 @@ impl Vectors {
 
     #[cycle(widen)]
     fn alt(&self, alloc: Global, alt: Alt) -> Result<Alt, AllocError>
-        ensures { IfOk result (λ a. arm_of a ≡ wide_arm self.now.layout self.now.known (arm_of alt)) }
+        ensures { IfOk result (λ a. arm_of a
+            ≡ wide_arm self.now.layout self.now.known (arm_of alt)) }
     {
         Ok(Alt {
             pattern: without_vars(alloc, alt.pattern),
@@ -70,7 +72,9 @@ impl Vectors {
 
     #[cycle(widen)]
     fn stmt(&self, alloc: Global, stmt: Stmt) -> Result<Stmt, AllocError>
-        ensures { IfOk result (λ s. (c : Code) → before_of s (wide_code self.now.layout self.now.known c) ≡ wide_code self.now.layout self.now.known (before_of stmt c)) }
+        ensures { IfOk result (λ s. (c : Code)
+            → before_of s (wide_code self.now.layout self.now.known c)
+            ≡ wide_code self.now.layout self.now.known (before_of stmt c)) }
     {
         match stmt {
             Stmt::Store(cells) => Ok(Stmt::Store(self.cells(alloc, cells)?)),
@@ -84,7 +88,8 @@ impl Vectors {
     /// A block, vectorised.
     #[cycle(widen)]
     pub(crate) fn block(&self, alloc: Global, block: Block) -> Result<Block, AllocError>
-        ensures { IfOk result (λ b. code_of b ≡ wide_code self.now.layout self.now.known (code_of block)) }
+        ensures { IfOk result (λ b. code_of b
+            ≡ wide_code self.now.layout self.now.known (code_of block)) }
     {
         let mut stmts = Seq::new(alloc);
         for stmt in block.stmts.into_vec() {

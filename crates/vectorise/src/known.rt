@@ -98,7 +98,8 @@ fn note_alts(
     fields: &[Word],
     alts: &[Alt],
 ) -> Result<(), AllocError>
-    ensures { OnOk result (known.new ≡ noted_arms layout.now fields.now (arms_of (map arm_of alts.now)) known.old) }
+    ensures { OnOk result (known.new
+        ≡ noted_arms layout.now fields.now (arms_of (map arm_of alts.now)) known.old) }
 {
     for alt in alts {
         note_shape(known, fields, &alt.pattern);
@@ -114,7 +115,8 @@ fn note_stmt(
     known: &mut Seq<Known>,
     stmt: &Stmt,
 ) -> Result<(), AllocError>
-    ensures { OnOk result ((c : Code) → noted_code layout.now c known.new ≡ noted_code layout.now (before_of stmt.now c) known.old) }
+    ensures { OnOk result ((c : Code) → noted_code layout.now c known.new
+        ≡ noted_code layout.now (before_of stmt.now c) known.old) }
 {
     match stmt {
         Stmt::Store(_) => Ok(()),

@@ -1,4 +1,4 @@
-// A pass: each node variable becomes a vector of words.
+//! A pass: each node variable becomes a vector of words.
 #![tactic(auto)]
 
 mod blocks;
@@ -7,7 +7,4 @@ mod layout;
 mod pass;
 mod words;
 
-pub use pass::Vectorise;
-
-#[cfg(test)]
-mod tests;
+pub use pass::{Vectorise, with_vectors};

@@ -33,7 +33,8 @@ impl Pass for Vectorise {
     }
 }
 
-pub(crate) fn with_vectors(alloc: Global, g: Grin) -> Result<Grin, AllocError>
+/// What the pass makes of any program, whatever its runs do.
+pub fn with_vectors(alloc: Global, g: Grin) -> Result<Grin, AllocError>
     ensures { IfOk result (λ h. program_of h ≡ vectorised (program_of g)) }
 {
     let layout = Layout::of(&g)?;

@@ -1,4 +1,4 @@
-// Vectorising takes each translated program whose evaluations and applications are inlined.
+//! Vectorising takes each translated program whose evaluations and applications are inlined.
 #![tactic(auto)]
 
 ghost use Rattle.vectorised_form.specs.Laws.{VectoriseTakesInlined};

@@ -5,7 +5,7 @@ use Rattle.apply_inline.specs.Inlining.{inlined_size}
 use Rattle.points_to.specs.Found.{found}
 use Rattle.apply_inline.specs.Expanded.{expanded_procedure}
 use Rattle.apply_inline.proofs.Measured.{measured}
-use Rattle.apply_inline.proofs.Next.{have_next}
+use Rattle.apply_inline.proofs.OneArgumentMore.{have_next}
 use Rattle.apply_inline.proofs.expanded_size.Goals as goal
 
 pub returns : goal.returns

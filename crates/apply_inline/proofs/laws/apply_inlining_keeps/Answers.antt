@@ -1,4 +1,4 @@
-use Rattle.apply_inline.proofs.Both.{apply_inlining_law}
+use Rattle.apply_inline.proofs.InlinedTogether.{apply_inlining_law}
 use Rattle.apply_inline.proofs.laws.apply_inlining_keeps.Goals as goal
 
 pub returns : goal.returns

@@ -1,4 +1,4 @@
-use Rattle.apply_inline.proofs.Both.{inlining_law}
+use Rattle.apply_inline.proofs.InlinedTogether.{inlining_law}
 use Rattle.apply_inline.proofs.laws.inlining_keeps.Goals as goal
 
 pub returns : goal.returns

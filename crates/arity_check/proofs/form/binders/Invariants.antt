@@ -1,6 +1,6 @@
 use Rattle.std.proofs.Common.{◌≡◌, take, map}
 use Rattle.core_reader.specs.Tree.{bind}
-use Rattle.arity_check.specs.Broken.{binders_of}
+use Rattle.arity_check.specs.Pieces.{binders_of}
 use Rattle.arity_check.proofs.form.binders.Given as goal
 
 abbrev pub invariant-loop-member : goal.invariant-loop-member

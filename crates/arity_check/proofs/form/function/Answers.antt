@@ -7,7 +7,7 @@ use Rattle.core_reader.specs.Tree.{expr}
 use Rattle.arity_check.specs.Scope.{binds_all}
 use Rattle.arity_check.specs.Known.{Known, all_named}
 use Rattle.arity_check.specs.Tables.{known}
-use Rattle.arity_check.specs.Broken.{names_of}
+use Rattle.arity_check.specs.Pieces.{names_of}
 use Rattle.arity_check.specs.Faults.{binders_faults}
 use Rattle.arity_check.specs.Program.{term}
 use Rattle.arity_check.specs.Normal.{IsNormal}

@@ -1,7 +1,7 @@
 use Rattle.std.proofs.Common.{◌≡◌, ◌≤◌, [], length, map, sym, subst, Err, Ok, arith}
 use Rattle.std.proofs.lemmas.Result.{err_from_is_err_and}
 use Rattle.core_reader.specs.Tree.{Program, data_of, function}
-use Rattle.core_reader.specs.Text.{IsText}
+use Rattle.core_reader.specs.Programs.{IsText}
 use Rattle.core_reader.specs.Different.{AreDifferent}
 use Rattle.core_reader.specs.Readable.{IsReadable}
 use Rattle.core_reader.specs.Lexed.{texts_of}

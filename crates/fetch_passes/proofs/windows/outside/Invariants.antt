@@ -1,6 +1,6 @@
 use Rattle.std.proofs.Common.{◌≡◌, ◌≤◌, length}
 use Rattle.grin_syntax.specs.Tree.{act_of, end}
-use Rattle.fetch_passes.specs.Uses.{code_uses}
+use Rattle.pass_ground.specs.Uses.{code_uses}
 use Rattle.fetch_passes.specs.Windows.{outside}
 use Rattle.fetch_passes.proofs.Firsts.{code_from}
 use Rattle.fetch_passes.proofs.windows.outside.Given as goal

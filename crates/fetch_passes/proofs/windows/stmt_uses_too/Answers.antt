@@ -1,6 +1,6 @@
 use Rattle.std.proofs.Common.{rules, ap, ◌∙◌}
 use Rattle.grin_syntax.specs.Tree.{before_of}
-use Rattle.fetch_passes.specs.Uses.{code_uses}
+use Rattle.pass_ground.specs.Uses.{code_uses}
 use Rattle.fetch_passes.proofs.Firsts.{bind_uses, store_uses}
 use Rattle.fetch_passes.proofs.windows.stmt_uses_too.Goals as goal
 

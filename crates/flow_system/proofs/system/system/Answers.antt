@@ -1,9 +1,14 @@
-use Rattle.std.proofs.Common.{◌≡◌, map, refl, ◌∙◌}
+use Rattle.std.proofs.Common.{rules, ◌≡◌, map, refl, ◌∙◌}
 use Rattle.grin_syntax.specs.Tree.{procedure_of}
+use Rattle.flow_system.specs.Written.{shown}
 use Rattle.flow_system.proofs.SoFar.{all_params}
+use Rattle.flow_system.proofs.Numbered.{indexed}
 use Rattle.flow_system.proofs.system.system.Goals as goal
 
 pub returns-clause-tables : goal.returns-clause-tables
 returns-clause-tables c =
     let e : c.in_ok-copied_params.field-0 ≡ map (λ q. q.params) (map procedure_of c.args.g.now.procs) = c.in_ok-copied_params.ensures ∙ all_params c.args.g.now.procs in
     rw (c.in_ok-copied_tags.ensures, c.in_ok-copied_globals.ensures, e) refl
+
+pub invariant_of-result : goal.invariant_of-result
+invariant_of-result c = record { indexed = indexed _ (shown c.as_slice-listed.result.now) c.in_ok-places.places _ _ _ _ c.in_ok-rows.ensures (search rules) (search rules) (search rules) (search rules) (search rules) }

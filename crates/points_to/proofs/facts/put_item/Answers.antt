@@ -1,6 +1,10 @@
 use Rattle.points_to.specs.Known.{items_at}
 use Rattle.points_to.proofs.Sets.{puts}
+use Rattle.points_to.proofs.Elsewhere.{items_elsewhere}
 use Rattle.points_to.proofs.facts.put_item.Goals as goal
 
 pub returns : goal.returns
-returns c = puts (items_at c.args.sets.now.items) c.grow.new.sets.items c.args.n c.index_mut.result.now c.insert.new.self c.args.item c.in_ok-grow.ensures.same c.in_ok-grow.ensures.there c.index_mut.ensures.value c.in_ok-insert.ensures
+returns c = record {
+  puts = puts (items_at c.args.sets.now.items) c.grow.new.sets.items c.args.n c.index_mut.result.now c.insert.new.self c.args.item c.in_ok-grow.ensures.same c.in_ok-grow.ensures.there c.index_mut.ensures.value c.in_ok-insert.ensures;
+  elsewhere = items_elsewhere (items_at c.args.sets.now.items) c.grow.new.sets.items c.args.n c.insert.new.self c.in_ok-grow.ensures.same;
+}

@@ -1,7 +1,8 @@
 use Rattle.std.proofs.Common.{◌≡◌, ◌++◌}
+use Rattle.std.specs.List.{flat_map}
 use Rattle.points_to.specs.Held.{in_part}
-use Rattle.points_to.specs.Rows.{row_items}
+use Rattle.points_to.specs.Rows.{block_words, row_items}
 use Rattle.points_to.proofs.items.append_row.Given as goal
 
-abbrev pub invariant-loop-word : goal.invariant-loop-word
-invariant-loop-word l = l.out ++ in_part l.part l.word-iterator ≡ l.initial.out ++ row_items l.row
+abbrev pub invariant-loop-number : goal.invariant-loop-number
+invariant-loop-number l = l.out ++ in_part l.row.part (flat_map block_words l.number-iterator) ≡ l.initial.out ++ row_items l.row

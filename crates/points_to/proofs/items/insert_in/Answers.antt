@@ -1,9 +1,8 @@
-use Rattle.std.proofs.Common.{sym, ap, subst, slice_set}
+use Rattle.std.proofs.Common.{sym, subst, slice_set}
 use Rattle.std.specs.List.{flat_map}
-use Rattle.points_to.specs.Held.{in_part}
 use Rattle.points_to.specs.Rows.{row_items, HasPart, Gets}
 use Rattle.points_to.proofs.Sets.{on_ok}
-use Rattle.points_to.proofs.Rows.{within, gets_at, gets_row}
+use Rattle.points_to.proofs.Rows.{within, gets_at, gets_row, row_none}
 use Rattle.points_to.proofs.items.insert_in.Goals as goal
 
 pub returns-in-Some : goal.returns-in-Some
@@ -18,4 +17,4 @@ pub returns-in_ok-push-in-None : goal.returns-in_ok-push-in-None
 returns-in_ok-push-in-None c =
     let row = c.insert_word-in-None.new.row in
     subst (λ l. Gets (flat_map row_items c.args.rows.now.items) (flat_map row_items l) c.args.item) (sym c.in_ok-push-in-None.ensures.items)
-    (gets_row c.args.rows.now.items row c.args.item (subst (λ l. Gets l (row_items row) c.args.item) (ap (in_part c.args.item.part) c.new.ensures.empty) c.in_ok-insert_word-in-None.ensures))
+    (gets_row c.args.rows.now.items row c.args.item (subst (λ l. Gets l (row_items row) c.args.item) (row_none (record { part = c.args.item.part; words = c.new.result }) c.new.ensures) c.in_ok-insert_word-in-None.ensures))

@@ -14,7 +14,7 @@ use Rattle.arity_check.specs.declared.normal.Branch.TheVariants as row
 use Rattle.arity_check.specs.Scope.{Scope}
 use Rattle.arity_check.specs.Known.{Known, named, all_named, all_entered}
 use Rattle.arity_check.specs.Tables.{known}
-use Rattle.arity_check.specs.Broken.{names_of, binders_of}
+use Rattle.arity_check.specs.Pieces.{names_of, binders_of}
 use Rattle.arity_check.specs.Faults.{no_patterns, expr_faults, alt_faults}
 use Rattle.arity_check.specs.Program as normal
 use Rattle.arity_check.specs.Program.{term, branch, branches_of, NoMore}

@@ -1,7 +1,7 @@
 use Rattle.std.proofs.Common.{◌≡◌, drop}
 use Rattle.arity_check.specs.Known.{all_named}
 use Rattle.arity_check.specs.Tables.{known}
-use Rattle.arity_check.specs.Broken.{names_of}
+use Rattle.arity_check.specs.Pieces.{names_of}
 use Rattle.arity_check.proofs.form.Locals.enter_all.Given as goal
 
 abbrev pub invariant-loop-i : goal.invariant-loop-i

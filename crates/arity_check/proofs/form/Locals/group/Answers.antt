@@ -4,7 +4,7 @@ use Rattle.core_reader.specs.Tree as tree
 use Rattle.core_reader.specs.Tree.{bind}
 use Rattle.arity_check.specs.Known.{Known, all_named}
 use Rattle.arity_check.specs.Tables.{known}
-use Rattle.arity_check.specs.Broken.{names_of, binders_of}
+use Rattle.arity_check.specs.Pieces.{names_of, binders_of}
 use Rattle.arity_check.proofs.Scopes.{members_behind}
 use Rattle.arity_check.proofs.Normals.{group_is, group_next}
 use Rattle.arity_check.proofs.form.Locals.group.Goals as goal

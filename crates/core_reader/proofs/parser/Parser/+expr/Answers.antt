@@ -8,7 +8,7 @@ use Rattle.core_reader.specs.Tree.{NoTerms, AndTerm, Let, Case, NoAlts, AndAlt, 
 use Rattle.core_reader.specs.Tree as tree
 use Rattle.core_reader.specs.Machine.{binds_of, alternatives, ◌⊹◌, AltStart, AltBody, Scrutinee, Brace, LetBody, nests, InBody, Ended, Apply, run, front, starts_atom}
 use Rattle.core_reader.specs.declared.token.Token.TheVariants as word
-use Rattle.core_reader.proofs.Turns.{alts_last, takes, halts, refuses, refuses_seen, no_expr, ended_app, let_deep, let_opens, fails_from, let_ends, boxed_let, case_deep, case_opens, no_of, no_brace, no_alt_end, boxed_case, some_alts, behind_shorter}
+use Rattle.core_reader.proofs.Taking.{alts_last, takes, halts, refuses, refuses_seen, no_expr, ended_app, let_deep, let_opens, fails_from, let_ends, boxed_let, case_deep, case_opens, no_of, no_brace, no_alt_end, boxed_case, some_alts, behind_shorter}
 use Rattle.core_reader.proofs.TreeOf.{expr_of-App}
 use Rattle.core_reader.proofs.parser.Parser.+expr.Goals as goal
 

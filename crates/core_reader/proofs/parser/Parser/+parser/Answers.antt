@@ -7,7 +7,7 @@ use Rattle.core_reader.specs.Grammar.{at_most_200}
 use Rattle.core_reader.specs.Tree.{NoTerms, AndTerm, Let, Case, NoAlts, AndAlt, Expr, Alts}
 use Rattle.core_reader.specs.Tree as tree
 use Rattle.core_reader.specs.Machine.{with_last, whole, Inside, Apply, opens, run, front, starts_atom}
-use Rattle.core_reader.proofs.Turns.{takes, halts, refuses, no_head_inside, no_close, too_deep, fails_from, opening, pushed, boxed}
+use Rattle.core_reader.proofs.Taking.{takes, halts, refuses, no_head_inside, no_close, too_deep, fails_from, opening, pushed, boxed}
 use Rattle.core_reader.proofs.TreeOf.{term_of-Name, term_of-Con, term_of-Int}
 use Rattle.core_reader.proofs.parser.Parser.+parser.Goals as goal
 

@@ -4,7 +4,7 @@ use Rattle.core_reader.specs.Grammar.{at_most_200}
 use Rattle.core_reader.specs.Tree.{NoTerms}
 use Rattle.core_reader.specs.Machine.{nests, InBind, BindName, BindEquals, Apply, front}
 use Rattle.core_reader.specs.declared.token.Token.TheVariants as word
-use Rattle.core_reader.proofs.Turns.{takes, refuses, no_name, no_equals, fails_from}
+use Rattle.core_reader.proofs.Taking.{takes, refuses, no_name, no_equals, fails_from}
 use Rattle.core_reader.proofs.parser.Parser.bind.Goals as goal
 
 pub returns-in_err-take-in-Name-clause-reads : goal.returns-in_err-take-in-Name-clause-reads

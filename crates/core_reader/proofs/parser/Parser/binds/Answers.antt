@@ -7,8 +7,8 @@ use Rattle.core_reader.specs.Tree.{NoTerms, AndTerm, Let, Case, NoAlts, AndAlt, 
 use Rattle.core_reader.specs.Tree as tree
 use Rattle.core_reader.specs.Machine.{whole, binds_of, LetBody, InBody, InBind, BindName, Apply, run, front}
 use Rattle.core_reader.specs.declared.token.Token.TheVariants as word
-use Rattle.core_reader.proofs.Turns.{binds_last, takes, refuses, refuses_seen, no_next, fails_from}
-use Rattle.core_reader.proofs.Turns.{behind_shorter, nearer_still, not_none, some_binds}
+use Rattle.core_reader.proofs.Taking.{binds_last, takes, refuses, refuses_seen, no_next, fails_from}
+use Rattle.core_reader.proofs.Taking.{behind_shorter, nearer_still, not_none, some_binds}
 use Rattle.core_reader.proofs.parser.Parser.binds.Goals as goal
 
 pub returns-then-is_empty-clause-reads : goal.returns-then-is_empty-clause-reads

@@ -3,7 +3,7 @@ use Rattle.std.proofs.lemmas.Result.{err_from_is_err_and}
 use Rattle.core_reader.specs.Grammar.{at_most_200}
 use Rattle.core_reader.specs.Machine.{Top, DataName, Count, DataEnd, front}
 use Rattle.core_reader.specs.declared.token.Token.TheVariants as word
-use Rattle.core_reader.proofs.Turns.{takes, refuses, no_con, no_semicolon, fails_from}
+use Rattle.core_reader.proofs.Taking.{takes, refuses, no_con, no_semicolon, fails_from}
 use Rattle.core_reader.proofs.parser.Parser.constructor.Goals as goal
 
 pub returns-in_err-fields-in-Con-clause-reads : goal.returns-in_err-fields-in-Con-clause-reads

@@ -6,7 +6,7 @@ use mir.Syntax.{w32}
 use Rattle.core_reader.specs.Grammar.{at_most_200}
 use Rattle.core_reader.specs.Machine.{Count, front}
 use Rattle.core_reader.specs.declared.token.Token.TheVariants as word
-use Rattle.core_reader.proofs.Turns.{takes, halts, refuses, no_count, minus_count, below_count, good_count, refuses_seen}
+use Rattle.core_reader.proofs.Taking.{takes, halts, refuses, no_count, minus_count, below_count, good_count, refuses_seen}
 use Rattle.core_reader.proofs.parser.Parser.count.Goals as goal
 
 pub returns-then-minus-clause-reads : goal.returns-then-minus-clause-reads

@@ -2,7 +2,7 @@ use Rattle.std.proofs.Common.{◌≡◌, false}
 use Rattle.core_reader.specs.Grammar.{at_most_200}
 use Rattle.core_reader.specs.Tree.{NoTerms}
 use Rattle.core_reader.specs.Machine.{InBind, Apply, front, starts_atom}
-use Rattle.core_reader.proofs.Turns.{refuses, no_head_bind}
+use Rattle.core_reader.proofs.Taking.{refuses, no_head_bind}
 use Rattle.core_reader.proofs.parser.Parser.headed.Goals as goal
 
 pub returns-then-not-starts_atom-clause-reads : goal.returns-then-not-starts_atom-clause-reads

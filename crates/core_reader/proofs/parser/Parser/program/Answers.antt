@@ -3,7 +3,7 @@ use Rattle.core_reader.specs.Grammar.{at_most_200}
 use Rattle.core_reader.specs.Tree.{NoTerms, AndTerm, Let, Case, NoAlts, AndAlt, Expr, Alts}
 use Rattle.core_reader.specs.Machine.{data_decl, function_decl, Top, front}
 use Rattle.core_reader.specs.Tree as tree
-use Rattle.core_reader.proofs.Turns.{map_last, constructors_last, refuses, no_decl, fails_from, finishes, constructors_same, functions_last, functions_same}
+use Rattle.core_reader.proofs.Taking.{map_last, constructors_last, refuses, no_decl, fails_from, finishes, constructors_same, functions_last, functions_same}
 use Rattle.core_reader.proofs.parser.Parser.program.Goals as goal
 
 pub loop-constructors-preserved-in_ok-push-in-Data : goal.loop-constructors-preserved-in_ok-push-in-Data

@@ -1,8 +1,8 @@
-use Rattle.update_special.proofs.Whole.{is_updated, is_kept}
+use Rattle.update_special.proofs.PassContract.{is_updated, is_kept}
 use Rattle.update_special.proofs.pass.UpdatesPass.apply.Goals as goal
 
 pub returns-clause-shape : goal.returns-clause-shape
-returns-clause-shape c = is_updated _ _ _ c.in_ok-h.ensures c.requires c.in_ok-flow.ensures
+returns-clause-shape c = is_updated _ _ c.requires c.in_ok-h.ensures
 
 pub returns-clause-meaning : goal.returns-clause-meaning
-returns-clause-meaning c = is_kept _ _ _ c.in_ok-h.ensures c.requires c.in_ok-flow.ensures
+returns-clause-meaning c = is_kept _ _ c.requires c.in_ok-h.ensures

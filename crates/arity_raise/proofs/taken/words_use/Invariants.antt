@@ -1,6 +1,0 @@
-use Rattle.std.proofs.Common.{◌≡◌, take}
-use Rattle.arity_raise.specs.Taken.{words_use}
-use Rattle.arity_raise.proofs.taken.words_use.Given as goal
-
-abbrev pub invariant-loop-word : goal.invariant-loop-word
-invariant-loop-word l = l.used ≡ words_use l.x.0 (take l.word-index l.words)

@@ -1,0 +1,117 @@
+-- That the pass meets its contract: the shape of what it makes, and that this keeps the program.
+use Rattle.std.proofs.Common.{◌≡◌, ◌+◌, ◌≤◌, [], length, ◌∙◌, sym, ap, subst}
+use Rattle.grin_syntax.specs.Tree.{Program}
+use Rattle.grin_syntax.specs.Binders.{target_vars}
+use Rattle.grin_syntax.specs.SameOutside.{SameOutside}
+use Rattle.grin_meaning.specs.Ready.{Any, Inlined, ByWords, NoNodeTarget, NoNodeVar, BindsNothing, most_value_fields, Ready}
+use Rattle.grin_meaning.specs.Keeps.{Keeps}
+use Rattle.grin_meaning.specs.Looking.{NeverMissed}
+use Rattle.grin_meaning.proofs.Looked.{looking_law}
+use Rattle.grin_meaning.proofs.Kept.{keeps_again}
+use Rattle.pass_ground.specs.Vectors.{OfVectors, StaysOfVectors}
+use Rattle.copy_prop.specs.Resolved.{resolved}
+use Rattle.copy_prop.specs.Lean.{lean}
+use Rattle.copy_prop.specs.Copied.{Copied}
+use Rattle.copy_prop.proofs.LeanSame.{lean_kept}
+use Rattle.copy_prop.proofs.LeanFormed as thin
+use Rattle.copy_prop.proofs.ResolvedSame.{resolved_kept}
+use Rattle.copy_prop.proofs.ResolvedFormed as plain
+
+never_missed : (g : Program) → Ready g → NeverMissed g
+never_missed g r = (looking_law g r.inlined).sees r.never_missing r.runs
+
+-- ---- copies
+
+module _ (g : Program) (g_is : OfVectors g) where
+  resolved_both : NeverMissed (resolved g) × Keeps g (resolved g)
+  resolved_both = resolved_kept g g_is.formed g_is.ready.inlined g_is.vectorised (never_missed g g_is.ready)
+
+  resolved_ready : Ready (resolved g)
+  resolved_ready =
+      let inl = plain.procs_each Inlined Any Any Any plain.inlined_stays (λ k v h. tt) [] g.procs g_is.ready.inlined in
+      record {
+        inlined = inl;
+        few_params = plain.procs_params 16 [] g.procs g_is.ready.few_params;
+        few_results = plain.procs_narrow (1 + most_value_fields g.tags) 13 [] g.procs g_is.ready.few_results;
+        few_fields = g_is.ready.few_fields;
+        never_missing = (looking_law (resolved g) inl).never_missing resolved_both.0;
+        runs = (looking_law (resolved g) inl).runs_well resolved_both.0;
+      }
+
+  resolved_stays : StaysOfVectors g (resolved g)
+  resolved_stays = record {
+    of_vectors = record {
+      formed = plain.resolved_formed g g_is.formed g_is.vectorised;
+      ready = resolved_ready;
+      vectorised = plain.procs_each Any NoNodeTarget NoNodeVar BindsNothing (λ k o h. tt) plain.no_node_var_stays [] g.procs g_is.vectorised;
+    };
+    outside = plain.resolved_outside g;
+    narrow = λ most h. plain.procs_each Any (λ t. length (target_vars t) ≤ most) Any Any (λ k o u. tt) (λ k v u. tt) [] g.procs h;
+    by_words = λ h. plain.procs_each ByWords Any Any Any plain.by_words_stays (λ k v u. tt) [] g.procs h;
+  }
+
+-- ---- idle statements
+
+module _ (g : Program) (g_is : OfVectors g) where
+  lean_both : NeverMissed (lean g) × Keeps g (lean g)
+  lean_both = lean_kept g (never_missed g g_is.ready)
+
+  lean_ready : Ready (lean g)
+  lean_ready =
+      let inl = thin.procs_each Inlined Any Any Any thin.inlined_stays g.procs g_is.ready.inlined in
+      record {
+        inlined = inl;
+        few_params = thin.procs_params 16 g.procs g_is.ready.few_params;
+        few_results = thin.procs_narrow (1 + most_value_fields g.tags) 13 g.procs g_is.ready.few_results;
+        few_fields = g_is.ready.few_fields;
+        never_missing = (looking_law (lean g) inl).never_missing lean_both.0;
+        runs = (looking_law (lean g) inl).runs_well lean_both.0;
+      }
+
+  lean_stays : StaysOfVectors g (lean g)
+  lean_stays = record {
+    of_vectors = record {
+      formed = thin.lean_formed g g_is.formed g_is.vectorised;
+      ready = lean_ready;
+      vectorised = thin.procs_each Any NoNodeTarget NoNodeVar BindsNothing (λ o h. tt) g.procs g_is.vectorised;
+    };
+    outside = thin.lean_outside g;
+    narrow = λ most h. thin.procs_each Any (λ t. length (target_vars t) ≤ most) Any Any (λ o u. tt) g.procs h;
+    by_words = λ h. thin.procs_each ByWords Any Any Any thin.by_words_stays g.procs h;
+  }
+
+-- ---- both
+
+outside_again : (g h k : Program) → SameOutside g h → SameOutside h k → SameOutside g k
+outside_again g h k a b = record {
+  same_tags = b.same_tags ∙ a.same_tags;
+  same_globals = b.same_globals ∙ a.same_globals;
+  same_start = b.same_start ∙ a.same_start;
+  same_argument = b.same_argument ∙ a.same_argument;
+  same_names = b.same_names ∙ a.same_names;
+}
+
+stays_again : (g h k : Program) → StaysOfVectors g h → StaysOfVectors h k → StaysOfVectors g k
+stays_again g h k a b = record {
+  of_vectors = b.of_vectors;
+  outside = outside_again g h k a.outside b.outside;
+  narrow = λ most n. b.narrow most (a.narrow most n);
+  by_words = λ n. b.by_words (a.by_words n);
+}
+
+copied_program : (g : Program) → OfVectors g → Copied g (lean (resolved g))
+copied_program g g_is =
+    let first : StaysOfVectors g (resolved g) = resolved_stays g g_is in
+    record {
+      stays = stays_again g (resolved g) (lean (resolved g)) first (lean_stays (resolved g) first.of_vectors);
+      needed = thin.procs_needed (resolved g).procs (plain.procs_free [] g.procs);
+    }
+
+copied_keeps : (g : Program) → OfVectors g → Keeps g (lean (resolved g))
+copied_keeps g g_is = keeps_again g (resolved g) (lean (resolved g)) (resolved_both g g_is).1 (lean_both (resolved g) (resolved_stays g g_is).of_vectors).1
+
+pub is_copied : (g h k : Program) → h ≡ resolved g → k ≡ lean h → OfVectors g → Copied g k
+is_copied g h k e f o = subst (Copied g) (sym (f ∙ ap lean e)) (copied_program g o)
+
+pub is_kept : (g h k : Program) → h ≡ resolved g → k ≡ lean h → OfVectors g → Keeps g k
+is_kept g h k e f o = subst (Keeps g) (sym (f ∙ ap lean e)) (copied_keeps g o)

@@ -1,0 +1,4 @@
+mod Numerals
+mod Rereading
+mod Reprinted
+mod RoundTrip

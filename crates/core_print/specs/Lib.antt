@@ -1,0 +1,4 @@
+pub mod Canonical
+pub mod Depth
+pub mod Same
+pub mod Laws

@@ -1,6 +1,0 @@
-use Rattle.std.proofs.Common.{◌≡◌, ◌++◌, drop}
-use Rattle.core_reader.specs.Canonical.{binders_text}
-use Rattle.core_reader.proofs.printer.Text.binders.Given as goal
-
-abbrev pub invariant-loop-binder : goal.invariant-loop-binder
-invariant-loop-binder l = l.self ++ binders_text l.names (drop l.binder-index l.binders) ≡ l.fn.self ++ binders_text l.names l.binders

@@ -1,5 +1,0 @@
-use Rattle.fetch_passes.proofs.Loops.{cells_next}
-use Rattle.fetch_passes.proofs.uses.cells_use.Goals as goal
-
-pub loop-cell-preserved : goal.loop-cell-preserved
-loop-cell-preserved c = cells_next c.args.x.0 c.args.cells.now c.loop-cell.cell-index c.cell-item.result _ _ _ c.loop-cell-test.true c.cell-item.is c.val_uses.ensures c.either-used.ensures c.loop-cell.invariant

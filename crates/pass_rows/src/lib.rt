@@ -1,0 +1,19 @@
+//! Rows for the passes: programs that were worked by hand.
+#![tactic(auto)]
+
+#[cfg(test)]
+mod copies;
+#[cfg(test)]
+mod fetches;
+#[cfg(test)]
+mod parts;
+#[cfg(test)]
+mod raising;
+#[cfg(test)]
+mod simple;
+#[cfg(test)]
+mod unboxing;
+#[cfg(test)]
+mod updates;
+#[cfg(test)]
+mod vectors;

@@ -1,0 +1,10 @@
+use Rattle.std.proofs.Common.{◌≡◌, ◌++◌, take}
+use Rattle.std.specs.List.{flat_map}
+use Rattle.flow_system.specs.Shown.{tables_of}
+use Rattle.flow_system.specs.declared.fact.Place.TheVariants.{Site}
+use Rattle.points_to.specs.Known.{held}
+use Rattle.points_to.specs.Held.{field_of_tag}
+use Rattle.points_to.proofs.fetch.fields_of_tags.Given as goal
+
+abbrev pub invariant-loop-word : goal.invariant-loop-word
+invariant-loop-word l = l.out ≡ l.initial.out ++ flat_map (field_of_tag (tables_of l.system) l.i (held l.facts (Site l.s))) (take l.word-index l.words)

@@ -1,0 +1,10 @@
+use Rattle.flow_system.specs.Shown.{tables_of, inclusion_of}
+use Rattle.points_to.proofs.Turns.{satisfies}
+use Rattle.points_to.proofs.worklist.Worklist.satisfy.Goals as goal
+
+pub returns : goal.returns
+returns c =
+    let r = c.in_ok-register_reads.ensures in
+    let a = c.in_ok-add_demands.ensures in
+    satisfies (tables_of c.args.system.now) (inclusion_of c.args.inclusion.now) c.args.n c.args.self.now c.register_reads.new.self c.add_demands.new.self c.in_ok-add_demands.field-0
+    r.same_facts r.same_pending r.kept r.put a.grown a.spread a.still a.counted

@@ -1,0 +1,22 @@
+-- The tags of the nodes in the cells that variables stand for, as ascending lists.
+use Rattle.std.specs.Prelude.{◌≡◌, ℕ, List, slice_get}
+use Rattle.std.specs.List.{flat_map}
+use Rattle.std.specs.List.Sorted.{IsStrictlyIncreasing}
+use Rattle.grin_syntax.specs.declared.program.TagId.{TagId}
+use Rattle.grin_syntax.specs.declared.program.Site.{Site}
+use Rattle.points_to.specs.Wanted.{is_in, numbers_by}
+
+-- the tags that a table has for some sites
+abbrev pub tags_of_sites : List (List TagId) → List ℕ → List ℕ
+tags_of_sites tags = flat_map (λ s. numbers_by (λ t. t.0) (slice_get tags s))
+
+-- an ascending list, without repeats, of the members of another
+pub record Ascends (ms ns : List ℕ) : Type 0 where
+  pub ascending : IsStrictlyIncreasing ns
+  pub same : (n : ℕ) → is_in n ns ≡ is_in n ms
+
+-- for each variable the tags of its sites
+abbrev pub MetTable : List (List TagId) → List (List Site) → List (List TagId) → Type 0
+MetTable tags sites table = (n : ℕ) →
+    Ascends (tags_of_sites tags (numbers_by (λ s. s.0) (slice_get sites n)))
+    (numbers_by (λ t. t.0) (slice_get table n))

@@ -1,8 +1,0 @@
-use Rattle.std.proofs.Common.{◌≡◌, map}
-use Rattle.grin_syntax.specs.Tree.{procedure_of}
-use Rattle.grin_meaning.specs.Rewritten.{rewritten_procedure}
-use Rattle.unnest.specs.Unnested.{unnested_code}
-use Rattle.unnest.proofs.pass.UnnestPass.apply.Given as goal
-
-abbrev pub invariant-loop-proc : goal.invariant-loop-proc
-invariant-loop-proc l = map procedure_of l.procs ≡ map (rewritten_procedure unnested_code) (map procedure_of l.yielded)
