@@ -14,4 +14,4 @@ pub mod Sums
 pub mod ValueTags
 pub mod Weighed
 pub mod Well
-pub mod Whole
+pub mod InlinedProgram

@@ -1,5 +1,8 @@
 -- What the loops over statements, alternatives and candidates have made so far.
-use Rattle.std.proofs.Common.{◌≡◌, ℕ, zero, suc, ◌+◌, ◌<◌, Bool, true, false, cond, List, [], ◌∷◌, ◌++◌, map, take, length, get_or, Some, slice_get, refl, sym, ap, ◌∙◌, arith}
+use Rattle.std.proofs.Common.{◌≡◌, ℕ, zero, suc, ◌+◌, ◌<◌, Bool, true, false, cond, List, [], ◌∷◌, ◌++◌, map, take, length, get_or, Some, slice_get, refl, sym, ap, ◌∙◌, subst, arith}
+use Rattle.std.specs.declared.alloc.Global.{Global}
+use Rattle.std.specs.declared.boxed.Box.{Box}
+use Rattle.seq.specs.declared.list.Seq.{Seq}
 use Rattle.std.specs.List.{filter}
 use Rattle.std.proofs.Math.Seq.{take-suc}
 use Rattle.std.proofs.lemmas.List.{append-nil}
@@ -7,8 +10,10 @@ use Rattle.std.proofs.lemmas.List.Elements.{filter-append}
 use Rattle.grin_syntax.specs.declared.program.Stmt.{Stmt}
 use Rattle.grin_syntax.specs.declared.program.Stmt.TheVariants.{Store, Bind}
 use Rattle.grin_syntax.specs.declared.program.Alt.{Alt}
-use Rattle.grin_syntax.specs.declared.program.Op.{Op}
-use Rattle.grin_syntax.specs.declared.program.Op.TheVariants.{Case}
+use Rattle.grin_syntax.specs.declared.program.Op.{Op, out-Op, roll-Op, roll-out-Op}
+use Rattle.grin_syntax.specs.declared.program.Op.TheVariants.{Apply, Case, Nested, rolls-Apply, rolls-Case, rolls-Nested}
+use Rattle.grin_syntax.specs.declared.program.Op.TheOpen as open'
+use Rattle.grin_syntax.specs.declared.program.Op.TheFolds.{fold-roll-Op}
 use Rattle.grin_syntax.specs.declared.program.Block.{Block}
 use Rattle.grin_syntax.specs.declared.program.Cell.{Cell}
 use Rattle.grin_syntax.specs.declared.program.Target.{Target}
@@ -18,7 +23,7 @@ use Rattle.grin_syntax.specs.declared.program.Shape.{Shape}
 use Rattle.grin_syntax.specs.declared.program.Shape.TheVariants.{Else}
 use Rattle.grin_syntax.specs.declared.program.Word.{Word}
 use Rattle.grin_syntax.specs.declared.program.Val.{Val}
-use Rattle.grin_syntax.specs.Tree.{Code, end, bind, case, fail, Arms, no_arm, arm, act_of, before_of, arm_of, code_of, all_before, arms_of, Procedure, Program}
+use Rattle.grin_syntax.specs.Tree.{Code, Act, end, bind, apply, case, nested, fail, Arms, no_arm, arm, act_of, before_of, arm_of, code_of, all_before, arms_of, Procedure, Program, act_step, stmt_step, alt_step, block_step}
 use Rattle.grin_syntax.proofs.TreeOf.{code_of-parts, arm_of-parts, act_of-Case, before_of-Store, before_of-Bind}
 use Rattle.grin_syntax.proofs.Pieces.{all_before_push, map_push}
 use Rattle.flow_system.specs.Solution.{Solution}
@@ -34,6 +39,42 @@ arms_before-push (b ∷ as') a last = ap (arm b.0 b.1) (arms_before-push as' a l
 pub arms_of_before : (as' : List (Shape × Code)) → arms_of as' ≡ arms_before as' no_arm
 arms_of_before [] = refl
 arms_of_before (a ∷ as') = ap (arm a.0 a.1) (arms_of_before as')
+
+-- no block in it, and no application
+abbrev IsPlain : Act → Type 0
+IsPlain (apply v w) = ⊥
+IsPlain (case v as') = ⊥
+IsPlain (nested b) = ⊥
+IsPlain _ = Unit {0}
+
+plain_applies : (p : Program) (A : Solution) (x : ℕ) (o : Act) → IsPlain o → o ≡ apply_act p A x o
+unfolding apply_act
+plain_applies p A x (apply v w) h = absurd h
+plain_applies p A x (case v as') h = absurd h
+plain_applies p A x (nested b) h = absurd h
+plain_applies p A x o h = refl
+
+plain_room : (p : Program) (A : Solution) (x : ℕ) (o : Act) → IsPlain o → x ≡ x + apply_act_room p A o
+unfolding apply_act_room
+plain_room p A x (apply v w) h = absurd h
+plain_room p A x (case v as') h = absurd h
+plain_room p A x (nested b) h = absurd h
+plain_room p A x o h = omega arith
+
+-- an operation that is no application, no case and no nested block
+module _ (op : Op) (not_apply : (v : Val) (w : Word) → op ≡ Apply v w → ⊥) (not_case : (v : Val) (alts : Seq Alt) → op ≡ Case v alts → ⊥) (not_nested : (b : Box Block Global) → op ≡ Nested b → ⊥) where
+  plain_layer : (x : open'.Op-F Op Stmt Alt Block) → roll-Op x ≡ op → IsPlain (act_of op)
+  unfolding act_of
+  plain_layer (open'.Apply v w) e = absurd (not_apply v w (sym e ∙ rolls-Apply v w))
+  plain_layer (open'.Case v alts) e = absurd (not_case v alts (sym e ∙ rolls-Case v alts))
+  plain_layer (open'.Nested b) e = absurd (not_nested b (sym e ∙ rolls-Nested b))
+  plain_layer x e = subst IsPlain (sym (fold-roll-Op Act (Code → Code) (Shape × Code) Code act_step stmt_step alt_step block_step x) ∙ ap act_of e) tt
+
+  pub other_stays : (p : Program) (A : Solution) (x : ℕ) → act_of op ≡ apply_act p A x (act_of op)
+  other_stays p A x = plain_applies p A x (act_of op) (plain_layer (out-Op op) (roll-out-Op op))
+
+  pub other_room : (p : Program) (A : Solution) (x : ℕ) → x ≡ x + apply_act_room p A (act_of op)
+  other_room p A x = plain_room p A x (act_of op) (plain_layer (out-Op op) (roll-out-Op op))
 
 module _ (p : Program) (A : Solution) where
   -- statements that were made of others, with fresh variables from x to y
@@ -108,16 +149,23 @@ module _ (p : Program) (A : Solution) where
         alt_room a y z rest f ∙ u.room (arm (arm_of a).0 (arm_of a).1 rest) ∙ ap (λ r. x + apply_arms_room p A r) (sym (ap (λ l. arms_before l rest) (map_push arm_of from a) ∙ arms_before-push (map arm_of from) (arm_of a) rest));
   }
 
-  pub case_done : (x : ℕ) (v : Val) (made alts : List Alt) (y : ℕ) → AllApply x made alts y → act_of (Case v made) ≡ apply_act p A x (act_of (Case v alts))
+  pub alts_done : (x : ℕ) (made alts : List Alt) (y : ℕ) → AllApply x made alts y → arms_of (map arm_of made) ≡ apply_all p A x (arms_of (map arm_of alts))
   unfolding apply_act
-  case_done x v made alts y u =
-      act_of-Case v made ∙ ap (case v) (arms_of_before (map arm_of made) ∙ u.by no_arm ∙ ap (apply_all p A x) (sym (arms_of_before (map arm_of alts)))) ∙ ap (apply_act p A x) (sym (act_of-Case v alts))
+  alts_done x made alts y u = arms_of_before (map arm_of made) ∙ u.by no_arm ∙ ap (apply_all p A x) (sym (arms_of_before (map arm_of alts)))
 
-  pub case_room : (x : ℕ) (v : Val) (made alts : List Alt) (y : ℕ) → AllApply x made alts y → y ≡ x + apply_act_room p A (act_of (Case v alts))
+  pub alts_room : (x : ℕ) (made alts : List Alt) (y : ℕ) → AllApply x made alts y → y ≡ x + apply_arms_room p A (arms_of (map arm_of alts))
   unfolding apply_act_room
-  case_room x v made alts y u =
+  alts_room x made alts y u =
       let e : y ≡ x + apply_arms_room p A (arms_before (map arm_of alts) no_arm) = let h = u.room no_arm in omega arith in
-      e ∙ ap (λ r. x + apply_arms_room p A r) (sym (arms_of_before (map arm_of alts))) ∙ ap (λ o. x + apply_act_room p A o) (sym (act_of-Case v alts))
+      e ∙ ap (λ r. x + apply_arms_room p A r) (sym (arms_of_before (map arm_of alts)))
+
+  pub case_done : (x : ℕ) (v : Val) (made alts : List Alt) → arms_of (map arm_of made) ≡ apply_all p A x (arms_of (map arm_of alts)) → act_of (Case v made) ≡ apply_act p A x (act_of (Case v alts))
+  unfolding apply_act
+  case_done x v made alts h = act_of-Case v made ∙ ap (case v) h ∙ ap (apply_act p A x) (sym (act_of-Case v alts))
+
+  pub case_room : (x y : ℕ) (v : Val) (alts : List Alt) → y ≡ x + apply_arms_room p A (arms_of (map arm_of alts)) → y ≡ x + apply_act_room p A (act_of (Case v alts))
+  unfolding apply_act_room
+  case_room x y v alts h = h ∙ ap (λ o. x + apply_act_room p A o) (sym (act_of-Case v alts))
 
   -- procedures
   pub procs_push : (x : ℕ) (qs : List Procedure) (q : Procedure) → apply_procs p A x (qs ++ q ∷ []) ≡ apply_procs p A x qs ++ record q { body = apply_code p A (x + procs_room p A qs) q.body } ∷ []

@@ -3,10 +3,10 @@
 
 ghost use Rattle.std.specs.Prelude.{◌≡◌, ℕ, ◌+◌, [], ◌∷◌, ◌++◌, map, drop, Some, slice_get, IfOk, OnOk};
 ghost use Rattle.grin_syntax.specs.declared.program.Word.TheVariants.{Var};
-ghost use Rattle.grin_syntax.specs.Tree.{Code, Arms, arm, end, case, act_of, before_of, arm_of, code_of, procedure_of, program_of};
+ghost use Rattle.grin_syntax.specs.Tree.{Code, Arms, arm, end, case, act_of, before_of, arm_of, arms_of, code_of, procedure_of, program_of};
 ghost use Rattle.grin_syntax.specs.Tags.{part_from};
 ghost use Rattle.grin_syntax.specs.Fresh.{variables};
-ghost use Rattle.apply_inline.specs.Inlining.{part_body, apply_body, apply_arm, apply_arms, parts_of, others_of, else_fail, parts_room, apply_act, apply_code, apply_procs, apply_act_room, apply_code_room};
+ghost use Rattle.apply_inline.specs.Inlining.{part_body, apply_body, apply_arm, apply_arms, parts_of, others_of, else_fail, parts_room, apply_act, apply_code, apply_all, apply_procs, apply_act_room, apply_code_room, apply_arms_room};
 ghost use Rattle.points_to.specs.Found.{found};
 ghost use Rattle.apply_inline.specs.Applied.{arms_before};
 ghost use Rattle.apply_inline.specs.Parts.{SearchStarts};
@@ -41,11 +41,8 @@ impl Inlining<'_> {
     {
         let mut made = Seq::new(alloc);
         for proc in procs.into_vec() {
-            made.push(Proc {
-                name: proc.name,
-                params: proc.params,
-                body: self.block(alloc, fresh, proc.body)?,
-            })?;
+            let body = self.block(alloc, fresh, proc.body)?;
+            made.push(Proc { body, ..proc })?;
         }
         Ok(made)
     }
@@ -102,30 +99,35 @@ impl Inlining<'_> {
         match op {
             Op::Apply(v, a) => self.application(alloc, fresh, v, a),
             Op::Case(v, alts) => {
-                let mut made = Seq::new(alloc);
-                for alt in alts.into_vec() {
-                    made.push(Alt {
-                        pattern: alt.pattern,
-                        body: self.block(alloc, fresh, alt.body)?,
-                    })?;
-                }
+                let made = self.alts(alloc, fresh, alts)?;
                 Ok(Op::Case(v, made))
             }
             Op::Nested(block) => {
                 let inner = self.block(alloc, fresh, Box::into_inner(block))?;
                 Ok(Op::Nested(Box::new(alloc, inner)?))
             }
-            Op::Unit(v) => Ok(Op::Unit(v)),
-            Op::Fetch(w) => Ok(Op::Fetch(w)),
-            Op::FetchWord(w, i) => Ok(Op::FetchWord(w, i)),
-            Op::Update(w, v) => Ok(Op::Update(w, v)),
-            Op::Eval(w) => Ok(Op::Eval(w)),
-            Op::Call(f, words) => Ok(Op::Call(f, words)),
-            Op::Prim(p, a, b) => Ok(Op::Prim(p, a, b)),
-            Op::Read => Ok(Op::Read),
-            Op::Write(w) => Ok(Op::Write(w)),
-            Op::Fail => Ok(Op::Fail),
+            other => Ok(other),
         }
+    }
+
+    // The alternatives of a case.
+    #[cycle(inline)]
+    fn alts(&self, alloc: Global, fresh: &mut Fresh, alts: Seq<Alt>) -> Result<Seq<Alt>, AllocError>
+        ensures is { IfOk result (λ made. arms_of (map arm_of made)
+            ≡ apply_all (program_of self.now.known.program.now) (found self.now.known.flow.now)
+            fresh.old.next (arms_of (map arm_of alts))) }
+        ensures next { OnOk result (fresh.new.next
+            ≡ fresh.old.next + apply_arms_room (program_of self.now.known.program.now)
+            (found self.now.known.flow.now) (arms_of (map arm_of alts))) }
+    {
+        let mut made = Seq::new(alloc);
+        for alt in alts.into_vec() {
+            made.push(Alt {
+                pattern: alt.pattern,
+                body: self.block(alloc, fresh, alt.body)?,
+            })?;
+        }
+        Ok(made)
     }
 
     // The case in place of an application.

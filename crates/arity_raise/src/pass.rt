@@ -88,11 +88,5 @@ fn with_fields(alloc: Global, g: Grin, plan: Planned) -> Result<Grin, AllocError
         procs.push(raised_proc(alloc, &mut fresh, all, own, proc)?)?;
         f += 1;
     }
-    Ok(Grin {
-        tags: g.tags,
-        globals: g.globals,
-        procs,
-        start: g.start,
-        argument: g.argument,
-    })
+    Ok(Grin { procs, ..g })
 }

@@ -29,7 +29,8 @@ impl<'a> Arguments<'a> {
     /// What words say, or `None` where they are not options and operands, an option is no command's, or one of them or the operand
     /// stands twice.
     pub(crate) fn read(words: &'a [String]) -> Option<Arguments<'a>>
-        ensures { option_map said result ≡ option_and_then (gathered nothing_said) (parts_of (map string_bytes words.now)) }
+        ensures { option_map said result
+            ≡ option_and_then (gathered nothing_said) (parts_of (map string_bytes words.now)) }
     {
         let mut walk = Walk {
             arguments: Arguments {
@@ -142,7 +143,8 @@ impl<'a> Walk<'a> {
 
     /// With one word more, where no option waits for its value and no `--` has stood.
     fn begin(self, word: Word<'a>) -> Option<Walk<'a>>
-        ensures { option_map walk_seen result ≡ begun (said self.entry.arguments) (word_seen word.entry) }
+        ensures { option_map walk_seen result
+            ≡ begun (said self.entry.arguments) (word_seen word.entry) }
     {
         let arguments = self.arguments;
         match word {

@@ -103,7 +103,8 @@ impl Listing {
 impl<'a> Command<'a> {
     /// The command of a name and the words after it, or `None` where they are none.
     pub(crate) fn read(name: &str, words: &'a [String]) -> Option<Command<'a>>
-        ensures { option_map asked_by result ≡ option_and_then (command_from name.now) (parts_of (map string_bytes words.now)) }
+        ensures { option_map asked_by result
+            ≡ option_and_then (command_from name.now) (parts_of (map string_bytes words.now)) }
     {
         let arguments = Arguments::read(words)?;
         Command::from_arguments(name, arguments)

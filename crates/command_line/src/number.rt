@@ -39,7 +39,8 @@ impl Numbers {
     /// The number that the value of the option writes, or the default where it has no value. `None` where the value writes no
     /// number of the range.
     pub(crate) fn read(self, value: Option<&str>) -> Option<u64>
-        ensures { result ≡ number_of self.default self.least self.most (option_to_list (option_copied value.entry)) }
+        ensures { result ≡ number_of self.default self.least self.most
+            (option_to_list (option_copied value.entry)) }
     {
         match value {
             None => Some(self.default),
@@ -51,7 +52,8 @@ impl Numbers {
     pub(crate) fn read_u32(self, value: Option<&str>) -> Option<u32>
         requires default_fits { self.default < 2 ^ 32 }
         requires most_fits { self.most < 2 ^ 32 }
-        ensures { result ≡ number_of self.default self.least self.most (option_to_list (option_copied value.entry)) }
+        ensures { result ≡ number_of self.default self.least self.most
+            (option_to_list (option_copied value.entry)) }
     {
         let number = self.read(value)?;
         u32::try_from(number).ok()

@@ -40,19 +40,10 @@ pub fn without_copies(alloc: Global, g: Grin) -> Result<Grin, AllocError>
     let mut aliases = Aliases::new(alloc);
     let mut procs = Seq::new(alloc);
     for proc in g.procs.into_vec() {
-        procs.push(Proc {
-            name: proc.name,
-            params: proc.params,
-            body: aliases.block(alloc, proc.body)?,
-        })?;
+        let body = aliases.block(alloc, proc.body)?;
+        procs.push(Proc { body, ..proc })?;
     }
-    Ok(Grin {
-        tags: g.tags,
-        globals: g.globals,
-        procs,
-        start: g.start,
-        argument: g.argument,
-    })
+    Ok(Grin { procs, ..g })
 }
 
 /// The second half, of any program: statements that change nothing and bind what nobody uses go.
@@ -62,17 +53,8 @@ pub fn without_idle(alloc: Global, g: Grin) -> Result<Grin, AllocError>
     let mut uses = Uses::new(alloc);
     let mut procs = Seq::new(alloc);
     for proc in g.procs.into_vec() {
-        procs.push(Proc {
-            name: proc.name,
-            params: proc.params,
-            body: thin_block(&mut uses, alloc, proc.body)?,
-        })?;
+        let body = thin_block(&mut uses, alloc, proc.body)?;
+        procs.push(Proc { body, ..proc })?;
     }
-    Ok(Grin {
-        tags: g.tags,
-        globals: g.globals,
-        procs,
-        start: g.start,
-        argument: g.argument,
-    })
+    Ok(Grin { procs, ..g })
 }

@@ -9,6 +9,7 @@ use Rattle.arity_check.specs.declared.normal.Flat.TheVariants as flat
 use Rattle.arity_check.specs.Program.{Program, Function, Term, App, Let, Case, Branches, NoMore, OnCon, OnInt, OnAny}
 use Rattle.arity_check.specs.Accepted.{IsValid}
 use Rattle.core_meaning.specs.Evaluation.{nil, cons}
+pub use Rattle.seq.specs.Lists.{AllOf}
 
 abbrev pub In : List ℕ → ℕ → Type 0
 In [] x = ⊥
@@ -17,10 +18,6 @@ In (y ∷ ys) x = (x ≡ y) ⊎ In ys x
 abbrev pub InGroup : List Bound → ℕ → Type 0
 InGroup [] x = ⊥
 InGroup (b ∷ group) x = (x ≡ b.local) ⊎ InGroup group x
-
-abbrev pub AllOf : {A : Type 0} → (A → Type 0) → List A → Type 0
-AllOf P [] = Unit {0}
-AllOf P (x ∷ xs) = P x × AllOf P xs
 
 module _ (p : Program) where
   -- the constructor c has k fields

@@ -43,14 +43,16 @@ impl ProgramHeader {
     }
 
     fn passes_file(&self, len: usize) -> bool
-        ensures { IsTrue result ↔ ((0 < self.now.file_size) × (len < self.now.offset + self.now.file_size)) }
+        ensures { IsTrue result ↔ ((0 < self.now.file_size)
+            × (len < self.now.offset + self.now.file_size)) }
     {
         let end = self.offset as u64 + self.file_size as u64;
         self.file_size > 0 && (len as u64) < end
     }
 
     fn passes_memory(&self) -> bool
-        ensures { IsTrue result ↔ ((self.now.memory_size < self.now.file_size) ⊎ (2 ^ 32 < self.now.addr + self.now.memory_size)) }
+        ensures { IsTrue result ↔ ((self.now.memory_size < self.now.file_size)
+            ⊎ (2 ^ 32 < self.now.addr + self.now.memory_size)) }
     {
         let end = self.addr as u64 + self.memory_size as u64;
         self.memory_size < self.file_size || end > 0x1_0000_0000

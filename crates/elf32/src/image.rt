@@ -19,9 +19,21 @@ impl Model for Segment {
 
     ghost Value = { Part };
 
-    ghost view = { λ s. record { addr = s.addr; size = s.size; bytes = s.bytes; write = s.write; exec = s.exec } };
+    ghost view = { λ s. record {
+      addr = s.addr;
+      size = s.size;
+      bytes = s.bytes;
+      write = s.write;
+      exec = s.exec;
+    } };
 
-    ghost invariant = { λ s. IsPart (record { addr = s.addr; size = s.size; bytes = s.bytes; write = s.write; exec = s.exec }) };
+    ghost invariant = { λ s. IsPart (record {
+      addr = s.addr;
+      size = s.size;
+      bytes = s.bytes;
+      write = s.write;
+      exec = s.exec;
+    }) };
 }
 
 /// A program to run: its segments, no two of which share an address, and the address of its first instruction, which

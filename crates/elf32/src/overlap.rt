@@ -14,7 +14,9 @@ use std::collections::BTreeMap;
 /// are apart, so of those that begin before its end, the one that begins last also ends last.
 pub fn first_overlap(alloc: Global, headers: &[ProgramHeader]) -> Result<Option<u32>, AllocError>
     requires { length headers.now < 65536 }
-    ensures { IfOk result (λ o. MatchOption o ((j : ℕ) → Overlaps headers.now j → ⊥) (λ j. IsLeast (Overlaps headers.now) j)) }
+    ensures { IfOk result (λ o.
+        MatchOption o ((j : ℕ) → Overlaps headers.now j
+        → ⊥) (λ j. IsLeast (Overlaps headers.now) j)) }
 {
     let mut ends: BTreeMap<u64, u64> = BTreeMap::new(alloc);
     for j in 0..headers.len() {
@@ -61,8 +63,10 @@ fn track(
 
 /// Whether of the segments that begin before `limit`, the one that begins last ends after `start`.
 fn ends_after(ends: &BTreeMap<u64, u64>, limit: u64, start: u64) -> bool
-    ensures hit { IsTrue result → (s : ℕ) × (e : ℕ) × IsLast (get nat_cmp ends.now) limit s e × (start < e) }
-    ensures miss { result ≡ false → ((s : ℕ) → s < limit → get nat_cmp ends.now s ≡ None) ⊎ ((s : ℕ) × (e : ℕ) × IsLast (get nat_cmp ends.now) limit s e × (e ≤ start)) }
+    ensures hit { IsTrue result → (s : ℕ) × (e : ℕ) × IsLast (get nat_cmp ends.now) limit s e
+        × (start < e) }
+    ensures miss { result ≡ false → ((s : ℕ) → s < limit → get nat_cmp ends.now s ≡ None)
+        ⊎ ((s : ℕ) × (e : ℕ) × IsLast (get nat_cmp ends.now) limit s e × (e ≤ start)) }
 {
     match last_end(ends, limit) {
         Some(end) => end > start,
@@ -72,7 +76,8 @@ fn ends_after(ends: &BTreeMap<u64, u64>, limit: u64, start: u64) -> bool
 
 /// Where of the segments that begin before `limit`, the one that begins last ends.
 fn last_end(ends: &BTreeMap<u64, u64>, limit: u64) -> Option<u64>
-    ensures { MatchOption result ((s : ℕ) → s < limit → get nat_cmp ends.now s ≡ None) (λ e. (s : ℕ) × IsLast (get nat_cmp ends.now) limit s e) }
+    ensures { MatchOption result ((s : ℕ) → s < limit → get nat_cmp ends.now s ≡ None) (λ e. (s : ℕ)
+        × IsLast (get nat_cmp ends.now) limit s e) }
 {
     let (_, end) = ends.range(..limit).next_back()?;
     Some(*end)

@@ -106,7 +106,8 @@ fn is_riscv32_exec(file: &[u8]) -> bool
 
 fn are_headers_outside(file: &[u8]) -> bool
     requires { 52 ≤ length file.now }
-    ensures { IsTrue result ↔ ((0 < header_count file.now) × (length file.now < headers_offset file.now + 32 * header_count file.now)) }
+    ensures { IsTrue result ↔ ((0 < header_count file.now)
+        × (length file.now < headers_offset file.now + 32 * header_count file.now)) }
 {
     let count = half_at(file, 44) as u64;
     count > 0 && (file.len() as u64) < word_at(file, 28) as u64 + 32 * count
@@ -115,7 +116,8 @@ fn are_headers_outside(file: &[u8]) -> bool
 #[tactic(auto, unfolding(crate::specs::Headers::headers_of))]
 fn program_headers(alloc: Global, file: &[u8]) -> Result<Vec<ProgramHeader>, AllocError>
     requires long { 52 ≤ length file.now }
-    requires inside { 0 < header_count file.now → headers_offset file.now + 32 * header_count file.now ≤ length file.now }
+    requires inside { 0 < header_count file.now
+        → headers_offset file.now + 32 * header_count file.now ≤ length file.now }
     ensures headers { IfOk result (λ headers. headers.items ≡ headers_of file.now) }
     ensures few { IfOk result (λ headers. vec_len headers < 65536) }
 {
@@ -126,7 +128,8 @@ fn program_headers(alloc: Global, file: &[u8]) -> Result<Vec<ProgramHeader>, All
 /// The number of the first loadable header whose segment does not fit into a file of so many bytes or into memory.
 fn first_outside(headers: &[ProgramHeader], len: usize) -> Option<u32>
     requires { length headers.now < 65536 }
-    ensures { MatchOption result ((i : ℕ) → IsOutside len (header headers.now i) → ⊥) (λ i. IsLeast (λ k. IsOutside len (header headers.now k)) i) }
+    ensures { MatchOption result ((i : ℕ) → IsOutside len (header headers.now i)
+        → ⊥) (λ i. IsLeast (λ k. IsOutside len (header headers.now k)) i) }
 {
     for (i, header) in headers.iter().enumerate() {
         if header.is_outside(len) {
@@ -164,7 +167,8 @@ fn segments(
     headers: &[ProgramHeader],
 ) -> Result<Seq<Segment>, AllocError>
     requires { (i : ℕ) → IsOutside (length file.now) (header headers.now i) → ⊥ }
-    ensures { IfOk result (λ segments. segments ≡ map (part_of file.now) (filter is_loadable headers.now)) }
+    ensures { IfOk result (λ segments. segments
+        ≡ map (part_of file.now) (filter is_loadable headers.now)) }
 {
     let mut segments = Seq::new(alloc);
     for header in headers {
@@ -193,7 +197,8 @@ fn segment(alloc: Global, file: &[u8], header: &ProgramHeader) -> Result<Segment
 
 /// The bytes of a segment in the file; there are none where their number is 0, whatever their place.
 fn file_bytes<'a>(file: &'a [u8], header: &ProgramHeader) -> &'a [u8]
-    requires { 0 < header.now.file_size → header.now.offset + header.now.file_size ≤ length file.now }
+    requires { 0 < header.now.file_size → header.now.offset + header.now.file_size
+        ≤ length file.now }
     ensures { result.now ≡ take header.now.file_size (drop header.now.offset file.now) }
 {
     if header.file_size == 0 {

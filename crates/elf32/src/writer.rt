@@ -25,7 +25,8 @@ pub fn write(
 ) -> Result<Vec<u8>, AllocError>
     requires { FitsLayout code.now heap_bytes stack_bytes }
     ensures bytes { IfOk result (λ file. file.items ≡ file_of code.now heap_bytes stack_bytes) }
-    ensures loads { IfOk result (λ file. Loads file.items (program code.now heap_bytes stack_bytes)) }
+    ensures loads { IfOk result (λ file.
+        Loads file.items (program code.now heap_bytes stack_bytes)) }
 {
     let mut file = Vec::with_capacity(alloc, 4096 + 4 * code.len())?;
     put_headers(&mut file, 4 * code.len() as u32, heap_bytes, stack_bytes)?;
@@ -41,7 +42,8 @@ fn put_headers(
     stack_bytes: u32,
 ) -> Result<(), AllocError>
     requires { stack_bytes ≤ 0x78000000 }
-    ensures { OnOk result (file.new.items ≡ file.old.items ++ headers code_size heap_bytes stack_bytes) }
+    ensures { OnOk result (file.new.items ≡ file.old.items
+        ++ headers code_size heap_bytes stack_bytes) }
 {
     let stack = STACK_END - stack_bytes;
     put_elf_header(file)?;
@@ -53,7 +55,8 @@ fn put_headers(
 /// Appends zeros up to offset 4096, where the code begins.
 fn pad(file: &mut Vec<u8>) -> Result<(), AllocError>
     requires { length file.old.items ≤ 4096 }
-    ensures { OnOk result (file.new.items ≡ file.old.items ++ replicate (4096 - length file.old.items) 0) }
+    ensures { OnOk result (file.new.items ≡ file.old.items
+        ++ replicate (4096 - length file.old.items) 0) }
 {
     file.resize(4096, 0)?;
     Ok(())

@@ -11,4 +11,4 @@ pub mod Pieces
 pub mod Tags
 pub mod Bodies
 pub mod Statements
-pub mod Whole
+pub mod InlinedProgram

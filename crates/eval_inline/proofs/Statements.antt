@@ -2,21 +2,25 @@
 use Rattle.std.proofs.Common.{◌≡◌, ℕ, suc, ◌+◌, List, [], ◌∷◌, ◌++◌, map, refl, sym, ap, ◌∙◌, subst, arith}
 use Rattle.std.specs.declared.alloc.Global.{Global}
 use Rattle.std.specs.declared.boxed.Box.{Box}
+use Rattle.seq.specs.declared.list.Seq.{Seq}
 use Rattle.grin_syntax.specs.declared.program.Alt.{Alt}
 use Rattle.grin_syntax.specs.declared.program.Proc.{Proc}
 use Rattle.grin_syntax.specs.declared.program.Block.{Block}
 use Rattle.grin_syntax.specs.declared.program.Cell.{Cell}
-use Rattle.grin_syntax.specs.declared.program.Op.{Op}
-use Rattle.grin_syntax.specs.declared.program.Op.TheVariants.{Eval, Case, Nested}
+use Rattle.grin_syntax.specs.declared.program.Op.{Op, out-Op, roll-Op, roll-out-Op}
+use Rattle.grin_syntax.specs.declared.program.Op.TheVariants.{Eval, Case, Nested, rolls-Eval, rolls-Case, rolls-Nested}
+use Rattle.grin_syntax.specs.declared.program.Op.TheOpen as open'
+use Rattle.grin_syntax.specs.declared.program.Op.TheFolds.{fold-roll-Op}
 use Rattle.grin_syntax.specs.declared.program.Stmt.{Stmt}
 use Rattle.grin_syntax.specs.declared.program.Stmt.TheVariants.{Store, Bind}
+use Rattle.grin_syntax.specs.declared.program.Shape.{Shape}
 use Rattle.grin_syntax.specs.declared.program.Target.{Target}
 use Rattle.grin_syntax.specs.declared.program.Target.TheVariants.{Node as NodeTarget}
 use Rattle.grin_syntax.specs.declared.program.Val.{Val}
 use Rattle.grin_syntax.specs.declared.program.Val.TheVariants.{NodeVar}
 use Rattle.grin_syntax.specs.declared.program.VarId.{VarId}
 use Rattle.grin_syntax.specs.declared.program.Word.{Word}
-use Rattle.grin_syntax.specs.Tree.{Code, end, bind, Act, fetch, eval, case, nested, Arms, no_arm, arm, Procedure, Program, procedure_of, act_of, before_of, arm_of, code_of, all_before, arms_of}
+use Rattle.grin_syntax.specs.Tree.{Code, end, bind, Act, fetch, eval, case, nested, Arms, no_arm, arm, Procedure, Program, procedure_of, act_of, before_of, arm_of, code_of, all_before, arms_of, act_step, stmt_step, alt_step, block_step}
 use Rattle.grin_syntax.proofs.TreeOf.{before_of-Store, before_of-Bind, code_of-parts, act_of-Eval, act_of-Case, act_of-Nested}
 use Rattle.grin_syntax.specs.Fresh.{variable}
 use Rattle.grin_syntax.proofs.Pieces.{all_arms, all_arms_none, all_arms_push, all_before_push}
@@ -30,6 +34,18 @@ IsPlain (eval a) = ⊥
 IsPlain (case v as') = ⊥
 IsPlain (nested b) = ⊥
 IsPlain _ = Unit {0}
+
+-- an operation that is no evaluation, no case and no nested block
+module _ (op : Op) (not_eval : (w : Word) → op ≡ Eval w → ⊥) (not_case : (v : Val) (alts : Seq Alt) → op ≡ Case v alts → ⊥) (not_nested : (b : Box Block Global) → op ≡ Nested b → ⊥) where
+  plain_layer : (x : open'.Op-F Op Stmt Alt Block) → roll-Op x ≡ op → IsPlain (act_of op)
+  unfolding act_of
+  plain_layer (open'.Eval w) e = absurd (not_eval w (sym e ∙ rolls-Eval w))
+  plain_layer (open'.Case v alts) e = absurd (not_case v alts (sym e ∙ rolls-Case v alts))
+  plain_layer (open'.Nested b) e = absurd (not_nested b (sym e ∙ rolls-Nested b))
+  plain_layer x e = subst IsPlain (sym (fold-roll-Op Act (Code → Code) (Shape × Code) Code act_step stmt_step alt_step block_step x) ∙ ap act_of e) tt
+
+  pub other_is_plain : IsPlain (act_of op)
+  other_is_plain = plain_layer (out-Op op) (roll-out-Op op)
 
 module _ (p : Program) (A : Solution) where
   -- the statements `made`, and what becomes of what follows, with fresh variables from `next` on, are what becomes of the statements `from` and what follows
@@ -174,14 +190,14 @@ module _ (p : Program) (A : Solution) where
       e ∙ ap (λ k. start + all_room p A k) (all_arms_none (map arm_of from))
 
   -- a case, when all alternatives are made
-  pub case_done : (x next : ℕ) (ss : List Stmt) (op : Op) (v v' : Val) (made from alts : List Alt) → op ≡ Case v alts → v' ≡ v → from ≡ alts → ArmsSoFar x next made from → Follows p A x (act_of op) ss ss (act_of (Case v' made))
-  case_done x next ss op v v' made from alts e same y f =
-      same_follows x ss ss (act_of op) (case v (arms_of (map arm_of alts))) (act_of (Case v' made)) (case v (arms_of (map arm_of made))) (ap act_of e ∙ act_of-Case v alts) (act_of-Case v' made ∙ ap (λ k. case k (arms_of (map arm_of made))) same)
-      (case_follows x ss v (arms_of (map arm_of alts)) (arms_of (map arm_of made)) (arms_done x next made from f ∙ ap (λ l. eval_all p A x (arms_of (map arm_of l))) y))
+  pub case_done : (x : ℕ) (ss : List Stmt) (op : Op) (v : Val) (made alts : List Alt) → op ≡ Case v alts → arms_of (map arm_of made) ≡ eval_all p A x (arms_of (map arm_of alts)) → Follows p A x (act_of op) ss ss (act_of (Case v made))
+  case_done x ss op v made alts e h =
+      same_follows x ss ss (act_of op) (case v (arms_of (map arm_of alts))) (act_of (Case v made)) (case v (arms_of (map arm_of made))) (ap act_of e ∙ act_of-Case v alts) (act_of-Case v made)
+      (case_follows x ss v (arms_of (map arm_of alts)) (arms_of (map arm_of made)) h)
 
-  pub case_room : (x next : ℕ) (op : Op) (v : Val) (made from alts : List Alt) → op ≡ Case v alts → from ≡ alts → ArmsSoFar x next made from → next ≡ x + act_room p A (act_of op)
+  pub case_room : (x next : ℕ) (op : Op) (v : Val) (alts : List Alt) → op ≡ Case v alts → next ≡ x + all_room p A (arms_of (map arm_of alts)) → next ≡ x + act_room p A (act_of op)
   unfolding act_room
-  case_room x next op v made from alts e y f = arms_room_done x next made from f ∙ ap (λ l. x + all_room p A (arms_of (map arm_of l))) y ∙ sym (ap (λ o. x + act_room p A o) (ap act_of e ∙ act_of-Case v alts))
+  case_room x next op v alts e h = h ∙ sym (ap (λ o. x + act_room p A o) (ap act_of e ∙ act_of-Case v alts))
 
   -- a nested block
   pub nested_done : (x : ℕ) (ss : List Stmt) (op : Op) (b b' : Box Block Global) (inner made : Block) → op ≡ Nested b → inner ≡ b.value → code_of made ≡ eval_code p A x (code_of inner) → b'.value ≡ made → Follows p A x (act_of op) ss ss (act_of (Nested b'))

@@ -5,8 +5,8 @@ ghost use Rattle.std.specs.Prelude.{◌≡◌, ◌<◌, ◌+◌, suc, length, ma
 ghost use Rattle.grin_syntax.specs.declared.program.Word.TheVariants.{Var};
 ghost use Rattle.grin_syntax.specs.declared.program.Val.TheVariants.{NodeVar};
 ghost use Rattle.grin_syntax.specs.declared.program.Target.TheVariants.{Nothing, Node as NodeTarget};
-ghost use Rattle.grin_syntax.specs.Tree.{Code, Arms, arm, end, bind, case, call, update, unit, act_of, before_of, arm_of, code_of, all_before, program_of};
-ghost use Rattle.eval_inline.specs.Inlining.{tags_of, eval_arm, eval_arms, arms_room, fields_at, eval_code, code_room, act_room};
+ghost use Rattle.grin_syntax.specs.Tree.{Code, Arms, arm, end, bind, case, call, update, unit, act_of, before_of, arm_of, arms_of, code_of, all_before, program_of};
+ghost use Rattle.eval_inline.specs.Inlining.{tags_of, eval_arm, eval_arms, arms_room, fields_at, eval_code, eval_all, code_room, act_room, all_room};
 ghost use Rattle.points_to.specs.Found.{found};
 ghost use Rattle.eval_inline.specs.Inlined.{Follows};
 
@@ -106,30 +106,35 @@ impl Inlining<'_> {
                 self.evaluation(alloc, fresh, node, word)
             }
             Op::Case(v, alts) => {
-                let mut made = Seq::new(alloc);
-                for alt in alts.into_vec() {
-                    made.push(Alt {
-                        pattern: alt.pattern,
-                        body: self.block(alloc, fresh, alt.body)?,
-                    })?;
-                }
+                let made = self.alts(alloc, fresh, alts)?;
                 Ok(Op::Case(v, made))
             }
             Op::Nested(block) => {
                 let inner = self.block(alloc, fresh, Box::into_inner(block))?;
                 Ok(Op::Nested(Box::new(alloc, inner)?))
             }
-            Op::Unit(v) => Ok(Op::Unit(v)),
-            Op::Fetch(w) => Ok(Op::Fetch(w)),
-            Op::FetchWord(w, i) => Ok(Op::FetchWord(w, i)),
-            Op::Update(w, v) => Ok(Op::Update(w, v)),
-            Op::Apply(v, w) => Ok(Op::Apply(v, w)),
-            Op::Call(f, words) => Ok(Op::Call(f, words)),
-            Op::Prim(p, a, b) => Ok(Op::Prim(p, a, b)),
-            Op::Read => Ok(Op::Read),
-            Op::Write(w) => Ok(Op::Write(w)),
-            Op::Fail => Ok(Op::Fail),
+            other => Ok(other),
         }
+    }
+
+    // The alternatives of a case.
+    #[cycle(inline)]
+    fn alts(&self, alloc: Global, fresh: &mut Fresh, alts: Seq<Alt>) -> Result<Seq<Alt>, AllocError>
+        ensures is { IfOk result (λ made. arms_of (map arm_of made)
+            ≡ eval_all (program_of self.now.program.now) (found self.now.flow.now) fresh.old.next
+            (arms_of (map arm_of alts))) }
+        ensures next { OnOk result (fresh.new.next
+            ≡ fresh.old.next + all_room (program_of self.now.program.now) (found self.now.flow.now)
+            (arms_of (map arm_of alts))) }
+    {
+        let mut made = Seq::new(alloc);
+        for alt in alts.into_vec() {
+            made.push(Alt {
+                pattern: alt.pattern,
+                body: self.block(alloc, fresh, alt.body)?,
+            })?;
+        }
+        Ok(made)
     }
 
     // The case over the tags of the node that was fetched from the cell of a word.

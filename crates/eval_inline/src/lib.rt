@@ -41,11 +41,8 @@ pub fn inline(alloc: Global, mut g: Grin, flow: &Flow) -> Result<Grin, AllocErro
     let inlining = Inlining { program: &g, flow };
     let mut made = Seq::new(alloc);
     for proc in procs.into_vec() {
-        made.push(Proc {
-            name: proc.name,
-            params: proc.params,
-            body: inlining.block(alloc, &mut fresh, proc.body)?,
-        })?;
+        let body = inlining.block(alloc, &mut fresh, proc.body)?;
+        made.push(Proc { body, ..proc })?;
     }
     g.procs = made;
     Ok(g)

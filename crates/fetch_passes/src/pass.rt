@@ -58,11 +58,5 @@ pub fn with_words(alloc: Global, g: Grin) -> Result<Grin, AllocError>
     ensures { IfOk result (λ h. program_of h ≡ split (program_of g)) }
 {
     let procs = split_procs(alloc, &g.tags, g.procs.as_slice())?;
-    Ok(Grin {
-        tags: g.tags,
-        globals: g.globals,
-        procs,
-        start: g.start,
-        argument: g.argument,
-    })
+    Ok(Grin { procs, ..g })
 }

@@ -45,7 +45,12 @@ impl MemShelf {
     /// A shelf of these files, none of which is open; the calls with these numbers, counted from 0 over all calls, are to
     /// fail. It takes no memory.
     pub fn new(files: Vec<MemFile>, fail: Vec<u64>) -> MemShelf
-        ensures { result ≡ record { files = record { named = named_files files.items; opened = None }; calls = no_calls fail.items } }
+        ensures { result ≡ record {
+          files =
+              record { named = named_files files.items; opened = None };
+          calls = no_calls
+              fail.items;
+        } }
     {
         MemShelf {
             folder: Folder::new(files),
@@ -65,7 +70,8 @@ impl Shelf for MemShelf {
 
     ghost open_gives = { λ s name well t. (well ≡ is_opened s name) × (t ≡ after_open s name) };
 
-    ghost read_gives = { λ s room answer t. (answer ≡ provided s room) × (t ≡ after_file_read s room) };
+    ghost read_gives = { λ s room answer t. (answer ≡ provided s room)
+        × (t ≡ after_file_read s room) };
 
     ghost told = { λ _. refl };
 
@@ -148,16 +154,22 @@ impl Model for MemSink {
 
     ghost Value = { Store };
 
-    ghost view = { λ s. record { taken = s.bytes.items; capacity = s.capacity; calls = s.schedule } };
+    ghost view = { λ s. record {
+      taken = s.bytes.items;
+      capacity = s.capacity;
+      calls = s.schedule;
+    } };
 
-    ghost invariant = { λ s. (length s.bytes.items ≤ s.capacity) × (s.capacity ≤ vec_capacity s.bytes) };
+    ghost invariant = { λ s. (length s.bytes.items ≤ s.capacity)
+        × (s.capacity ≤ vec_capacity s.bytes) };
 }
 
 impl MemSink {
     /// A sink that takes at most so many bytes, whose memory it takes here; the calls with these numbers, counted from 0,
     /// are to fail. `AllocError` where the memory is wanting.
     pub fn new(alloc: Global, capacity: usize, fail: Vec<u64>) -> Result<MemSink, AllocError>
-        ensures { IfOk result (λ s. s ≡ record { taken = []; capacity = capacity; calls = no_calls fail.items }) }
+        ensures { IfOk result (λ s. s
+            ≡ record { taken = []; capacity = capacity; calls = no_calls fail.items }) }
     {
         let bytes = Vec::with_capacity(alloc, capacity)?;
         Ok(MemSink {

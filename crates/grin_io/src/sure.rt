@@ -26,7 +26,11 @@ impl Model for SureShelf {
 impl SureShelf {
     /// A shelf of these files, none of which is open. It takes no memory.
     pub fn new(files: Vec<MemFile>) -> SureShelf
-        ensures { result ≡ record { files = record { named = named_files files.items; opened = None }; faults = 0 } }
+        ensures { result ≡ record {
+          files =
+              record { named = named_files files.items; opened = None };
+          faults = 0;
+        } }
     {
         SureShelf {
             folder: Folder::new(files),
@@ -44,9 +48,11 @@ impl Shelf for SureShelf {
 
     ghost faults = { λ s. s.faults };
 
-    ghost open_gives = { λ s name well t. (well ≡ is_some (file_named name s.files.named)) × (t ≡ after_sure_open s name) };
+    ghost open_gives = { λ s name well t. (well ≡ is_some (file_named name s.files.named))
+        × (t ≡ after_sure_open s name) };
 
-    ghost read_gives = { λ s room answer t. (answer ≡ Some (readable s.files room)) × (t ≡ after_sure_read s room) };
+    ghost read_gives = { λ s room answer t. (answer ≡ Some (readable s.files room))
+        × (t ≡ after_sure_read s room) };
 
     ghost told = { λ _. refl };
 
@@ -94,7 +100,8 @@ impl Source for SureSource {
 
     ghost faults = { λ _. 0 };
 
-    ghost read_gives = { λ s room answer t. (answer ≡ Some (min (length s) room)) × (t ≡ drop (min (length s) room) s) };
+    ghost read_gives = { λ s room answer t. (answer ≡ Some (min (length s) room))
+        × (t ≡ drop (min (length s) room) s) };
 
     fn read(&mut self, buf: &mut [u8]) -> Result<usize, Failed> {
         let count = fill(&self.bytes[self.given..], buf);

@@ -7,6 +7,7 @@ pub mod Follows
 pub mod Names
 pub mod Slim
 pub mod Reached
+pub mod Pieces
 pub mod Ready
 pub mod Told
 pub mod Looking

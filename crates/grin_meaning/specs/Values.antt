@@ -11,6 +11,7 @@ use Rattle.grin_syntax.specs.declared.program.Shape.{Shape}
 use Rattle.grin_syntax.specs.declared.program.Shape.TheVariants.{Node as NodeShape, Int, Else}
 use Rattle.grin_syntax.specs.Tree.{Program}
 use Rattle.numbers.specs.Numbers.{same_number}
+pub use Rattle.seq.specs.Lists.{and_then, each}
 
 -- what a word stands for
 pub data Datum : Type 0 where
@@ -73,15 +74,6 @@ then_do (stops s w) k = stops s w
 abbrev pub need : {A : Type 0} → Option A → World → (A → Answer) → Answer
 need None w k = stops missing w
 need (Some a) w k = k a
-
-abbrev pub and_then : {A B : Type 0} → Option A → (A → Option B) → Option B
-and_then None k = None
-and_then (Some a) k = k a
-
--- all of them, where each is there
-abbrev pub each : {A B : Type 0} → (A → Option B) → List A → Option (List B)
-each f [] = Some []
-each f (a ∷ as') = and_then (f a) (λ b. and_then (each f as') (λ bs. Some (b ∷ bs)))
 
 -- a variable with its value
 abbrev pub Binding : Type 0

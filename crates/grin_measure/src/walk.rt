@@ -9,9 +9,11 @@ ghost use Rattle.grin_measure.specs.Counts.{sum, of_act, of_code, of_arms, of_ce
 use crate::counts::{Counts, called, cell, parameters, pattern, target, val};
 use grin_syntax::{Alt, Block, Cell, Op, Proc, Stmt};
 
-/// The words for the value of an operation that is bound, beside those of its target.
-fn bound_words(op: &Op) -> u64
-    ensures { result ≡ node_words (act_of op.now) }
+/// The words for the value of an operation: 14 for a call and the fetch of a whole node, which may give any node, and otherwise
+/// this many.
+fn value_words(op: &Op, otherwise: u64) -> u64
+    ensures bound { otherwise ≡ 0 → result ≡ node_words (act_of op.now) }
+    ensures last { otherwise ≡ 1 → result ≡ end_words (act_of op.now) }
 {
     match op {
         Op::Call(_, _) | Op::Fetch(_) => 14,
@@ -25,27 +27,7 @@ fn bound_words(op: &Op) -> u64
         | Op::Write(_)
         | Op::Case(_, _)
         | Op::Nested(_)
-        | Op::Fail => 0,
-    }
-}
-
-/// The words for the value of an operation that ends a block.
-fn last_words(op: &Op) -> u64
-    ensures { result ≡ end_words (act_of op.now) }
-{
-    match op {
-        Op::Call(_, _) | Op::Fetch(_) => 14,
-        Op::Unit(_)
-        | Op::FetchWord(_, _)
-        | Op::Update(_, _)
-        | Op::Eval(_)
-        | Op::Apply(_, _)
-        | Op::Prim(_, _, _)
-        | Op::Read
-        | Op::Write(_)
-        | Op::Case(_, _)
-        | Op::Nested(_)
-        | Op::Fail => 1,
+        | Op::Fail => otherwise,
     }
 }
 
@@ -74,7 +56,7 @@ fn block(block: &Block) -> Counts
     for stmt in block.stmts.as_slice() {
         counts = counts.and(statement(stmt));
     }
-    let last = Counts::words(last_words(&block.last));
+    let last = Counts::words(value_words(&block.last, 1));
     counts.and(last.and(operation(&block.last)))
 }
 
@@ -85,7 +67,7 @@ fn statement(stmt: &Stmt) -> Counts
     match stmt {
         Stmt::Store(stored) => cells(stored.as_slice()),
         Stmt::Bind(to, op) => {
-            let bound = Counts::words(bound_words(op));
+            let bound = Counts::words(value_words(op, 0));
             target(to).and(bound.and(operation(op)))
         }
     }

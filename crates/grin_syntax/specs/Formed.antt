@@ -18,10 +18,7 @@ use Rattle.grin_syntax.specs.declared.program.GlobalCell.{GlobalCell}
 use Rattle.grin_syntax.specs.Tree.{Code, end, store, bind, Act, unit, fetch, fetch_word, update, eval, apply, call, prim, read, write, case, nested, fail, Arms, no_arm, arm, Procedure, Program}
 use Rattle.grin_syntax.specs.Binders.{times, numbers_of, shape_vars, cell_vars, program_vars, program_sites}
 use Rattle.grin_syntax.specs.Tags.{is_part}
-
-abbrev pub AllOf : {A : Type 0} → (A → Type 0) → List A → Type 0
-AllOf P [] = Unit {0}
-AllOf P (x ∷ xs) = P x × AllOf P xs
+pub use Rattle.seq.specs.Lists.{AllOf}
 
 -- The variables in scope: those that stand for a node, and those that stand for a word.
 pub record Scope : Type 0 where

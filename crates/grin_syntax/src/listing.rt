@@ -34,7 +34,8 @@ pub fn list(alloc: Global, g: &Grin) -> Result<Vec<u8>, AllocError>
 }
 
 fn put_globals(text: &mut Line, g: &Grin) -> Result<(), AllocError>
-    ensures { OnOk result (text.new ≡ text.old ++ flat_map (global_line (program_of g.now)) g.now.globals) }
+    ensures { OnOk result (text.new ≡ text.old
+        ++ flat_map (global_line (program_of g.now)) g.now.globals) }
 {
     for cell in g.globals.as_slice() {
         put_global(text, g, cell)?;
@@ -59,8 +60,10 @@ fn put_proc(
     ranks: &Ranks,
     proc: &Proc,
 ) -> Result<(), AllocError>
-    requires { tree.get nat_cmp ranks.now ≡ (λ x. place x (procedure_vars (procedure_of proc.now))) }
-    ensures { OnOk result (text.new ≡ text.old ++ procedure_text (program_of g.now) (procedure_of proc.now)) }
+    requires { tree.get nat_cmp ranks.now
+        ≡ (λ x. place x (procedure_vars (procedure_of proc.now))) }
+    ensures { OnOk result (text.new ≡ text.old
+        ++ procedure_text (program_of g.now) (procedure_of proc.now)) }
 {
     let mut margin = Line::new(alloc);
     margin.deepen()?;
@@ -105,7 +108,8 @@ fn put_var(text: &mut Line, ranks: &Ranks, var: VarId) -> Result<(), AllocError>
 
 // Each variable after a space.
 fn put_vars(text: &mut Line, ranks: &Ranks, vars: &[VarId]) -> Result<(), AllocError>
-    ensures { OnOk result (text.new ≡ text.old ++ spaced (var_text (tree.get nat_cmp ranks.now)) vars.now) }
+    ensures { OnOk result (text.new ≡ text.old
+        ++ spaced (var_text (tree.get nat_cmp ranks.now)) vars.now) }
 {
     for var in vars {
         text.put(" ")?;
@@ -116,7 +120,8 @@ fn put_vars(text: &mut Line, ranks: &Ranks, vars: &[VarId]) -> Result<(), AllocE
 
 // The variables with a space between them.
 fn put_joined_vars(text: &mut Line, ranks: &Ranks, vars: &[VarId]) -> Result<(), AllocError>
-    ensures { OnOk result (text.new ≡ text.old ++ joined (var_text (tree.get nat_cmp ranks.now)) vars.now) }
+    ensures { OnOk result (text.new ≡ text.old
+        ++ joined (var_text (tree.get nat_cmp ranks.now)) vars.now) }
 {
     match vars {
         [] => Ok(()),
@@ -128,7 +133,8 @@ fn put_joined_vars(text: &mut Line, ranks: &Ranks, vars: &[VarId]) -> Result<(),
 }
 
 fn put_word(text: &mut Line, g: &Grin, ranks: &Ranks, word: Word) -> Result<(), AllocError>
-    ensures { OnOk result (text.new ≡ text.old ++ word_text (program_of g.now) (tree.get nat_cmp ranks.now) word) }
+    ensures { OnOk result (text.new ≡ text.old
+        ++ word_text (program_of g.now) (tree.get nat_cmp ranks.now) word) }
 {
     match word {
         Word::Lit(number) => text.signed(number),
@@ -146,7 +152,8 @@ fn put_word(text: &mut Line, g: &Grin, ranks: &Ranks, word: Word) -> Result<(), 
 
 // Each word after a space.
 fn put_words(text: &mut Line, g: &Grin, ranks: &Ranks, words: &[Word]) -> Result<(), AllocError>
-    ensures { OnOk result (text.new ≡ text.old ++ spaced (word_text (program_of g.now) (tree.get nat_cmp ranks.now)) words.now) }
+    ensures { OnOk result (text.new ≡ text.old
+        ++ spaced (word_text (program_of g.now) (tree.get nat_cmp ranks.now)) words.now) }
 {
     for word in words {
         text.put(" ")?;
@@ -157,7 +164,8 @@ fn put_words(text: &mut Line, g: &Grin, ranks: &Ranks, words: &[Word]) -> Result
 
 // The words with a space between them.
 fn put_joined(text: &mut Line, g: &Grin, ranks: &Ranks, words: &[Word]) -> Result<(), AllocError>
-    ensures { OnOk result (text.new ≡ text.old ++ joined (word_text (program_of g.now) (tree.get nat_cmp ranks.now)) words.now) }
+    ensures { OnOk result (text.new ≡ text.old
+        ++ joined (word_text (program_of g.now) (tree.get nat_cmp ranks.now)) words.now) }
 {
     match words {
         [] => Ok(()),
@@ -169,7 +177,8 @@ fn put_joined(text: &mut Line, g: &Grin, ranks: &Ranks, words: &[Word]) -> Resul
 }
 
 fn put_val(text: &mut Line, g: &Grin, ranks: &Ranks, val: &Val) -> Result<(), AllocError>
-    ensures { OnOk result (text.new ≡ text.old ++ val_text (program_of g.now) (tree.get nat_cmp ranks.now) val.now) }
+    ensures { OnOk result (text.new ≡ text.old
+        ++ val_text (program_of g.now) (tree.get nat_cmp ranks.now) val.now) }
 {
     match val {
         Val::NodeVar(var) => put_var(text, ranks, *var),
@@ -189,7 +198,8 @@ fn put_val(text: &mut Line, g: &Grin, ranks: &Ranks, val: &Val) -> Result<(), Al
 }
 
 fn put_target(text: &mut Line, ranks: &Ranks, target: &Target) -> Result<(), AllocError>
-    ensures { OnOk result (text.new ≡ text.old ++ target_text (tree.get nat_cmp ranks.now) target.now) }
+    ensures { OnOk result (text.new ≡ text.old
+        ++ target_text (tree.get nat_cmp ranks.now) target.now) }
 {
     match target {
         Target::Nothing => Ok(()),
@@ -210,7 +220,8 @@ fn put_target(text: &mut Line, ranks: &Ranks, target: &Target) -> Result<(), All
 }
 
 fn put_shape(text: &mut Line, g: &Grin, ranks: &Ranks, shape: &Shape) -> Result<(), AllocError>
-    ensures { OnOk result (text.new ≡ text.old ++ shape_text (program_of g.now) (tree.get nat_cmp ranks.now) shape.now) }
+    ensures { OnOk result (text.new ≡ text.old
+        ++ shape_text (program_of g.now) (tree.get nat_cmp ranks.now) shape.now) }
 {
     match shape {
         Shape::Node(tag, vars) => {
@@ -235,7 +246,8 @@ fn put_cell(
     ranks: &Ranks,
     cell: &Cell,
 ) -> Result<(), AllocError>
-    ensures { OnOk result (text.new ≡ text.old ++ cell_line (program_of g.now) (tree.get nat_cmp ranks.now) margin.now cell.now) }
+    ensures { OnOk result (text.new ≡ text.old
+        ++ cell_line (program_of g.now) (tree.get nat_cmp ranks.now) margin.now cell.now) }
 {
     text.line(margin)?;
     put_var(text, ranks, cell.var)?;
@@ -251,7 +263,9 @@ fn put_cells(
     ranks: &Ranks,
     cells: &[Cell],
 ) -> Result<(), AllocError>
-    ensures { OnOk result (text.new ≡ text.old ++ flat_map (cell_line (program_of g.now) (tree.get nat_cmp ranks.now) margin.now) cells.now) }
+    ensures { OnOk result (text.new ≡ text.old
+        ++ flat_map (cell_line (program_of g.now) (tree.get nat_cmp ranks.now) margin.now)
+        cells.now) }
 {
     for cell in cells {
         put_cell(text, margin, g, ranks, cell)?;
@@ -274,7 +288,8 @@ fn operator_name(op: PrimOp) -> &'static str
 }
 
 fn put_name(text: &mut Line, g: &Grin, proc: ProcId) -> Result<(), AllocError>
-    ensures { OnOk result (text.new ≡ text.old ++ procedure_name (slice_get (program_of g.now).procs proc.0)) }
+    ensures { OnOk result (text.new ≡ text.old
+        ++ procedure_name (slice_get (program_of g.now).procs proc.0)) }
 {
     match g.procs.get(proc.0 as usize) {
         Some(proc) => text.bytes(proc.name.as_slice()),
@@ -284,7 +299,8 @@ fn put_name(text: &mut Line, g: &Grin, proc: ProcId) -> Result<(), AllocError>
 
 // The first line of an operation.
 fn put_first_line(text: &mut Line, g: &Grin, ranks: &Ranks, op: &Op) -> Result<(), AllocError>
-    ensures { OnOk result (text.new ≡ text.old ++ first_line (program_of g.now) (tree.get nat_cmp ranks.now) (act_of op.now)) }
+    ensures { OnOk result (text.new ≡ text.old
+        ++ first_line (program_of g.now) (tree.get nat_cmp ranks.now) (act_of op.now)) }
 {
     match op {
         Op::Unit(val) => {
@@ -352,7 +368,9 @@ fn put_op(
     ranks: &Ranks,
     op: &Op,
 ) -> Result<(), AllocError>
-    ensures { OnOk result ((text.new ≡ text.old ++ act_text (program_of g.now) (tree.get nat_cmp ranks.now) margin.old (act_of op.now)) × (margin.new ≡ margin.old)) }
+    ensures { OnOk result ((text.new ≡ text.old
+        ++ act_text (program_of g.now) (tree.get nat_cmp ranks.now) margin.old (act_of op.now))
+        × (margin.new ≡ margin.old)) }
 {
     put_first_line(text, g, ranks, op)?;
     text.put("\n")?;
@@ -370,7 +388,8 @@ fn put_rest(
     ranks: &Ranks,
     op: &Op,
 ) -> Result<(), AllocError>
-    ensures text { OnOk result (text.new ≡ text.old ++ rest_text (program_of g.now) (tree.get nat_cmp ranks.now) margin.old (act_of op.now)) }
+    ensures text { OnOk result (text.new ≡ text.old
+        ++ rest_text (program_of g.now) (tree.get nat_cmp ranks.now) margin.old (act_of op.now)) }
     ensures margin { OnOk result (margin.new ≡ margin.old) }
 {
     match op {
@@ -405,7 +424,9 @@ fn put_deeper(
     ranks: &Ranks,
     block: &Block,
 ) -> Result<(), AllocError>
-    ensures { OnOk result ((text.new ≡ text.old ++ code_text (program_of g.now) (tree.get nat_cmp ranks.now) (deeper margin.old) (code_of block.now)) × (margin.new ≡ margin.old)) }
+    ensures { OnOk result ((text.new ≡ text.old
+        ++ code_text (program_of g.now) (tree.get nat_cmp ranks.now) (deeper margin.old)
+        (code_of block.now)) × (margin.new ≡ margin.old)) }
 {
     let len = margin.len();
     margin.deepen()?;
@@ -423,7 +444,9 @@ fn put_alts(
     ranks: &Ranks,
     alts: &[Alt],
 ) -> Result<(), AllocError>
-    ensures { OnOk result ((text.new ≡ text.old ++ flat_map (alt_text (program_of g.now) (tree.get nat_cmp ranks.now) (deeper margin.old)) alts.now) × (margin.new ≡ margin.old)) }
+    ensures { OnOk result ((text.new ≡ text.old
+        ++ flat_map (alt_text (program_of g.now) (tree.get nat_cmp ranks.now) (deeper margin.old))
+        alts.now) × (margin.new ≡ margin.old)) }
 {
     let len = margin.len();
     margin.deepen()?;
@@ -445,7 +468,9 @@ fn put_stmt(
     ranks: &Ranks,
     stmt: &Stmt,
 ) -> Result<(), AllocError>
-    ensures { OnOk result ((text.new ≡ text.old ++ stmt_text (program_of g.now) (tree.get nat_cmp ranks.now) margin.old stmt.now) × (margin.new ≡ margin.old)) }
+    ensures { OnOk result ((text.new ≡ text.old
+        ++ stmt_text (program_of g.now) (tree.get nat_cmp ranks.now) margin.old stmt.now)
+        × (margin.new ≡ margin.old)) }
 {
     text.line(margin)?;
     match stmt {
@@ -464,7 +489,9 @@ fn put_store(
     ranks: &Ranks,
     cells: &[Cell],
 ) -> Result<(), AllocError>
-    ensures { OnOk result ((text.new ≡ text.old ++ codes "store\n" ++ flat_map (cell_line (program_of g.now) (tree.get nat_cmp ranks.now) (deeper margin.old)) cells.now) × (margin.new ≡ margin.old)) }
+    ensures { OnOk result ((text.new ≡ text.old ++ codes "store\n"
+        ++ flat_map (cell_line (program_of g.now) (tree.get nat_cmp ranks.now) (deeper margin.old))
+        cells.now) × (margin.new ≡ margin.old)) }
 {
     let len = margin.len();
     margin.deepen()?;
@@ -482,7 +509,9 @@ fn put_block(
     ranks: &Ranks,
     block: &Block,
 ) -> Result<(), AllocError>
-    ensures { OnOk result ((text.new ≡ text.old ++ code_text (program_of g.now) (tree.get nat_cmp ranks.now) margin.old (code_of block.now)) × (margin.new ≡ margin.old)) }
+    ensures { OnOk result ((text.new ≡ text.old
+        ++ code_text (program_of g.now) (tree.get nat_cmp ranks.now) margin.old (code_of block.now))
+        × (margin.new ≡ margin.old)) }
 {
     for stmt in block.stmts.as_slice() {
         put_stmt(text, margin, g, ranks, stmt)?;

@@ -19,7 +19,8 @@ pub type Ranks = BTreeMap<u32, usize>;
 
 /// The ranks of the variables that a procedure binds: their places, from 0, in the order of its text.
 pub fn ranks(alloc: Global, proc: &Proc) -> Result<Ranks, AllocError>
-    ensures { IfOk result (λ ranks. tree.get nat_cmp ranks ≡ (λ x. place x (procedure_vars (procedure_of proc.now)))) }
+    ensures { IfOk result (λ ranks. tree.get nat_cmp ranks
+        ≡ (λ x. place x (procedure_vars (procedure_of proc.now)))) }
 {
     let mut vars = Seq::new(alloc);
     note_vars(&mut vars, proc.params.as_slice())?;
@@ -40,7 +41,8 @@ fn places(alloc: Global, vars: &[u32]) -> Result<Ranks, AllocError>
 
 // A number that has no place yet stands at this one.
 fn note_place(ranks: &mut Ranks, var: u32, at: usize) -> Result<(), AllocError>
-    ensures { OnOk result ((x : ℕ) → tree.get nat_cmp ranks.new x ≡ or_else (tree.get nat_cmp ranks.old x) (cond (nat_eq x var) (Some at) None)) }
+    ensures { OnOk result ((x : ℕ) → tree.get nat_cmp ranks.new x
+        ≡ or_else (tree.get nat_cmp ranks.old x) (cond (nat_eq x var) (Some at) None)) }
 {
     if ranks.contains_key(&var) {
         return Ok(());

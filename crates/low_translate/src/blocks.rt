@@ -52,7 +52,9 @@ impl Plan<'_> {
         cell: &Word,
         i: u32,
     ) -> Result<(), AllocError>
-        ensures is { OnOk result (Adds made.old made.new (to_first vars.now (λ x. load_word self.now.width x (operand_of cell.now) i))) }
+        ensures is { OnOk result
+            (Adds made.old made.new
+            (to_first vars.now (λ x. load_word self.now.width x (operand_of cell.now) i))) }
         ensures ranged { WordRanged cell.now }
     {
         let cell = operand(cell);
@@ -72,7 +74,10 @@ impl Plan<'_> {
         cell: &Word,
         v: &Val,
     ) -> Result<(), AllocError>
-        ensures is { OnOk result (Adds made.old made.new (λ c. saves (operand_of cell.now) 0 (fitted self.now.width (operands_of v.now)) (sets vars.now [] c))) }
+        ensures is { OnOk result
+            (Adds made.old made.new (λ c.
+            saves (operand_of cell.now) 0 (fitted self.now.width (operands_of v.now))
+            (sets vars.now [] c))) }
         ensures ranged { OnOk result (WordRanged cell.now × ValRanged v.now) }
     {
         let words = value(alloc, v)?;
@@ -92,7 +97,8 @@ impl Plan<'_> {
         f: ProcId,
         words: &[Word],
     ) -> Result<(), AllocError>
-        ensures { OnOk result (PlainDone self.now.width self.now.results.now numbers.old.next numbers.new.next vars.now (call f words.now) made.old made.new) }
+        ensures { OnOk result (PlainDone self.now.width self.now.results.now numbers.old.next
+            numbers.new.next vars.now (call f words.now) made.old made.new) }
     {
         let site = numbers.one()?;
         let count = self.results(f) as usize;
@@ -114,7 +120,8 @@ impl Plan<'_> {
         vars: &[u32],
         op: &Op,
     ) -> Result<(), AllocError>
-        ensures { OnOk result (PlainDone self.now.width self.now.results.now numbers.old.next numbers.new.next vars.now (act_of op.now) made.old made.new) }
+        ensures { OnOk result (PlainDone self.now.width self.now.results.now numbers.old.next
+            numbers.new.next vars.now (act_of op.now) made.old made.new) }
     {
         match op {
             Op::Unit(v) => {
@@ -160,7 +167,9 @@ impl Plan<'_> {
         goal: Goal,
         op: &Op,
     ) -> Result<LowEnd, AllocError>
-        ensures { IfOk result (λ e. ThroughDone self.now.width self.now.results.now numbers.old.next numbers.new.next goal (act_of op.now) made.old made.new (low.end_of e)) }
+        ensures { IfOk result (λ e.
+            ThroughDone self.now.width self.now.results.now numbers.old.next numbers.new.next goal
+            (act_of op.now) made.old made.new (low.end_of e)) }
     {
         let vars = numbers.many(alloc, self.end_words(goal.words, op))?;
         self.plain(alloc, numbers, made, vars.as_slice(), op)?;
@@ -181,7 +190,9 @@ impl Plan<'_> {
         words: &[Word],
     ) -> Result<LowEnd, AllocError>
         requires { act_of op.now ≡ call f words.now }
-        ensures { IfOk result (λ e. PlainEndDone self.now.width self.now.results.now numbers.old.next numbers.new.next goal (call f words.now) made.old made.new (low.end_of e)) }
+        ensures { IfOk result (λ e.
+            PlainEndDone self.now.width self.now.results.now numbers.old.next numbers.new.next goal
+            (call f words.now) made.old made.new (low.end_of e)) }
     {
         if !goal.leaves {
             return self.through(alloc, numbers, made, goal, op);
@@ -200,7 +211,9 @@ impl Plan<'_> {
         goal: Goal,
         op: &Op,
     ) -> Result<LowEnd, AllocError>
-        ensures { IfOk result (λ e. PlainEndDone self.now.width self.now.results.now numbers.old.next numbers.new.next goal (act_of op.now) made.old made.new (low.end_of e)) }
+        ensures { IfOk result (λ e.
+            PlainEndDone self.now.width self.now.results.now numbers.old.next numbers.new.next goal
+            (act_of op.now) made.old made.new (low.end_of e)) }
     {
         match op {
             Op::Unit(v) => {
@@ -237,7 +250,8 @@ impl Plan<'_> {
         made: &mut Seq<LowStmt>,
         vars: &[u32],
     ) -> Result<(), AllocError>
-        ensures { OnOk result (ActDone self.now.width self.now.results.now numbers.old.next numbers.new.next vars.now (act_of op.now) made.old made.new) }
+        ensures { OnOk result (ActDone self.now.width self.now.results.now numbers.old.next
+            numbers.new.next vars.now (act_of op.now) made.old made.new) }
     {
         let goal = Goal {
             words: vars.len(),
@@ -276,7 +290,9 @@ impl Plan<'_> {
         made: &mut Seq<LowStmt>,
         goal: Goal,
     ) -> Result<LowEnd, AllocError>
-        ensures { IfOk result (λ e. EndDone self.now.width self.now.results.now numbers.old.next numbers.new.next goal (act_of op.now) made.old made.new (low.end_of e)) }
+        ensures { IfOk result (λ e.
+            EndDone self.now.width self.now.results.now numbers.old.next numbers.new.next goal
+            (act_of op.now) made.old made.new (low.end_of e)) }
     {
         match op {
             Op::Case(v, alts) => {
@@ -303,7 +319,8 @@ impl Plan<'_> {
         numbers: &mut Numbers,
         made: &mut Seq<LowStmt>,
     ) -> Result<(), AllocError>
-        ensures { OnOk result (StmtDone self.now.width self.now.results.now numbers.old.next numbers.new.next (before_of stmt.now) made.old made.new) }
+        ensures { OnOk result (StmtDone self.now.width self.now.results.now numbers.old.next
+            numbers.new.next (before_of stmt.now) made.old made.new) }
     {
         match stmt {
             Stmt::Store(cells) => store(alloc, made, self.width, cells.as_slice())?,
@@ -325,7 +342,9 @@ impl Plan<'_> {
         made: &mut Seq<LowStmt>,
         goal: Goal,
     ) -> Result<LowEnd, AllocError>
-        ensures { IfOk result (λ e. BlockDone self.now.width self.now.results.now numbers.old.next numbers.new.next goal (code_of block.now) made.old made.new (low.end_of e)) }
+        ensures { IfOk result (λ e.
+            BlockDone self.now.width self.now.results.now numbers.old.next numbers.new.next goal
+            (code_of block.now) made.old made.new (low.end_of e)) }
     {
         for stmt in block.stmts.as_slice() {
             self.stmt(alloc, stmt, numbers, made)?;
@@ -341,7 +360,9 @@ impl Plan<'_> {
         count: u32,
         numbers: &mut Numbers,
     ) -> Result<LowProc, AllocError>
-        ensures { IfOk result (λ q. ProcedureDone self.now.width self.now.results.now numbers.old.next numbers.new.next count (procedure_of proc.now) (low.procedure_of q)) }
+        ensures { IfOk result (λ q.
+            ProcedureDone self.now.width self.now.results.now numbers.old.next numbers.new.next
+            count (procedure_of proc.now) (low.procedure_of q)) }
     {
         let params = numbers_of(alloc, proc.params.as_slice())?;
         let goal = Goal {
@@ -367,7 +388,9 @@ impl Plan<'_> {
         goal: Goal,
         words: &[Operand],
     ) -> Result<LowEnd, AllocError>
-        ensures { IfOk result (λ e. ArmsDone self.now.width self.now.results.now numbers.old.next numbers.new.next goal words.now (arms_of (map arm_of alts.now)) (low.end_of e)) }
+        ensures { IfOk result (λ e.
+            ArmsDone self.now.width self.now.results.now numbers.old.next numbers.new.next goal
+            words.now (arms_of (map arm_of alts.now)) (low.end_of e)) }
     {
         let mut arms = Seq::new(alloc);
         let [firsts @ .., last] = alts else {
@@ -410,7 +433,9 @@ fn primitive(
     a: &Word,
     b: &Word,
 ) -> Result<(), AllocError>
-    ensures is { OnOk result (Adds made.old made.new (to_first vars.now (λ x. low.prim (operation_of op) x (operand_of a.now) (operand_of b.now)))) }
+    ensures is { OnOk result (Adds made.old made.new
+        (to_first vars.now (λ x.
+        low.prim (operation_of op) x (operand_of a.now) (operand_of b.now)))) }
     ensures ranged { WordRanged a.now × WordRanged b.now }
 {
     let (a, b) = (operand(a), operand(b));

@@ -155,7 +155,8 @@ pub(crate) fn store(
     width: u32,
     cells: &[Cell],
 ) -> Result<(), AllocError>
-    ensures is { OnOk result (Adds made.old made.new (λ c. taken (cell_vars cells.now) (stores width cells.now c))) }
+    ensures is { OnOk result (Adds made.old made.new (λ c.
+        taken (cell_vars cells.now) (stores width cells.now c))) }
     ensures ranged { OnOk result (AllOf (λ c. ValRanged c.val) cells.now) }
 {
     let vars = variables(alloc, cells)?;

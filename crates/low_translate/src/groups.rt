@@ -34,8 +34,10 @@ impl Groups {
         ensures known { result < length self.old.parents.items }
         ensures first { slice_index self.new.parents.items result ≡ result }
         ensures joined { (c : ℕ → ℕ) → Respects c self.new.parents.items → c result ≡ c x }
-        ensures older { (c : ℕ → ℕ) → Respects c self.new.parents.items → Respects c self.old.parents.items }
-        ensures firsts { (y : ℕ) → slice_index self.old.parents.items y ≡ y → slice_index self.new.parents.items y ≡ y }
+        ensures older { (c : ℕ → ℕ) → Respects c self.new.parents.items
+            → Respects c self.old.parents.items }
+        ensures firsts { (y : ℕ) → slice_index self.old.parents.items y ≡ y
+            → slice_index self.new.parents.items y ≡ y }
     {
         let mut at = x as usize;
         while self.parents[at] as usize != at {
@@ -54,7 +56,8 @@ impl Groups {
         ensures many { length self.new.parents.items ≡ length self.old.parents.items }
         ensures ordered { Ordered self.new.parents.items }
         ensures joined { (c : ℕ → ℕ) → Respects c self.new.parents.items → c x ≡ c y }
-        ensures older { (c : ℕ → ℕ) → Respects c self.new.parents.items → Respects c self.old.parents.items }
+        ensures older { (c : ℕ → ℕ) → Respects c self.new.parents.items
+            → Respects c self.old.parents.items }
     {
         let a = self.first(x);
         let b = self.first(y);
@@ -67,8 +70,11 @@ impl Groups {
         requires ordered { Ordered self.now.parents.items }
         ensures many { length values.new.items ≡ length values.old.items }
         ensures more { (x : ℕ) → slice_index values.old.items x ≤ slice_index values.new.items x }
-        ensures raised { (x : ℕ) → x < length self.now.parents.items → slice_index values.new.items x ≤ slice_index values.new.items (slice_index self.now.parents.items x) }
-        ensures few { (most : ℕ) → ((x : ℕ) → slice_index values.old.items x ≤ most) → (x : ℕ) → slice_index values.new.items x ≤ most }
+        ensures raised { (x : ℕ) → x < length self.now.parents.items
+            → slice_index values.new.items x
+            ≤ slice_index values.new.items (slice_index self.now.parents.items x) }
+        ensures few { (most : ℕ) → ((x : ℕ) → slice_index values.old.items x ≤ most) → (x : ℕ)
+            → slice_index values.new.items x ≤ most }
     {
         let mut x = self.parents.len();
         while x > 0 {
@@ -82,11 +88,14 @@ impl Groups {
     pub(crate) fn spread(&self, values: &mut Vec<u32>)
         requires many { length values.old.items ≡ length self.now.parents.items }
         requires ordered { Ordered self.now.parents.items }
-        requires raised { (x : ℕ) → x < length self.now.parents.items → slice_index values.old.items x ≤ slice_index values.old.items (slice_index self.now.parents.items x) }
+        requires raised { (x : ℕ) → x < length self.now.parents.items
+            → slice_index values.old.items x
+            ≤ slice_index values.old.items (slice_index self.now.parents.items x) }
         ensures many { length values.new.items ≡ length values.old.items }
         ensures more { (x : ℕ) → slice_index values.old.items x ≤ slice_index values.new.items x }
         ensures same { Respects (slice_index values.new.items) self.now.parents.items }
-        ensures few { (most : ℕ) → ((x : ℕ) → slice_index values.old.items x ≤ most) → (x : ℕ) → slice_index values.new.items x ≤ most }
+        ensures few { (most : ℕ) → ((x : ℕ) → slice_index values.old.items x ≤ most) → (x : ℕ)
+            → slice_index values.new.items x ≤ most }
     {
         for x in 0..self.parents.len() {
             values[x] = values[self.parents[x] as usize];

@@ -33,7 +33,8 @@ pub fn lower(alloc: Global, g: &Grin) -> Result<Low, AllocError>
     requires vectorised { IsVectorised (program_of g.now) }
     ensures formed { IfOk result (λ l. low_formed.Formed (low.program_of l)) }
     ensures lowers { IfOk result (λ l. Lowers (program_of g.now) (low.program_of l)) }
-    ensures small { IfOk result (λ l. IsNarrow (program_of g.now) → LowersSmall (program_of g.now) (low.program_of l)) }
+    ensures small { IfOk result (λ l. IsNarrow (program_of g.now)
+        → LowersSmall (program_of g.now) (low.program_of l)) }
 {
     let low = program::translated(alloc, g)?;
     Ok(low)

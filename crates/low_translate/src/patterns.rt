@@ -24,7 +24,8 @@ fn is_known(word: Operand, number: u32) -> bool
 
 // Puts a test after the others, unless it is of the number itself.
 fn add_test(tests: &mut Seq<LowTest>, left: Operand, right: u32) -> Result<(), AllocError>
-    ensures { OnOk result ((more : List LowTest) → tests.new ++ more ≡ tests.old ++ tested left right more) }
+    ensures { OnOk result ((more : List LowTest) → tests.new ++ more ≡ tests.old
+        ++ tested left right more) }
 {
     if !is_known(left, right) {
         tests.push(LowTest { left, right })?;

@@ -76,8 +76,11 @@ pub(crate) fn count_tags(tags: &[Tag]) -> Result<u32, AllocError>
 pub(crate) fn with_results(alloc: Global, g: &Grin, results: &[u32]) -> Result<Low, AllocError>
     requires few_fields { most_fields g.now.tags ≤ 13 }
     requires many { length results.now ≡ length g.now.procs }
-    ensures is { IfOk result (λ l. low.program_of l ≡ program_code (1 + most_fields g.now.tags) results.now (past_procs (map procedure_of g.now.procs)) (program_of g.now)) }
-    ensures ranged { IfOk result (λ l. AllOf (λ q. CodeRanged q.body) (map procedure_of g.now.procs)) }
+    ensures is { IfOk result (λ l. low.program_of l
+        ≡ program_code (1 + most_fields g.now.tags) results.now
+        (past_procs (map procedure_of g.now.procs)) (program_of g.now)) }
+    ensures ranged { IfOk result (λ l.
+        AllOf (λ q. CodeRanged q.body) (map procedure_of g.now.procs)) }
 {
     let width = most_fields(g.tags.as_slice()) + 1;
     let plan = Plan { width, results };
@@ -100,7 +103,9 @@ pub(crate) fn with_results(alloc: Global, g: &Grin, results: &[u32]) -> Result<L
 /// The low code of a program.
 pub(crate) fn translated(alloc: Global, g: &Grin) -> Result<Low, AllocError>
     requires few_fields { most_fields g.now.tags ≤ 13 }
-    requires ends { AllOf (λ q. CodeEnds (length g.now.procs) (1 + most_value_fields g.now.tags) 13 q.body) (map procedure_of g.now.procs) }
+    requires ends { AllOf (λ q.
+        CodeEnds (length g.now.procs) (1 + most_value_fields g.now.tags) 13 q.body)
+        (map procedure_of g.now.procs) }
     ensures { IfOk result (λ l. IsLowered (program_of g.now) (low.program_of l)) }
 {
     let tags = g.tags.as_slice();

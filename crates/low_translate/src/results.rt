@@ -35,7 +35,10 @@ impl Ends {
     // The widest end of an operation at the end of a block.
     #[cycle(ends)]
     fn op(&mut self, op: &Op) -> Result<usize, AllocError>
-        ensures { IfOk result (λ width. EndsDone self.old.node self.new.node self.old.calls.items self.new.calls.items width (λ n. ActEnds n self.old.node 13 (act_of op.now)) (λ rs r. ActGives self.old.node rs r (act_of op.now))) }
+        ensures { IfOk result (λ width.
+            EndsDone self.old.node self.new.node self.old.calls.items self.new.calls.items width
+            (λ n. ActEnds n self.old.node 13 (act_of op.now)) (λ rs r.
+            ActGives self.old.node rs r (act_of op.now))) }
     {
         match op {
             Op::Unit(v) => Ok(value_width(self.node, v)),
@@ -54,7 +57,10 @@ impl Ends {
     // The widest end of alternatives.
     #[cycle(ends)]
     fn alts(&mut self, alts: &[Alt]) -> Result<usize, AllocError>
-        ensures { IfOk result (λ width. EndsDone self.old.node self.new.node self.old.calls.items self.new.calls.items width (λ n. ArmsEnd n self.old.node 13 (arms_of (map arm_of alts.now))) (λ rs r. ArmsGive self.old.node rs r (arms_of (map arm_of alts.now)))) }
+        ensures { IfOk result (λ width.
+            EndsDone self.old.node self.new.node self.old.calls.items self.new.calls.items width
+            (λ n. ArmsEnd n self.old.node 13 (arms_of (map arm_of alts.now))) (λ rs r.
+            ArmsGive self.old.node rs r (arms_of (map arm_of alts.now)))) }
     {
         let mut widest = 0;
         for alt in alts {
@@ -72,8 +78,10 @@ fn join_all(groups: &mut Groups, f: u32, calls: &[u32])
     requires ordered { Ordered groups.old.parents.items }
     ensures many { length groups.new.parents.items ≡ length groups.old.parents.items }
     ensures ordered { Ordered groups.new.parents.items }
-    ensures older { (c : ℕ → ℕ) → Respects c groups.new.parents.items → Respects c groups.old.parents.items }
-    ensures joined { (c : ℕ → ℕ) → Respects c groups.new.parents.items → AllOf (λ h. c h ≡ c f) calls.now }
+    ensures older { (c : ℕ → ℕ) → Respects c groups.new.parents.items
+        → Respects c groups.old.parents.items }
+    ensures joined { (c : ℕ → ℕ) → Respects c groups.new.parents.items
+        → AllOf (λ h. c h ≡ c f) calls.now }
 {
     for call in calls {
         groups.join(*call, f);
@@ -82,8 +90,10 @@ fn join_all(groups: &mut Groups, f: u32, calls: &[u32])
 
 /// How many words each procedure gives, where a node counts as so many.
 pub(crate) fn results(alloc: Global, node: usize, procs: &[Proc]) -> Result<Vec<u32>, AllocError>
-    requires { AllOf (λ q. CodeEnds (length procs.now) node 13 q.body) (map procedure_of procs.now) }
-    ensures gives { IfOk result (λ rs. EachGives node rs.items rs.items (map procedure_of procs.now)) }
+    requires { AllOf (λ q. CodeEnds (length procs.now) node 13 q.body)
+        (map procedure_of procs.now) }
+    ensures gives { IfOk result (λ rs.
+        EachGives node rs.items rs.items (map procedure_of procs.now)) }
     ensures few { IfOk result (λ rs. AllOf (λ r. r ≤ 13) rs.items) }
 {
     let Ok(count) = u32::try_from(procs.len()) else {

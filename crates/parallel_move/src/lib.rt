@@ -52,7 +52,9 @@ fn in_order(alloc: Global, moves: &[Move]) -> Result<BTreeSet<Move>, AllocError>
 /// Takes out a move from the spot, if there is one.
 #[tactic(auto, using(crate::proofs::Ordered::none_found))]
 fn take_from(pending: &mut BTreeSet<Move>, spot: Spot) -> Option<Move>
-    ensures { MatchOption result ((is_source spot pending.old.keys ≡ false) × (pending.new.keys ≡ pending.old.keys)) (λ m. IsTaken spot m pending.old.keys pending.new.keys) }
+    ensures { MatchOption result ((is_source spot pending.old.keys ≡ false)
+        × (pending.new.keys ≡ pending.old.keys)) (λ m.
+        IsTaken spot m pending.old.keys pending.new.keys) }
 {
     let first = Move {
         from: spot,

@@ -5,6 +5,7 @@ pub mod Numbers
 pub mod Rows
 pub mod Done
 pub mod Fields
+pub mod OneTag
 pub mod Sets
 pub mod Loops
 pub mod Search

@@ -4,7 +4,7 @@ use Rattle.std.specs.List.{flat_map}
 use Rattle.std.proofs.lemmas.List.{take_all, take_more}
 use Rattle.std.proofs.lemmas.List.Concat.{flat_map-append}
 
-append_nil : {X : Type 0} (l : List X) → l ++ [] ≡ l
+pub append_nil : {X : Type 0} (l : List X) → l ++ [] ≡ l
 append_nil [] = refl
 append_nil (x ∷ l) = ap (λ k. x ∷ k) (append_nil l)
 

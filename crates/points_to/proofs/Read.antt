@@ -1,17 +1,17 @@
 -- What tables of wanted numbers say of the facts.
-use Rattle.std.proofs.Common.{◌≡◌, ◌+◌, ◌<◌, ◌≤◌, ℕ, zero, suc, Bool, true, false, ◌||◌, nat_eq, List, [], ◌∷◌, ◌++◌, map, take, length, get_or, slice_get, refl, sym, ap, ◌∙◌, subst, inl, inr, ⊎_elim, arith}
+use Rattle.std.proofs.Common.{◌≡◌, ◌+◌, ◌<◌, ◌≤◌, ℕ, zero, suc, Bool, true, false, ◌||◌, nat_eq, List, [], ◌∷◌, ◌++◌, map, length, get_or, slice_get, refl, sym, ap, ◌∙◌, subst, inl, inr, ⊎_elim, arith}
 use Rattle.std.specs.Prelude.{◌⊎◌}
-use Rattle.std.specs.List.{flat_map}
-use Rattle.std.specs.List.Sorted.{IsStrictlySortedBy}
+use Rattle.std.specs.List.{Contains, dedup}
+use Rattle.std.specs.List.Sorted.{IsStrictlyIncreasing, IsPermutation}
 use Rattle.std.specs.Ordering.{nat_cmp, match_ordering}
 use Rattle.std.specs.declared.cmp.Ordering.{Ordering}
 use Rattle.std.specs.declared.cmp.Ordering.TheVariants.{Less, Equal, Greater}
 use Rattle.std.specs.BTreeSet.{insert_key}
 use Rattle.std.proofs.lemmas.Bool.Decides.{nat_tests}
-use Rattle.std.proofs.lemmas.Map.Keys.{IsStrictlyIncreasing-from_sorted}
+use lib.Dec.{eqb}
+use Rattle.std.proofs.lemmas.List.Kept.{Contains-dedup_nat, Contains-from_dedup}
+use Rattle.std.proofs.lemmas.List.Sorted.{Contains-permutation, IsPermutation-sym}
 use Rattle.std.proofs.lemmas.Option.{slice_get_past}
-use Rattle.std.proofs.lemmas.List.{take_all, take_more}
-use Rattle.std.proofs.lemmas.List.Concat.{flat_map-append}
 use Rattle.flow_system.specs.declared.fact.Element.{Element}
 use Rattle.flow_system.specs.declared.fact.Element.TheVariants.{Cell, Tag, Number}
 use Rattle.flow_system.specs.declared.fact.Part.{Part}
@@ -25,7 +25,7 @@ use Rattle.points_to.specs.Held.{In, here, there, item}
 use Rattle.points_to.specs.Known.{held}
 use Rattle.points_to.specs.Wanted.{tag_in, site_in, wanted_of, wanted, place_of, SameSet, is_in, Lists, numbers_by, IsTable}
 use Rattle.points_to.specs.Joined.{Joined}
-use Rattle.points_to.proofs.Member.{none_in, cons_in, one_in, in_left, in_right, in_split, when_in, in_flat, flat_in}
+use Rattle.points_to.proofs.Member.{none_in, cons_in, one_in, when_in, in_flat, flat_in}
 use Rattle.points_to.proofs.GivenItems.{eq_from, eq_self}
 
 nat_equal : (m n : ℕ) → nat_cmp m n ≡ Equal → m ≡ n
@@ -69,22 +69,6 @@ put_joins old new n e = subst (Joined old (n ∷ [])) (sym e) (record {
 pub nothing_joins : (old : List ℕ) → Joined old [] old
 nothing_joins old = record { kept = λ n h. h; put = λ n h. none_in h; only = λ n h. inl h }
 
--- a loop over items
-pub none_wanted : (w : Wanted) (ns : List ℕ) → ns ≡ [] → SameSet ns []
-none_wanted w ns e = record { to = λ n h. subst (In n) e h; from = λ n h. none_in h }
-
-pub wanted_more : (w : Wanted) (X : List Item) (i : ℕ) (d : Item) (old new : List ℕ) → i < length X → SameSet old (wanted w (take i X)) → Joined old (wanted_of w (get_or X i d).part (get_or X i d).word) new → SameSet new (wanted w (take (i + 1) X))
-wanted_more w X i d old new lt s j =
-    let f : Item → List ℕ = λ x. wanted_of w x.part x.word in
-    let e : wanted w (take (i + 1) X) ≡ wanted w (take i X) ++ wanted w (get_or X i d ∷ []) = ap (flat_map f) (take_more X i d lt) ∙ flat_map-append f (take i X) (get_or X i d ∷ []) in
-    subst (SameSet new) (sym e) (record {
-      to = λ n h. ⊎_elim (λ a. in_left (wanted w (take i X)) (wanted w (get_or X i d ∷ [])) (s.to n a)) (λ b. in_right (wanted w (take i X)) (wanted w (get_or X i d ∷ [])) (in_left (f (get_or X i d)) [] b)) (j.only n h);
-      from = λ n h. ⊎_elim (λ a. j.kept n (s.from n a)) (λ b. ⊎_elim (λ x. j.put n x) (λ y. none_in y) (in_split (f (get_or X i d)) [] b)) (in_split (wanted w (take i X)) (wanted w (get_or X i d ∷ [])) h);
-    })
-
-pub wanted_done : (w : Wanted) (X : List Item) (i : ℕ) (ns : List ℕ) → length X ≤ i → SameSet ns (wanted w (take i X)) → SameSet ns (wanted w X)
-wanted_done w X i ns le s = subst (λ l. SameSet ns (wanted w l)) (take_all i X le) s
-
 -- membership as a test
 or_cases : (a b : Bool) → (a || b) ≡ true → (a ≡ true) ⊎ (b ≡ true)
 or_cases true b e = inl refl
@@ -116,10 +100,33 @@ members w X ns l = record {
   from = λ n h. is_in-in n ns (l.same n ∙ in-is_in n (wanted w X) h);
 }
 
-pub lists_of : (w : Wanted) (X : List Item) (ns : List ℕ) → SameSet ns (wanted w X) → IsStrictlySortedBy nat_cmp ns → Lists w X ns
+pub lists_of : (w : Wanted) (X : List Item) (ns : List ℕ) → SameSet ns (wanted w X) → IsStrictlyIncreasing ns → Lists w X ns
 lists_of w X ns s o = record {
-  ascending = IsStrictlyIncreasing-from_sorted ns o;
+  ascending = o;
   same = λ n. both_ways (is_in n ns) (is_in n (wanted w X)) (λ e. in-is_in n (wanted w X) (s.to n (is_in-in n ns e))) (λ e. in-is_in n ns (s.from n (is_in-in n (wanted w X) e)));
+}
+
+-- membership, as the library says it
+in-contains : (n : ℕ) (ns : List ℕ) → In n ns → Contains ns n
+in-contains n [] h = none_in h
+in-contains n (m ∷ ns) h = ⊎_elim
+    (λ e. (0, omega arith, sym e))
+    (λ t. let r = in-contains n ns t in let lt : r.0 < length ns = r.1 in (suc r.0, omega (arith, lt), r.2))
+    (cons_in m ns h)
+
+at-in : (n : ℕ) (ns : List ℕ) (k : ℕ) → k < length ns → get_or ns k n ≡ n → In n ns
+at-in n [] k lt e = absurd (omega (arith, lt))
+at-in n (m ∷ ns) zero lt e = subst (λ y. In n (y ∷ ns)) (sym e) here
+at-in n (m ∷ ns) (suc k) lt e = there (at-in n ns k (omega (arith, lt)) e)
+
+contains-in : (n : ℕ) (ns : List ℕ) → Contains ns n → In n ns
+contains-in n ns r = at-in n ns r.0 r.1 r.2
+
+-- a sort, and repeats left out
+pub sorted_same : (ns ms : List ℕ) → IsPermutation ns ms → SameSet (dedup eqb ms) ns
+sorted_same ns ms p = record {
+  to = λ n h. contains-in n ns (Contains-permutation ms ns n (IsPermutation-sym ns ms p) (Contains-from_dedup eqb ms n (in-contains n (dedup eqb ms) h)));
+  from = λ n h. contains-in n (dedup eqb ms) (Contains-dedup_nat ms n (Contains-permutation ns ms n p (in-contains n ns h)));
 }
 
 -- numbers under a newtype

@@ -1,9 +1,7 @@
 -- The tags in the cells of variables, put together from the tables of their sites and of the sites' tags.
-use Rattle.std.proofs.Common.{◌≡◌, ◌+◌, ◌<◌, ◌≤◌, ℕ, List, [], ◌∷◌, ◌++◌, map, take, length, get_or, slice_get, refl, sym, ap, ◌∙◌, subst, inl, inr, ⊎_elim, arith}
+use Rattle.std.proofs.Common.{◌≡◌, ◌+◌, ◌<◌, ◌≤◌, ℕ, List, [], ◌∷◌, ◌++◌, map, take, length, get_or, slice_get, append_assoc, refl, sym, ap, ◌∙◌, subst, ⊎_elim, arith}
 use Rattle.std.specs.List.{flat_map}
-use Rattle.std.specs.List.Sorted.{IsStrictlySortedBy}
-use Rattle.std.specs.Ordering.{nat_cmp}
-use Rattle.std.proofs.lemmas.Map.Keys.{IsStrictlyIncreasing-from_sorted}
+use Rattle.std.specs.List.Sorted.{IsStrictlyIncreasing}
 use Rattle.std.proofs.lemmas.List.{take_all, take_more}
 use Rattle.std.proofs.lemmas.List.Concat.{flat_map-append}
 use Rattle.std.proofs.lemmas.Option.{slice_get_past}
@@ -20,113 +18,89 @@ use Rattle.points_to.specs.declared.wanted.Wanted.TheVariants.{NodeTags, Sites a
 use Rattle.points_to.specs.Held.{In}
 use Rattle.points_to.specs.Known.{held, solution_of}
 use Rattle.points_to.specs.Wanted.{is_in, SameSet, numbers_by, TagTable, SiteTable}
-use Rattle.points_to.specs.Joined.{Joined}
-use Rattle.points_to.specs.Met.{tags_of_sites, Ascends, MetTable}
-use Rattle.points_to.proofs.Member.{none_in, in_left, in_right, in_split, in_flat, flat_in}
+use Rattle.points_to.specs.Met.{tags_of_sites, Ascends, MetTable, MetSoFar}
+use Rattle.points_to.proofs.Member.{in_flat, flat_in}
+use Rattle.points_to.proofs.Loops.{append_nil}
 use Rattle.points_to.proofs.Read.{is_in-in, in-is_in, both_ways, longer, entry, below_or_not, cells, node_tags}
 use Rattle.points_to.proofs.Solved.{known_at, at_known}
-
-abbrev numbers : List TagId → List ℕ
-numbers = map (λ t. t.0)
-
--- several numbers are put one after the other
-pub joined_more : (old now new : List ℕ) (ts : List TagId) (i : ℕ) (d : TagId) → i < length ts
-    → Joined old (numbers (take i ts)) now → Joined now ((get_or ts i d).0 ∷ []) new
-    → Joined old (numbers (take (i + 1) ts)) new
-joined_more old now new ts i d lt a b =
-    let one : List ℕ = (get_or ts i d).0 ∷ [] in
-    let e : numbers (take (i + 1) ts) ≡ numbers (take i ts) ++ one
-    = ap numbers (take_more ts i d lt) ∙ map_push (λ t. t.0) (take i ts) (get_or ts i d) in
-    subst (λ more. Joined old more new) (sym e) (record {
-      kept = λ n h. b.kept n (a.kept n h);
-      put = λ n h. ⊎_elim (λ x. b.kept n (a.put n x)) (λ y. b.put n y) (in_split (numbers (take i ts)) one h);
-      only = λ n h. ⊎_elim
-          (λ x. ⊎_elim (λ y. inl y) (λ y. inr (in_left (numbers (take i ts)) one y)) (a.only n x))
-          (λ x. inr (in_right (numbers (take i ts)) one x))
-          (b.only n h);
-    })
-
-pub joined_all : (old new : List ℕ) (ts : List TagId) (i : ℕ) → length ts ≤ i
-    → Joined old (numbers (take i ts)) new → Joined old (numbers ts) new
-joined_all old new ts i le a = subst (λ l. Joined old (numbers l) new) (take_all i ts le) a
 
 module _ (table : List (List TagId)) where
   abbrev of_first : ℕ → List Site → List ℕ
   of_first i ss = tags_of_sites table (map (λ s. s.0) (take i ss))
 
-  pub no_sites : (ns : List ℕ) → ns ≡ [] → SameSet ns []
-  no_sites ns e = record { to = λ n h. subst (In n) e h; from = λ n h. none_in h }
-
-  pub sites_more : (old new more : List ℕ) (ss : List Site) (i : ℕ) (d : Site) → i < length ss
-      → SameSet old (of_first i ss)
+  pub tags_next : (ss : List Site) (i : ℕ) (d : Site) (old now more new : List ℕ) → i < length ss
+      → now ≡ old ++ of_first i ss → new ≡ now ++ more
       → more ≡ numbers_by (λ t. t.0) (slice_get table (get_or ss i d).0)
-      → Joined old more new → SameSet new (of_first (i + 1) ss)
-  sites_more old new more ss i d lt s q j =
+      → new ≡ old ++ of_first (i + 1) ss
+  tags_next ss i d old now more new lt h k q =
       let f : ℕ → List ℕ = λ s. numbers_by (λ t. t.0) (slice_get table s) in
       let ns = map (λ s. s.0) (take i ss) in
-      let last : List ℕ = (get_or ss i d).0 ∷ [] in
-      let e : of_first (i + 1) ss ≡ flat_map f ns ++ flat_map f last
+      let x : ℕ = (get_or ss i d).0 in
+      let e : of_first (i + 1) ss ≡ flat_map f ns ++ (f x ++ [])
       = ap (tags_of_sites table) (ap (map (λ s. s.0)) (take_more ss i d lt) ∙ map_push (λ s. s.0) (take i ss) (get_or ss i d))
-      ∙ flat_map-append f ns last in
-      subst (SameSet new) (sym e) (record {
-        to = λ n h. ⊎_elim
-            (λ a. in_left (flat_map f ns) (flat_map f last) (s.to n a))
-            (λ b. in_right (flat_map f ns) (flat_map f last) (in_left (f (get_or ss i d).0) [] (subst (In n) q b)))
-            (j.only n h);
-        from = λ n h. ⊎_elim
-            (λ a. j.kept n (s.from n a))
-            (λ b. ⊎_elim (λ x. j.put n (subst (In n) (sym q) x)) (λ y. none_in y) (in_split (f (get_or ss i d).0) [] b))
-            (in_split (flat_map f ns) (flat_map f last) h);
-      })
+      ∙ flat_map-append f ns (x ∷ []) in
+      k ∙ ap (λ l. l ++ more) h ∙ append_assoc old (flat_map f ns) more
+      ∙ ap (λ l. old ++ (flat_map f ns ++ l)) (q ∙ sym (append_nil (f x))) ∙ ap (λ l. old ++ l) (sym e)
 
-  pub sites_done : (new : List ℕ) (ss : List Site) (i : ℕ) → length ss ≤ i
-      → SameSet new (of_first i ss) → SameSet new (tags_of_sites table (map (λ s. s.0) ss))
-  sites_done new ss i le s = subst (λ l. SameSet new (tags_of_sites table (map (λ s. s.0) l))) (take_all i ss le) s
+  pub tags_done : (ss : List Site) (i : ℕ) (old now : List ℕ) → length ss ≤ i → now ≡ old ++ of_first i ss
+      → now ≡ old ++ tags_of_sites table (map (λ s. s.0) ss)
+  tags_done ss i old now le h = h ∙ ap (λ l. old ++ tags_of_sites table (map (λ s. s.0) l)) (take_all i ss le)
 
-pub ascends_of : (ms ns : List ℕ) → SameSet ns ms → IsStrictlySortedBy nat_cmp ns → Ascends ms ns
+pub ascends_of : (ms ns : List ℕ) → SameSet ns ms → IsStrictlyIncreasing ns → Ascends ms ns
 ascends_of ms ns s o = record {
-  ascending = IsStrictlyIncreasing-from_sorted ns o;
+  ascending = o;
   same = λ n. both_ways (is_in n ns) (is_in n ms)
       (λ e. in-is_in n ms (s.to n (is_in-in n ns e)))
       (λ e. in-is_in n ns (s.from n (is_in-in n ms e)));
 }
+
+-- the same sites, so far
+pub sites_next : (a b : List Site) (i : ℕ) (d d' : Site) → i < length a → i < length b
+    → map (λ s. s.0) (take i a) ≡ map (λ s. s.0) (take i b) → (get_or a i d).0 ≡ (get_or b i d').0
+    → map (λ s. s.0) (take (i + 1) a) ≡ map (λ s. s.0) (take (i + 1) b)
+sites_next a b i d d' lt lt' h e =
+    ap (map (λ s. s.0)) (take_more a i d lt) ∙ map_push (λ s. s.0) (take i a) (get_or a i d)
+    ∙ ap (λ l. l ++ (get_or a i d).0 ∷ []) h ∙ ap (λ n. map (λ s. s.0) (take i b) ++ n ∷ []) e
+    ∙ sym (ap (map (λ s. s.0)) (take_more b i d' lt') ∙ map_push (λ s. s.0) (take i b) (get_or b i d'))
+
+pub sites_all : (a b : List Site) (i : ℕ) → length a ≤ i → length b ≤ i
+    → map (λ s. s.0) (take i a) ≡ map (λ s. s.0) (take i b) → map (λ s. s.0) a ≡ map (λ s. s.0) b
+sites_all a b i le le' h = ap (map (λ s. s.0)) (sym (take_all i a le)) ∙ h ∙ ap (map (λ s. s.0)) (take_all i b le')
 
 -- a table, entry by entry
 module _ (tags : List (List TagId)) (sites : List (List Site)) where
   abbrev sites_at : ℕ → List ℕ
   sites_at m = numbers_by (λ s. s.0) (slice_get sites m)
 
-  pub record MetSoFar (table : List (List TagId)) (n : ℕ) : Type 0 where
-    pub many : length table ≡ n
-    pub lists : (m : ℕ) → m < n
-        → Ascends (tags_of_sites tags (sites_at m)) (numbers_by (λ t. t.0) (slice_get table m))
+  pub none_met : (table : List (List TagId)) → table ≡ [] → MetSoFar tags sites table
+  none_met table e m lt = absurd (omega (arith, subst (λ t. m < length t) e lt))
 
-  pub none_met : MetSoFar [] 0
-  none_met = record { many = refl; lists = λ m lt. absurd (omega (arith, lt)) }
-
-  pub met_more : (table : List (List TagId)) (n : ℕ) (ss : List ℕ) (ts : List TagId) → MetSoFar table n
+  pub met_more : (table : List (List TagId)) (n : ℕ) (ss : List ℕ) (ts : List TagId) → MetSoFar tags sites table → length table ≡ n
       → ss ≡ sites_at n → Ascends (tags_of_sites tags ss) (map (λ t. t.0) ts)
-      → MetSoFar (table ++ ts ∷ []) (n + 1)
-  met_more table n ss ts t e l = record {
-    many = longer (λ t. t.0) table ts ∙ ap (λ m. m + 1) t.many;
-    lists = λ m lt. entry (λ t. t.0) table m ts (λ m. Ascends (tags_of_sites tags (sites_at m)))
-        (λ m lt. t.lists m (omega (arith, t.many)))
-        (subst (λ ss. Ascends (tags_of_sites tags ss) (map (λ t. t.0) ts)) (e ∙ ap sites_at (sym t.many)) l)
-        (omega (arith, t.many, lt));
-  }
+      → MetSoFar tags sites (table ++ ts ∷ [])
+  met_more table n ss ts t many e l m lt = entry (λ t. t.0) table m ts (λ m. Ascends (tags_of_sites tags (sites_at m)))
+      (λ m lt. t m lt)
+      (subst (λ ss. Ascends (tags_of_sites tags ss) (map (λ t. t.0) ts)) (e ∙ ap sites_at (sym many)) l)
+      (let long : length (table ++ ts ∷ []) ≡ length table + 1 = longer (λ t. t.0) table ts in omega (arith, lt, long))
 
   nothing_ascends : Ascends [] []
   nothing_ascends = record { ascending = λ k lt. absurd (omega (arith, lt)); same = λ n. refl }
 
-  pub met_done : (table : List (List TagId)) (n : ℕ) → MetSoFar table n → length sites ≤ n → MetTable tags sites table
-  met_done table n t past m = ⊎_elim
-      (λ lt. t.lists m lt)
+  pub met_done : (table : List (List TagId)) (n : ℕ) → MetSoFar tags sites table → length table ≡ n → length sites ≤ n → MetTable tags sites table
+  met_done table n t many past m = ⊎_elim
+      (λ lt. t m (omega (arith, many, lt)))
       (λ le. subst (λ o. Ascends (tags_of_sites tags (numbers_by (λ s. s.0) o)) (numbers_by (λ t. t.0) (slice_get table m)))
       (sym (slice_get_past sites m (omega (arith, past, le))))
       (subst (λ o. Ascends [] (numbers_by (λ t. t.0) o))
-      (sym (slice_get_past table m (omega (arith, t.many, le))))
+      (sym (slice_get_past table m (omega (arith, many, le))))
       nothing_ascends))
       (below_or_not m n)
+
+  -- an earlier entry, where the sites are the same
+  pub met_earlier : (table : List (List TagId)) (n : ℕ) (ss there : List ℕ) (ts : List ℕ) → MetSoFar tags sites table → n < length table
+      → ss ≡ there → there ≡ sites_at n → ts ≡ numbers_by (λ t. t.0) (slice_get table n)
+      → Ascends (tags_of_sites tags ss) ts
+  met_earlier table n ss there ts t lt e q k = subst (λ l. Ascends (tags_of_sites tags l) ts) (sym (e ∙ q)) (subst (Ascends (tags_of_sites tags (sites_at n))) (sym k) (t n lt))
 
 -- what the reader says
 module _ (f : Facts) (table : List (List TagId)) (sites : List (List Site)) (at_sites : TagTable f of_sites NodeTags table) (at_vars : SiteTable f Vars cell_sites sites) (x : ℕ) where

@@ -9,6 +9,7 @@ pub mod Row
 pub mod Rows
 pub mod Reads
 pub mod Shift
+pub mod OneTag
 pub mod Wanted
 pub mod Joined
 pub mod Met

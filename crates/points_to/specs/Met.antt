@@ -1,5 +1,5 @@
 -- The tags of the nodes in the cells that variables stand for, as ascending lists.
-use Rattle.std.specs.Prelude.{◌≡◌, ℕ, List, slice_get}
+use Rattle.std.specs.Prelude.{◌≡◌, ◌<◌, ℕ, List, length, slice_get}
 use Rattle.std.specs.List.{flat_map}
 use Rattle.std.specs.List.Sorted.{IsStrictlyIncreasing}
 use Rattle.grin_syntax.specs.declared.program.TagId.{TagId}
@@ -15,8 +15,15 @@ pub record Ascends (ms ns : List ℕ) : Type 0 where
   pub ascending : IsStrictlyIncreasing ns
   pub same : (n : ℕ) → is_in n ns ≡ is_in n ms
 
--- for each variable the tags of its sites
-abbrev pub MetTable : List (List TagId) → List (List Site) → List (List TagId) → Type 0
-MetTable tags sites table = (n : ℕ) →
+-- the tags of the sites of the variable n
+abbrev pub Meets : List (List TagId) → List (List Site) → List (List TagId) → ℕ → Type 0
+Meets tags sites table n =
     Ascends (tags_of_sites tags (numbers_by (λ s. s.0) (slice_get sites n)))
     (numbers_by (λ t. t.0) (slice_get table n))
+
+-- for each variable the tags of its sites, in a table that has all entries, or the first ones
+abbrev pub MetTable : List (List TagId) → List (List Site) → List (List TagId) → Type 0
+MetTable tags sites table = (n : ℕ) → Meets tags sites table n
+
+abbrev pub MetSoFar : List (List TagId) → List (List Site) → List (List TagId) → Type 0
+MetSoFar tags sites table = (n : ℕ) → n < length table → Meets tags sites table n

@@ -14,7 +14,7 @@ ghost use Rattle.points_to.specs.ByTag.{IsByTag};
 use crate::by_tag::ByTag;
 use crate::facts::{Facts, Item};
 use crate::fetch::fetched_from;
-use crate::nodes::{Shift, append_shifted, as_nodes, in_part, nodes_of_words, picked};
+use crate::nodes::{Shift, append_shifted, as_nodes, as_nodes_of, in_part, nodes_of_words, picked};
 use crate::tags::{fields_of, longer};
 use flow_system::fact::{Element, Part, Place};
 use flow_system::inclusion::{FlowSystem, Source};
@@ -564,6 +564,7 @@ fn evaluated_at(
     Ok(())
 }
 
+// The fields of one tag. In a case with many alternatives a value has many tags, and each alternative asks for its own.
 fn fields_of_value(
     alloc: Global,
     system: &FlowSystem,
@@ -575,8 +576,17 @@ fn fields_of_value(
     ensures { OnOk result (out.new ≡ out.old
         ++ items (tables_of system.now) (held facts.now) (arguments (value v.now) t [])) }
 {
+    let mut given = Seq::new(alloc);
+    value_items(alloc, system, facts, v, &mut given)?;
     let mut nodes = Seq::new(alloc);
-    value_nodes(alloc, system, facts, v, &mut nodes)?;
+    as_nodes_of(
+        alloc,
+        system,
+        t,
+        width_of_value(v),
+        given.as_slice(),
+        &mut nodes,
+    )?;
     arguments(alloc, system, facts, t, &[], nodes.as_slice(), out)
 }
 

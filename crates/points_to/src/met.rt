@@ -1,44 +1,34 @@
 // A list, for each variable, of the tags in the cells that it may stand for.
 
-ghost use Rattle.std.specs.Prelude.{map, OnOk, IfOk};
-ghost use Rattle.std.specs.Ordering.{nat_cmp};
-ghost use Rattle.std.specs.BTreeSet.{IsOrdered};
-ghost use Rattle.points_to.specs.Wanted.{SameSet};
-ghost use Rattle.points_to.specs.Joined.{Joined};
-ghost use Rattle.points_to.specs.Met.{tags_of_sites, Ascends, MetTable};
+ghost use Rattle.std.specs.Prelude.{◌≡◌, ◌++◌, true, map, OnOk, IfOk};
+ghost use Rattle.points_to.specs.Met.{tags_of_sites, Ascends, MetSoFar, MetTable};
 
-use crate::tables::{append_numbers, as_tags, put_number, site_entry, tag_entry};
+use crate::tables::{as_tags, ascending, site_entry, tag_entry};
 use grin_syntax::program::{Site, TagId};
 use seq::Seq;
 use std::alloc::{AllocError, Global};
-use std::collections::BTreeSet;
 
-fn put_tags(tags: &[TagId], numbers: &mut BTreeSet<u32>) -> Result<(), AllocError>
-    requires { IsOrdered nat_cmp numbers.old }
-    ensures joined { OnOk result
-        (Joined numbers.old.keys (map (λ t. t.0) tags.now) numbers.new.keys) }
-    ensures ordered { OnOk result (IsOrdered nat_cmp numbers.new) }
+fn put_tags(tags: &[TagId], out: &mut Seq<u32>) -> Result<(), AllocError>
+    ensures { OnOk result (out.new ≡ out.old ++ map (λ t. t.0) tags.now) }
 {
     for tag in tags {
-        put_number(numbers, tag.0)?;
+        out.push(tag.0)?;
     }
     Ok(())
 }
 
-fn numbers_of_sites(
-    alloc: Global,
+fn put_tags_of(
     sites: &[Site],
     site_tags: &Seq<Seq<TagId>>,
-) -> Result<BTreeSet<u32>, AllocError>
-    ensures same { IfOk result (λ s.
-        SameSet s.keys (tags_of_sites site_tags.now (map (λ s. s.0) sites.now))) }
-    ensures ordered { IfOk result (λ s. IsOrdered nat_cmp s) }
+    out: &mut Seq<u32>,
+) -> Result<(), AllocError>
+    ensures { OnOk result (out.new ≡ out.old
+        ++ tags_of_sites site_tags.now (map (λ s. s.0) sites.now)) }
 {
-    let mut numbers = BTreeSet::new(alloc);
     for site in sites {
-        put_tags(tag_entry(site_tags, site.0 as usize), &mut numbers)?;
+        put_tags(tag_entry(site_tags, site.0 as usize), out)?;
     }
-    Ok(numbers)
+    Ok(())
 }
 
 // The tags of some sites, ascending and without repeats.
@@ -50,15 +40,51 @@ fn met_at(
     ensures { IfOk result (λ ts.
         Ascends (tags_of_sites site_tags.now (map (λ s. s.0) sites.now)) (map (λ t. t.0) ts)) }
 {
-    let numbers = numbers_of_sites(alloc, sites, site_tags)?;
-    let mut ascending = Seq::new(alloc);
-    append_numbers(&numbers, &mut ascending)?;
+    let mut numbers = Seq::new(alloc);
+    put_tags_of(sites, site_tags, &mut numbers)?;
+    let listed = ascending(numbers);
     let mut tags = Seq::new(alloc);
-    as_tags(ascending.as_slice(), &mut tags)?;
+    as_tags(listed.as_slice(), &mut tags)?;
     Ok(tags)
 }
 
-/// The tags of the sites of each variable.
+fn same_sites(a: &[Site], b: &[Site]) -> bool
+    ensures { result ≡ true → map (λ s. s.0) a.now ≡ map (λ s. s.0) b.now }
+{
+    if a.len() != b.len() {
+        return false;
+    }
+    for i in 0..a.len() {
+        if a[i].0 != b[i].0 {
+            return false;
+        }
+    }
+    true
+}
+
+// The tags of some sites: where an earlier variable has the same sites, its entry again.
+fn met_again(
+    alloc: Global,
+    table: &Seq<Seq<TagId>>,
+    earlier: usize,
+    var_sites: &Seq<Seq<Site>>,
+    site_tags: &Seq<Seq<TagId>>,
+    sites: &[Site],
+) -> Result<Seq<TagId>, AllocError>
+    requires { MetSoFar site_tags.now var_sites.now table.now }
+    ensures { IfOk result (λ ts.
+        Ascends (tags_of_sites site_tags.now (map (λ s. s.0) sites.now)) (map (λ t. t.0) ts)) }
+{
+    if earlier < table.len() {
+        if same_sites(sites, site_entry(var_sites, earlier)) {
+            return Seq::from_slice(alloc, tag_entry(table, earlier));
+        }
+    }
+    met_at(alloc, sites, site_tags)
+}
+
+/// The tags of the sites of each variable. In a case the fields of all alternatives often have the same sites, so the last
+/// entry that has a tag may serve again.
 pub fn met_table(
     alloc: Global,
     var_sites: &Seq<Seq<Site>>,
@@ -67,8 +93,13 @@ pub fn met_table(
     ensures { IfOk result (MetTable site_tags.now var_sites.now) }
 {
     let mut table = Seq::new(alloc);
+    let mut earlier = 0;
     for n in 0..var_sites.len() {
-        table.push(met_at(alloc, site_entry(var_sites, n), site_tags)?)?;
+        let sites = site_entry(var_sites, n);
+        table.push(met_again(alloc, &table, earlier, var_sites, site_tags, sites)?)?;
+        if !sites.is_empty() {
+            earlier = n;
+        }
     }
     Ok(table)
 }

@@ -4,6 +4,7 @@ ghost use Rattle.std.specs.Prelude.{◌≡◌, [], ◌∷◌, ◌++◌, cond, On
 ghost use Rattle.std.specs.List.{flat_map};
 ghost use Rattle.flow_system.specs.Shown.{tables_of};
 ghost use Rattle.points_to.specs.Held.{same_part, picked_one, picked, in_part, field_of_tag, fetched, as_word, node_of_word, as_nodes, enough, shifted_word, field_or_zero_of, made_node, done_items};
+ghost use Rattle.points_to.specs.OneTag.{is_tag, node_if_tag, as_nodes_of};
 ghost use Rattle.points_to.specs.Shift.{shifted};
 
 use crate::facts::Item;
@@ -342,6 +343,69 @@ pub fn nodes_of_words(
     for word in words {
         node_of_word(system, k, items, *word, out)?;
     }
+    Ok(())
+}
+
+fn is_tag(t: u32, word: Element) -> bool
+    ensures { result ≡ is_tag t word }
+{
+    match word {
+        Element::Cell(_) => false,
+        Element::Tag(u) => u == t,
+        Element::Number => false,
+    }
+}
+
+fn node_if_tag(
+    system: &FlowSystem,
+    t: u32,
+    k: Option<usize>,
+    items: &[Item],
+    word: Element,
+    out: &mut Seq<Item>,
+) -> Result<(), AllocError>
+    ensures { OnOk result (out.new ≡ out.old
+        ++ node_if_tag (tables_of system.now) t k items.now word) }
+{
+    if is_tag(t, word) {
+        return node_of_word(system, k, items, word, out);
+    }
+    Ok(())
+}
+
+fn nodes_of_tag(
+    system: &FlowSystem,
+    t: u32,
+    k: Option<usize>,
+    items: &[Item],
+    words: &[Element],
+    out: &mut Seq<Item>,
+) -> Result<(), AllocError>
+    ensures { OnOk result (out.new ≡ out.old
+        ++ flat_map (node_if_tag (tables_of system.now) t k items.now) words.now) }
+{
+    for word in words {
+        node_if_tag(system, t, k, items, *word, out)?;
+    }
+    Ok(())
+}
+
+/// The items as nodes, but of the nodes that words stand for those of one tag alone.
+pub fn as_nodes_of(
+    alloc: Global,
+    system: &FlowSystem,
+    t: u32,
+    k: Option<usize>,
+    items: &[Item],
+    out: &mut Seq<Item>,
+) -> Result<(), AllocError>
+    ensures { OnOk result (out.new ≡ out.old
+        ++ as_nodes_of (tables_of system.now) t k items.now) }
+{
+    append_shifted(system, Shift::Nodes, items, out)?;
+    let mut firsts = Seq::new(alloc);
+    picked(Part::Word(0), items, &mut firsts)?;
+    nodes_of_tag(system, t, k, items, firsts.as_slice(), out)?;
     Ok(())
 }
 

@@ -1,11 +1,9 @@
 // Lists of what readers want, place by place.
 
 ghost use Rattle.std.specs.Prelude.{◌≡◌, ◌<◌, ℕ, [], ◌∷◌, ◌++◌, map, length, slice_get, OnOk, IfOk};
-ghost use Rattle.std.specs.Ordering.{nat_cmp};
-ghost use Rattle.std.specs.BTreeSet.{IsOrdered};
+ghost use Rattle.std.specs.List.Sorted.{IsStrictlyIncreasing};
 ghost use Rattle.points_to.specs.Known.{held};
 ghost use Rattle.points_to.specs.Wanted.{tag_in, site_in, wanted_of, wanted, place_of, SameSet, Lists, tag_id, site_id, numbers_by, TagTable, SiteTable};
-ghost use Rattle.points_to.specs.Joined.{Joined};
 
 use crate::facts::{Facts, Item};
 use crate::wanted::{Kind, Wanted};
@@ -13,106 +11,78 @@ use flow_system::fact::{Element, Part, Place};
 use grin_syntax::program::{Site, TagId};
 use seq::Seq;
 use std::alloc::{AllocError, Global};
-use std::collections::BTreeSet;
 
-/// A number is put into a set.
-pub fn put_number(numbers: &mut BTreeSet<u32>, n: u32) -> Result<(), AllocError>
-    ensures joined { OnOk result (Joined numbers.old.keys (n ∷ []) numbers.new.keys) }
-    ensures ordered { OnOk result (IsOrdered nat_cmp numbers.new) }
-{
-    numbers.insert(n)?;
-    Ok(())
-}
-
-fn put_nothing(numbers: &mut BTreeSet<u32>) -> Result<(), AllocError>
-    requires { IsOrdered nat_cmp numbers.old }
-    ensures joined { OnOk result (Joined numbers.old.keys [] numbers.new.keys) }
-    ensures ordered { OnOk result (IsOrdered nat_cmp numbers.new) }
-{
-    Ok(())
-}
-
-fn put_tag(word: Element, numbers: &mut BTreeSet<u32>) -> Result<(), AllocError>
-    requires { IsOrdered nat_cmp numbers.old }
-    ensures joined { OnOk result (Joined numbers.old.keys (tag_in word) numbers.new.keys) }
-    ensures ordered { OnOk result (IsOrdered nat_cmp numbers.new) }
+fn put_tag(word: Element, out: &mut Seq<u32>) -> Result<(), AllocError>
+    ensures { OnOk result (out.new ≡ out.old ++ tag_in word) }
 {
     match word {
-        Element::Cell(_) => put_nothing(numbers),
-        Element::Tag(t) => put_number(numbers, t),
-        Element::Number => put_nothing(numbers),
+        Element::Cell(_) => Ok(()),
+        Element::Tag(t) => out.push(t),
+        Element::Number => Ok(()),
     }
 }
 
-fn put_site(word: Element, numbers: &mut BTreeSet<u32>) -> Result<(), AllocError>
-    requires { IsOrdered nat_cmp numbers.old }
-    ensures joined { OnOk result (Joined numbers.old.keys (site_in word) numbers.new.keys) }
-    ensures ordered { OnOk result (IsOrdered nat_cmp numbers.new) }
+fn put_site(word: Element, out: &mut Seq<u32>) -> Result<(), AllocError>
+    ensures { OnOk result (out.new ≡ out.old ++ site_in word) }
 {
     match word {
-        Element::Cell(s) => put_number(numbers, s),
-        Element::Tag(_) => put_nothing(numbers),
-        Element::Number => put_nothing(numbers),
+        Element::Cell(s) => out.push(s),
+        Element::Tag(_) => Ok(()),
+        Element::Number => Ok(()),
     }
 }
 
-fn put_wanted(w: Wanted, item: Item, numbers: &mut BTreeSet<u32>) -> Result<(), AllocError>
-    requires { IsOrdered nat_cmp numbers.old }
-    ensures joined { OnOk result
-        (Joined numbers.old.keys (wanted_of w item.part item.word) numbers.new.keys) }
-    ensures ordered { OnOk result (IsOrdered nat_cmp numbers.new) }
+fn put_wanted(w: Wanted, item: Item, out: &mut Seq<u32>) -> Result<(), AllocError>
+    ensures { OnOk result (out.new ≡ out.old ++ wanted_of w item.part item.word) }
 {
     match w {
         Wanted::NodeTags => match item.part {
-            Part::Tags => put_tag(item.word, numbers),
-            Part::Field(_, _) => put_nothing(numbers),
-            Part::Word(_) => put_nothing(numbers),
+            Part::Tags => put_tag(item.word, out),
+            Part::Field(_, _) => Ok(()),
+            Part::Word(_) => Ok(()),
         },
         Wanted::Tags => match item.part {
-            Part::Tags => put_tag(item.word, numbers),
-            Part::Field(_, _) => put_nothing(numbers),
+            Part::Tags => put_tag(item.word, out),
+            Part::Field(_, _) => Ok(()),
             Part::Word(j) => {
                 if j == 0 {
-                    put_tag(item.word, numbers)
-                } else {
-                    put_nothing(numbers)
+                    return put_tag(item.word, out);
                 }
+                Ok(())
             }
         },
         Wanted::Sites => match item.part {
-            Part::Tags => put_nothing(numbers),
-            Part::Field(_, _) => put_nothing(numbers),
+            Part::Tags => Ok(()),
+            Part::Field(_, _) => Ok(()),
             Part::Word(j) => {
                 if j == 0 {
-                    put_site(item.word, numbers)
-                } else {
-                    put_nothing(numbers)
+                    return put_site(item.word, out);
                 }
+                Ok(())
             }
         },
     }
 }
 
 // What is wanted of some items.
-fn wanted_numbers(alloc: Global, items: &[Item], w: Wanted) -> Result<BTreeSet<u32>, AllocError>
-    ensures same { IfOk result (λ s. SameSet s.keys (wanted w items.now)) }
-    ensures ordered { IfOk result (λ s. IsOrdered nat_cmp s) }
+fn put_all_wanted(w: Wanted, items: &[Item], out: &mut Seq<u32>) -> Result<(), AllocError>
+    ensures { OnOk result (out.new ≡ out.old ++ wanted w items.now) }
 {
-    let mut numbers = BTreeSet::new(alloc);
     for item in items {
-        put_wanted(w, *item, &mut numbers)?;
-    }
-    Ok(numbers)
-}
-
-/// The numbers of a set, ascending.
-pub fn append_numbers(numbers: &BTreeSet<u32>, out: &mut Seq<u32>) -> Result<(), AllocError>
-    ensures { OnOk result (out.new ≡ out.old ++ numbers.now.keys) }
-{
-    for n in numbers {
-        out.push(*n)?;
+        put_wanted(w, *item, out)?;
     }
     Ok(())
+}
+
+/// Numbers in any order, made ascending and without repeats.
+pub fn ascending(numbers: Seq<u32>) -> Seq<u32>
+    ensures ascending { IsStrictlyIncreasing result }
+    ensures same { SameSet result numbers }
+{
+    let mut listed = numbers.into_vec();
+    listed.sort_unstable();
+    listed.dedup();
+    Seq::from_vec(listed)
 }
 
 // What is wanted of the items at a place, ascending and without repeats.
@@ -121,10 +91,9 @@ fn numbers_at(alloc: Global, facts: &Facts, place: Place, w: Wanted) -> Result<S
 {
     let mut items = Seq::new(alloc);
     facts.append(place, &mut items)?;
-    let numbers = wanted_numbers(alloc, items.as_slice(), w)?;
-    let mut out = Seq::new(alloc);
-    append_numbers(&numbers, &mut out)?;
-    Ok(out)
+    let mut numbers = Seq::new(alloc);
+    put_all_wanted(w, items.as_slice(), &mut numbers)?;
+    Ok(ascending(numbers))
 }
 
 /// Numbers as tags.

@@ -25,7 +25,7 @@ use Rattle.register_alloc.specs.declared.registers.Registers.{Registers}
 use Rattle.register_alloc.proofs.Lists.{among_cases, among_first, among_more, among_left, among_either, true_or_false}
 use Rattle.register_alloc.proofs.Counted.{times_append, once}
 use Rattle.register_alloc.proofs.NotLater.{none_later, scoped_at}
-use Rattle.register_alloc.proofs.LiveCalls.{sites_of_points, points_calls, to_point, from_point, first_of_both, second_of_both}
+use Rattle.register_alloc.proofs.LiveCalls.{sites_of_points, points_calls, to_point, from_point, each_weaker}
 use Rattle.register_alloc.proofs.Tables.{given_among}
 use Rattle.register_alloc.proofs.ResultMask.{result_bit, bit_result}
 use Rattle.register_alloc.proofs.Pigeons.{no_more}
@@ -434,7 +434,7 @@ module _ (p : Program) (a : Assignment) (ws : List Registers) (gs : List Given) 
           slice_get_within a.saves s h.0 (subst (λ z. slice_get a.saves z ≡ Some h.0) i.1.1.1 h.1.0);
     };
     places = λ x m. let w = found p.procs x m in is_place w.0 w.1.0 w.1.1.0 x w.1.1.1;
-    apart = λ f q e. let h = good f q e in (h.0.0, first_of_both (Apart (place_of a)) (Full (place_of a)) q.params q.body [] h.1);
+    apart = λ f q e. let h = good f q e in (h.0.0, each_weaker (Good (place_of a)) (Apart (place_of a)) (λ _ _ _ _ both. both.0) q.params q.body [] h.1);
     changed = λ f r h. reached f r ((least f r).0 (bit_of f r h));
     written = λ f r l. (λ h. to_written f r ((least f r).0 (bit_of f r h)), λ h. of_bit f r ((least f r).1 (of_written f r h)));
     saved = λ f k site to r q e c. saved f k site to r q e c;
@@ -446,6 +446,6 @@ module _ (p : Program) (a : Assignment) (ws : List Registers) (gs : List Given) 
 
   pub all_used : UsesRegisters p a
   all_used = record {
-    full = λ f q e. let h = good f q e in (h.0.1, second_of_both (Apart (place_of a)) (Full (place_of a)) q.params q.body [] h.1);
+    full = λ f q e. let h = good f q e in (h.0.1, each_weaker (Good (place_of a)) (Full (place_of a)) (λ _ _ _ _ both. both.1) q.params q.body [] h.1);
     parameters = parameters;
   }

@@ -137,48 +137,25 @@ mutual
     | inr m ↦ inr (arms_from_point s scope as' later y m)
   ]
 
--- ---- two properties of each binding at once
+-- ---- a weaker property of each binding
 
-module _ (P Q : (scope xs : List ℕ) → Code → (later : List ℕ) → Type 0) where
-  abbrev Both : (scope xs : List ℕ) → Code → (later : List ℕ) → Type 0
-  Both scope xs c later = P scope xs c later × Q scope xs c later
-
+module _ (P Q : (scope xs : List ℕ) → Code → (later : List ℕ) → Type 0) (weaker : (scope xs : List ℕ) (c : Code) (later : List ℕ) → P scope xs c later → Q scope xs c later) where
   mutual
-    pub first_of_both : (scope : List ℕ) (c : Code) (later : List ℕ) → EachBinding Both scope c later → EachBinding P scope c later
-    first_of_both scope (set x a c) later e = (e.0.0, first_of_both (x ∷ scope) c later e.1)
-    first_of_both scope (prim f x a b c) later e = (e.0.0, first_of_both (x ∷ scope) c later e.1)
-    first_of_both scope (load x a k c) later e = (e.0.0, first_of_both (x ∷ scope) c later e.1)
-    first_of_both scope (save a k b c) later e = first_of_both scope c later e
-    first_of_both scope (take xs c) later e = (e.0.0, first_of_both (xs ++ scope) c later e.1)
-    first_of_both scope (put a c) later e = first_of_both scope c later e
-    first_of_both scope (get x c) later e = (e.0.0, first_of_both (x ∷ scope) c later e.1)
-    first_of_both scope (call f site ops xs c) later e = (e.0.0, first_of_both (xs ++ scope) c later e.1)
-    first_of_both scope (join xs b c) later e = (first_of_both scope b (uses c ++ later) e.0, (e.1.0.0, first_of_both (xs ++ scope) c later e.1.1))
-    first_of_both scope (give ops) later e = tt
-    first_of_both scope (tail f site ops) later e = tt
-    first_of_both scope (choose as') later e = first_of_arms scope as' later e
-    first_of_both scope fail later e = tt
+    pub each_weaker : (scope : List ℕ) (c : Code) (later : List ℕ) → EachBinding P scope c later → EachBinding Q scope c later
+    each_weaker scope (set x a c) later e = (weaker scope (x ∷ []) c later e.0, each_weaker (x ∷ scope) c later e.1)
+    each_weaker scope (prim f x a b c) later e = (weaker scope (x ∷ []) c later e.0, each_weaker (x ∷ scope) c later e.1)
+    each_weaker scope (load x a k c) later e = (weaker scope (x ∷ []) c later e.0, each_weaker (x ∷ scope) c later e.1)
+    each_weaker scope (save a k b c) later e = each_weaker scope c later e
+    each_weaker scope (take xs c) later e = (weaker scope xs c later e.0, each_weaker (xs ++ scope) c later e.1)
+    each_weaker scope (put a c) later e = each_weaker scope c later e
+    each_weaker scope (get x c) later e = (weaker scope (x ∷ []) c later e.0, each_weaker (x ∷ scope) c later e.1)
+    each_weaker scope (call f site ops xs c) later e = (weaker scope xs c later e.0, each_weaker (xs ++ scope) c later e.1)
+    each_weaker scope (join xs b c) later e = (each_weaker scope b (uses c ++ later) e.0, (weaker scope xs c later e.1.0, each_weaker (xs ++ scope) c later e.1.1))
+    each_weaker scope (give ops) later e = tt
+    each_weaker scope (tail f site ops) later e = tt
+    each_weaker scope (choose as') later e = arms_weaker scope as' later e
+    each_weaker scope fail later e = tt
 
-    first_of_arms : (scope : List ℕ) (as' : Arms) (later : List ℕ) → EachBindingOfArms Both scope as' later → EachBindingOfArms P scope as' later
-    first_of_arms scope (otherwise c) later e = first_of_both scope c later e
-    first_of_arms scope (arm ts c as') later e = (first_of_both scope c later e.0, first_of_arms scope as' later e.1)
-
-  mutual
-    pub second_of_both : (scope : List ℕ) (c : Code) (later : List ℕ) → EachBinding Both scope c later → EachBinding Q scope c later
-    second_of_both scope (set x a c) later e = (e.0.1, second_of_both (x ∷ scope) c later e.1)
-    second_of_both scope (prim f x a b c) later e = (e.0.1, second_of_both (x ∷ scope) c later e.1)
-    second_of_both scope (load x a k c) later e = (e.0.1, second_of_both (x ∷ scope) c later e.1)
-    second_of_both scope (save a k b c) later e = second_of_both scope c later e
-    second_of_both scope (take xs c) later e = (e.0.1, second_of_both (xs ++ scope) c later e.1)
-    second_of_both scope (put a c) later e = second_of_both scope c later e
-    second_of_both scope (get x c) later e = (e.0.1, second_of_both (x ∷ scope) c later e.1)
-    second_of_both scope (call f site ops xs c) later e = (e.0.1, second_of_both (xs ++ scope) c later e.1)
-    second_of_both scope (join xs b c) later e = (second_of_both scope b (uses c ++ later) e.0, (e.1.0.1, second_of_both (xs ++ scope) c later e.1.1))
-    second_of_both scope (give ops) later e = tt
-    second_of_both scope (tail f site ops) later e = tt
-    second_of_both scope (choose as') later e = second_of_arms scope as' later e
-    second_of_both scope fail later e = tt
-
-    second_of_arms : (scope : List ℕ) (as' : Arms) (later : List ℕ) → EachBindingOfArms Both scope as' later → EachBindingOfArms Q scope as' later
-    second_of_arms scope (otherwise c) later e = second_of_both scope c later e
-    second_of_arms scope (arm ts c as') later e = (second_of_both scope c later e.0, second_of_arms scope as' later e.1)
+    arms_weaker : (scope : List ℕ) (as' : Arms) (later : List ℕ) → EachBindingOfArms P scope as' later → EachBindingOfArms Q scope as' later
+    arms_weaker scope (otherwise c) later e = each_weaker scope c later e
+    arms_weaker scope (arm ts c as') later e = (each_weaker scope c later e.0, arms_weaker scope as' later e.1)

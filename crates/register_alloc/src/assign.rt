@@ -150,8 +150,10 @@ fn is_in(mask: u32, register: u8) -> bool
 
 /// Adds a register where it is in a mask.
 fn save_one(saved: &mut Seq<u8>, register: u8, mask: u32) -> Result<(), AllocError>
-    ensures there { OnOk result (register < 32 → bit_at mask register ≡ 1 → saved.new ≡ saved.old ++ (register ∷ [])) }
-    ensures not { OnOk result (register < 32 → (bit_at mask register ≡ 1 → ⊥) → saved.new ≡ saved.old) }
+    ensures there { OnOk result (register < 32 → bit_at mask register ≡ 1 → saved.new ≡ saved.old
+        ++ (register ∷ [])) }
+    ensures not { OnOk result (register < 32 → (bit_at mask register ≡ 1 → ⊥) → saved.new
+        ≡ saved.old) }
 {
     if is_in(mask, register) {
         saved.push(register)?;
@@ -173,8 +175,10 @@ fn saved(alloc: Global, live: &[u8], mask: u32) -> Result<Seq<u8>, AllocError>
 /// Adds empty lists until there is one for the site.
 fn reach(alloc: Global, saves: &mut Vec<Seq<u8>>, site: u32) -> Result<(), AllocError>
     ensures reached { OnOk result (site < length saves.new.items) }
-    ensures more { OnOk result ((s : ℕ) (rs : List ℕ) → slice_get saves.old.items s ≡ Some rs → slice_get saves.new.items s ≡ Some rs) }
-    ensures empty { OnOk result ((s : ℕ) (rs : List ℕ) → slice_get saves.new.items s ≡ Some rs → (slice_get saves.old.items s ≡ Some rs) ⊎ (rs ≡ [])) }
+    ensures more { OnOk result ((s : ℕ) (rs : List ℕ) → slice_get saves.old.items s ≡ Some rs
+        → slice_get saves.new.items s ≡ Some rs) }
+    ensures empty { OnOk result ((s : ℕ) (rs : List ℕ) → slice_get saves.new.items s ≡ Some rs
+        → (slice_get saves.old.items s ≡ Some rs) ⊎ (rs ≡ [])) }
 {
     let at = site as usize;
     while saves.len() <= at {
@@ -205,7 +209,8 @@ fn save_all(
     calls: &[CallSite],
     masks: &[u32],
 ) -> Result<(), AllocError>
-    ensures { OnOk result ((done : List CallSite) → SavesHold masks.now done saves.old.items → SavesHold masks.now (done ++ calls.now) saves.new.items) }
+    ensures { OnOk result ((done : List CallSite) → SavesHold masks.now done saves.old.items
+        → SavesHold masks.now (done ++ calls.now) saves.new.items) }
 {
     for call in calls {
         save(alloc, saves, call, masks)?;
@@ -269,8 +274,12 @@ fn frames(alloc: Global, walks: &[Registers], saves: &[Seq<u8>]) -> Result<Vec<u
 /// Places for the variables of a program. They fit a program that is formed and whose procedures take at most 16 words and give
 /// at most 13 words each, and use every register before a slot. `AllocError` where memory is wanting.
 pub fn allocate(alloc: Global, low: &Low) -> Result<Places, AllocError>
-    ensures fits { IfOk result (λ a. Formed (program_of low.now) → HaveFewParameters (program_of low.now).procs → HaveFewResults (program_of low.now).procs → Fits (program_of low.now) a) }
-    ensures uses { IfOk result (λ a. Formed (program_of low.now) → HaveFewParameters (program_of low.now).procs → HaveFewResults (program_of low.now).procs → UsesRegisters (program_of low.now) a) }
+    ensures fits { IfOk result (λ a. Formed (program_of low.now)
+        → HaveFewParameters (program_of low.now).procs → HaveFewResults (program_of low.now).procs
+        → Fits (program_of low.now) a) }
+    ensures uses { IfOk result (λ a. Formed (program_of low.now)
+        → HaveFewParameters (program_of low.now).procs → HaveFewResults (program_of low.now).procs
+        → UsesRegisters (program_of low.now) a) }
 {
     let all = gather(alloc, low.procs.as_slice())?;
     let places = spots(alloc, all.given.as_slice())?;

@@ -47,7 +47,8 @@ impl Holders {
         from: u32,
         to: u32,
     ) -> Result<Holders, AllocError>
-        ensures { IfOk result (λ h. (used : List ℕ) → AreUses used uses.now → AreStillUsed used from to self.now.of.items h.of.items) }
+        ensures { IfOk result (λ h. (used : List ℕ) → AreUses used uses.now
+            → AreStillUsed used from to self.now.of.items h.of.items) }
     {
         let mut of = Vec::new(alloc);
         for held in self.of.as_slice() {
@@ -64,7 +65,8 @@ impl Holders {
         from: u32,
         to: u32,
     ) -> Result<Holders, AllocError>
-        ensures { IfOk result (λ h. (used : List ℕ) → AreUses used uses.now → AreEntering used from to self.now.of.items h.of.items) }
+        ensures { IfOk result (λ h. (used : List ℕ) → AreUses used uses.now
+            → AreEntering used from to self.now.of.items h.of.items) }
     {
         let mut of = Vec::new(alloc);
         for held in self.of.as_slice() {
@@ -83,7 +85,8 @@ impl Holders {
 
     /// A free register, the wanted one where it is free. They are numbered from x8 on.
     pub fn free(&self, wanted: Option<usize>) -> Option<usize>
-        ensures { MatchOption result ((r : ℕ) → r < length self.now.of.items → (d : Holder) × Held self.now.of.items r d) (λ r. slice_get self.now.of.items r ≡ Some None) }
+        ensures { MatchOption result ((r : ℕ) → r < length self.now.of.items → (d : Holder)
+            × Held self.now.of.items r d) (λ r. slice_get self.now.of.items r ≡ Some None) }
     {
         match wanted {
             Some(register) => {
@@ -107,7 +110,8 @@ impl Holders {
     }
 
     fn first_free(&self) -> Option<usize>
-        ensures { MatchOption result ((r : ℕ) → r < length self.now.of.items → (d : Holder) × Held self.now.of.items r d) (λ r. slice_get self.now.of.items r ≡ Some None) }
+        ensures { MatchOption result ((r : ℕ) → r < length self.now.of.items → (d : Holder)
+            × Held self.now.of.items r d) (λ r. slice_get self.now.of.items r ≡ Some None) }
     {
         for register in 0..self.of.len() {
             if is_none(self.of[register]) {
@@ -120,7 +124,8 @@ impl Holders {
     /// Lets a variable that isn't used later hold a register.
     pub fn hold(&mut self, register: usize, variable: u32)
         requires { register < length self.old.of.items }
-        ensures { self.new.of.items ≡ slice_set self.old.of.items register (Some (new_holder variable)) }
+        ensures { self.new.of.items
+            ≡ slice_set self.old.of.items register (Some (new_holder variable)) }
     {
         self.of[register] = Some(Holder {
             variable,
@@ -162,7 +167,8 @@ fn is_none(held: Option<Holder>) -> bool
 
 /// Adds a register where it is held.
 fn add_held(registers: &mut Seq<u8>, held: Option<Holder>, register: u8) -> Result<(), AllocError>
-    ensures { OnOk result (MatchOption held (registers.new ≡ registers.old) (λ d. registers.new ≡ registers.old ++ (register ∷ []))) }
+    ensures { OnOk result (MatchOption held (registers.new ≡ registers.old) (λ d. registers.new
+        ≡ registers.old ++ (register ∷ []))) }
 {
     match held {
         Some(_) => registers.push(register)?,

@@ -33,7 +33,12 @@ impl Model for Places {
 
     ghost Value = { Assignment };
 
-    ghost view = { λ p. record { spots = p.spots.items; masks = p.masks.items; saves = p.saves.items; frames = p.frames.items } };
+    ghost view = { λ p. record {
+      spots = p.spots.items;
+      masks = p.masks.items;
+      saves = p.saves.items;
+      frames = p.frames.items;
+    } };
 }
 
 impl Places {

@@ -157,7 +157,8 @@ impl Registers {
         variable: u32,
         wanted: Option<usize>,
     ) -> Result<(), AllocError>
-        ensures { OnOk result (Gives variable self.old holders.old.of.items self.new holders.new.of.items) }
+        ensures { OnOk result (Gives variable self.old holders.old.of.items self.new
+            holders.new.of.items) }
     {
         match holders.free(wanted) {
             Some(register) => {
@@ -192,7 +193,8 @@ impl Registers {
         variables: &[u32],
         wanted: Option<usize>,
     ) -> Result<(), AllocError>
-        ensures giving { OnOk result (AllGiven variables.now self.old holders.old.of.items self.new holders.new.of.items) }
+        ensures giving { OnOk result
+            (AllGiven variables.now self.old holders.old.of.items self.new holders.new.of.items) }
         ensures adds { OnOk result (Adds variables.now self.old self.new) }
         ensures stays { OnOk result (SameText self.old self.new) }
         ensures calls { OnOk result (self.new.calls.items ≡ self.old.calls.items) }
@@ -212,7 +214,8 @@ impl Registers {
         variables: &[u32],
         wanted: Option<usize>,
     ) -> Result<Holders, AllocError>
-        ensures bound { IfOk result (λ h. Binds text.now variables.now end self.old holders.now.of.items self.new h.of.items) }
+        ensures bound { IfOk result (λ h.
+            Binds text.now variables.now end self.old holders.now.of.items self.new h.of.items) }
         ensures adds { OnOk result (Adds variables.now self.old self.new) }
         ensures block { OnOk result (self.new.block ≡ self.old.block) }
         ensures calls { OnOk result (self.new.calls.items ≡ self.old.calls.items) }
@@ -232,8 +235,10 @@ impl Registers {
         proc: u32,
         targets: &[u32],
     ) -> Result<Holders, AllocError>
-        ensures bound { IfOk result (λ h. Binds text.now targets.now end self.old holders.now.of.items self.new h.of.items) }
-        ensures notes { OnOk result (NotesCall text.now site proc end self.old holders.now.of.items self.new) }
+        ensures bound { IfOk result (λ h.
+            Binds text.now targets.now end self.old holders.now.of.items self.new h.of.items) }
+        ensures notes { OnOk result
+            (NotesCall text.now site proc end self.old holders.now.of.items self.new) }
         ensures adds { OnOk result (Adds targets.now self.old self.new) }
         ensures block { OnOk result (self.new.block ≡ self.old.block) }
     {
@@ -245,7 +250,9 @@ impl Registers {
 
     /// Notes a call, after which these hold the registers.
     fn note(&mut self, site: u32, proc: u32, holders: &Holders) -> Result<(), AllocError>
-        ensures call { OnOk result ((k : CallSite) × ((self.new.calls.items ≡ self.old.calls.items ++ (k ∷ [])) × ((k.site ≡ site) × ((k.proc ≡ proc) × AreRegisters holders.now.of.items k.live)))) }
+        ensures call { OnOk result ((k : CallSite)
+            × ((self.new.calls.items ≡ self.old.calls.items ++ (k ∷ []))
+            × ((k.site ≡ site) × ((k.proc ≡ proc) × AreRegisters holders.now.of.items k.live)))) }
         ensures text { OnOk result (SameText self.old self.new) }
         ensures stays { OnOk result (SamePlaces self.old self.new) }
     {
@@ -262,7 +269,9 @@ impl Registers {
         variable: u32,
         value: &Operand,
     ) -> Result<Holders, AllocError>
-        ensures { IfOk result (λ h. Does text.now (set variable value.now) end self.old holders.now.of.items self.new h.of.items) }
+        ensures { IfOk result (λ h.
+            Does text.now (set variable value.now) end self.old holders.now.of.items self.new
+            h.of.items) }
     {
         self.pass(uses_of(value))?;
         let next = self.bind(text, holders, end, &[variable], held_by(holders, value))?;
@@ -279,7 +288,9 @@ impl Registers {
         left: &Operand,
         right: &Operand,
     ) -> Result<Holders, AllocError>
-        ensures { IfOk result (λ h. Does text.now (prim op variable left.now right.now) end self.old holders.now.of.items self.new h.of.items) }
+        ensures { IfOk result (λ h.
+            Does text.now (prim op variable left.now right.now) end self.old holders.now.of.items
+            self.new h.of.items) }
     {
         self.pass(uses_of(left))?;
         self.pass(uses_of(right))?;
@@ -296,7 +307,9 @@ impl Registers {
         cell: &Operand,
         index: u32,
     ) -> Result<Holders, AllocError>
-        ensures { IfOk result (λ h. Does text.now (load variable cell.now index) end self.old holders.now.of.items self.new h.of.items) }
+        ensures { IfOk result (λ h.
+            Does text.now (load variable cell.now index) end self.old holders.now.of.items self.new
+            h.of.items) }
     {
         self.pass(uses_of(cell))?;
         let next = self.bind(text, holders, end, &[variable], None)?;
@@ -304,7 +317,8 @@ impl Registers {
     }
 
     fn store(&mut self, cell: &Operand, index: u32, value: &Operand) -> Result<(), AllocError>
-        ensures { OnOk result ((text : Text) (end : ℕ) (held : List (Option Holder)) → Does text (save cell.now index value.now) end self.old held self.new held) }
+        ensures { OnOk result ((text : Text) (end : ℕ) (held : List (Option Holder))
+            → Does text (save cell.now index value.now) end self.old held self.new held) }
     {
         self.pass(uses_of(cell))?;
         self.pass(uses_of(value))?;
@@ -318,14 +332,17 @@ impl Registers {
         end: u32,
         variables: &[u32],
     ) -> Result<Holders, AllocError>
-        ensures { IfOk result (λ h. Does text.now (take variables.now) end self.old holders.now.of.items self.new h.of.items) }
+        ensures { IfOk result (λ h.
+            Does text.now (take variables.now) end self.old holders.now.of.items self.new
+            h.of.items) }
     {
         let next = self.bind(text, holders, end, variables, None)?;
         Ok(next)
     }
 
     fn output(&mut self, value: &Operand) -> Result<(), AllocError>
-        ensures { OnOk result ((text : Text) (end : ℕ) (held : List (Option Holder)) → Does text (put value.now) end self.old held self.new held) }
+        ensures { OnOk result ((text : Text) (end : ℕ) (held : List (Option Holder))
+            → Does text (put value.now) end self.old held self.new held) }
     {
         self.pass(uses_of(value))?;
         Ok(())
@@ -338,7 +355,8 @@ impl Registers {
         end: u32,
         variable: u32,
     ) -> Result<Holders, AllocError>
-        ensures { IfOk result (λ h. Does text.now (get variable) end self.old holders.now.of.items self.new h.of.items) }
+        ensures { IfOk result (λ h.
+            Does text.now (get variable) end self.old holders.now.of.items self.new h.of.items) }
     {
         let next = self.bind(text, holders, end, &[variable], None)?;
         Ok(next)
@@ -354,7 +372,9 @@ impl Registers {
         given: &[Operand],
         targets: &[u32],
     ) -> Result<Holders, AllocError>
-        ensures { IfOk result (λ h. Does text.now (call proc site given.now targets.now) end self.old holders.now.of.items self.new h.of.items) }
+        ensures { IfOk result (λ h.
+            Does text.now (call proc site given.now targets.now) end self.old holders.now.of.items
+            self.new h.of.items) }
     {
         self.pass_operands(given)?;
         let next = self.call(text, holders, end, site, proc, targets)?;
@@ -370,7 +390,8 @@ impl Registers {
         holders: Holders,
         end: u32,
     ) -> Result<(), AllocError>
-        ensures { OnOk result (Ends text.now (code_of block.now) end self.old holders.of.items self.new) }
+        ensures { OnOk result (Ends text.now (code_of block.now) end self.old holders.of.items
+            self.new) }
     {
         let mut holders = holders;
         for stmt in block.stmts.as_slice() {
@@ -388,7 +409,8 @@ impl Registers {
         holders: Holders,
         end: u32,
     ) -> Result<Holders, AllocError>
-        ensures { IfOk result (λ h. Does text.now (before_of stmt.now) end self.old holders.of.items self.new h.of.items) }
+        ensures { IfOk result (λ h.
+            Does text.now (before_of stmt.now) end self.old holders.of.items self.new h.of.items) }
     {
         match stmt {
             LowStmt::Set(x, a) => self.set(text, &holders, end, *x, a),
@@ -428,7 +450,9 @@ impl Registers {
         targets: &[u32],
         block: &LowBlock,
     ) -> Result<Holders, AllocError>
-        ensures { IfOk result (λ h. Does text.now (join targets.now (code_of block.now)) end self.old holders.now.of.items self.new h.of.items) }
+        ensures { IfOk result (λ h.
+            Does text.now (join targets.now (code_of block.now)) end self.old holders.now.of.items
+            self.new h.of.items) }
     {
         let inner_end = self.inner_end(text)?;
         let entering = holders.entering(self.alloc, &text.uses, inner_end, end)?;
@@ -445,7 +469,8 @@ impl Registers {
         holders: Holders,
         end: u32,
     ) -> Result<(), AllocError>
-        ensures { OnOk result (Ends text.now (end_of last.now) end self.old holders.of.items self.new) }
+        ensures { OnOk result (Ends text.now (end_of last.now) end self.old holders.of.items
+            self.new) }
     {
         match last {
             LowEnd::Give(given) => self.last_give(given.as_slice())?,
@@ -460,14 +485,16 @@ impl Registers {
     }
 
     fn last_give(&mut self, given: &[Operand]) -> Result<(), AllocError>
-        ensures { OnOk result ((text : Text) (end : ℕ) (held : List (Option Holder)) → Ends text (give given.now) end self.old held self.new) }
+        ensures { OnOk result ((text : Text) (end : ℕ) (held : List (Option Holder))
+            → Ends text (give given.now) end self.old held self.new) }
     {
         self.pass_operands(given)?;
         Ok(())
     }
 
     fn last_call(&mut self, proc: u32, site: u32, given: &[Operand]) -> Result<(), AllocError>
-        ensures { OnOk result ((text : Text) (end : ℕ) (held : List (Option Holder)) → Ends text (tail proc site given.now) end self.old held self.new) }
+        ensures { OnOk result ((text : Text) (end : ℕ) (held : List (Option Holder))
+            → Ends text (tail proc site given.now) end self.old held self.new) }
     {
         self.pass_operands(given)?;
         self.tail(site, proc)?;
@@ -476,7 +503,9 @@ impl Registers {
 
     /// Notes a tail call, after which nothing is live.
     fn tail(&mut self, site: u32, proc: u32) -> Result<(), AllocError>
-        ensures call { OnOk result ((k : CallSite) × ((self.new.calls.items ≡ self.old.calls.items ++ (k ∷ [])) × ((k.site ≡ site) × ((k.proc ≡ proc) × (k.live ≡ []))))) }
+        ensures call { OnOk result ((k : CallSite)
+            × ((self.new.calls.items ≡ self.old.calls.items ++ (k ∷ []))
+            × ((k.site ≡ site) × ((k.proc ≡ proc) × (k.live ≡ []))))) }
         ensures text { OnOk result (SameText self.old self.new) }
         ensures stays { OnOk result (SamePlaces self.old self.new) }
     {
@@ -490,7 +519,9 @@ impl Registers {
 
     #[cycle(registers)]
     fn arms(&mut self, text: &Text, arms: &[LowArm], holders: &Holders) -> Result<(), AllocError>
-        ensures { OnOk result ((end : ℕ) → Does text.now (λ c. choose (arms_before (map arm_of arms.now) c)) end self.old holders.now.of.items self.new holders.now.of.items) }
+        ensures { OnOk result ((end : ℕ)
+            → Does text.now (λ c. choose (arms_before (map arm_of arms.now) c)) end self.old
+            holders.now.of.items self.new holders.now.of.items) }
     {
         for arm in arms {
             self.arm(text, arm, holders)?;
@@ -500,7 +531,8 @@ impl Registers {
 
     #[cycle(registers)]
     fn arm(&mut self, text: &Text, arm: &LowArm, holders: &Holders) -> Result<(), AllocError>
-        ensures { OnOk result (DoesArm text.now arm.now.tests (code_of arm.now.block) self.old holders.now.of.items self.new) }
+        ensures { OnOk result (DoesArm text.now arm.now.tests (code_of arm.now.block) self.old
+            holders.now.of.items self.new) }
     {
         self.pass_tests(arm.tests.as_slice())?;
         let end = self.inner_end(text)?;

@@ -31,7 +31,8 @@ impl Scan {
     }
 
     fn operand(&mut self, operand: &Operand) -> Result<(), AllocError>
-        ensures used { OnOk result (self.new.used.items ≡ self.old.used.items ++ used_by operand.now) }
+        ensures used { OnOk result (self.new.used.items ≡ self.old.used.items
+            ++ used_by operand.now) }
         ensures sizes { OnOk result (self.new.sizes.items ≡ self.old.sizes.items) }
     {
         match operand {
@@ -43,7 +44,8 @@ impl Scan {
     }
 
     fn operands(&mut self, operands: &[Operand]) -> Result<(), AllocError>
-        ensures used { OnOk result (self.new.used.items ≡ self.old.used.items ++ used_by_all operands.now) }
+        ensures used { OnOk result (self.new.used.items ≡ self.old.used.items
+            ++ used_by_all operands.now) }
         ensures sizes { OnOk result (self.new.sizes.items ≡ self.old.sizes.items) }
     {
         for operand in operands {
@@ -53,7 +55,8 @@ impl Scan {
     }
 
     fn tests(&mut self, tests: &[LowTest]) -> Result<(), AllocError>
-        ensures used { OnOk result (self.new.used.items ≡ self.old.used.items ++ used_by_tests tests.now) }
+        ensures used { OnOk result (self.new.used.items ≡ self.old.used.items
+            ++ used_by_tests tests.now) }
         ensures sizes { OnOk result (self.new.sizes.items ≡ self.old.sizes.items) }
     {
         for test in tests {
@@ -67,7 +70,8 @@ impl Scan {
         requires at { at < length self.old.sizes.items }
         requires from { from ≤ length self.old.used.items }
         ensures used { OnOk result (self.new.used.items ≡ self.old.used.items) }
-        ensures sizes { OnOk result (self.new.sizes.items ≡ slice_set self.old.sizes.items at (length self.old.used.items - from)) }
+        ensures sizes { OnOk result (self.new.sizes.items
+            ≡ slice_set self.old.sizes.items at (length self.old.used.items - from)) }
     {
         let many = number(self.used.len() - from)?;
         self.sizes[at] = many;
@@ -77,8 +81,10 @@ impl Scan {
     /// Goes through a block. `AllocError` where memory is wanting.
     #[cycle(scan)]
     pub fn block(&mut self, block: &LowBlock) -> Result<(), AllocError>
-        ensures used { OnOk result (self.new.used.items ≡ self.old.used.items ++ uses (code_of block.now)) }
-        ensures sizes { OnOk result (self.new.sizes.items ≡ self.old.sizes.items ++ sizes_of (code_of block.now)) }
+        ensures used { OnOk result (self.new.used.items ≡ self.old.used.items
+            ++ uses (code_of block.now)) }
+        ensures sizes { OnOk result (self.new.sizes.items ≡ self.old.sizes.items
+            ++ sizes_of (code_of block.now)) }
     {
         for stmt in block.stmts.as_slice() {
             self.stmt(stmt)?;
@@ -90,8 +96,10 @@ impl Scan {
     /// Goes through a block of a join or an arm.
     #[cycle(scan)]
     fn inner(&mut self, block: &LowBlock) -> Result<(), AllocError>
-        ensures used { OnOk result (self.new.used.items ≡ self.old.used.items ++ uses (code_of block.now)) }
-        ensures sizes { OnOk result (self.new.sizes.items ≡ self.old.sizes.items ++ (length (uses (code_of block.now)) ∷ sizes_of (code_of block.now))) }
+        ensures used { OnOk result (self.new.used.items ≡ self.old.used.items
+            ++ uses (code_of block.now)) }
+        ensures sizes { OnOk result (self.new.sizes.items ≡ self.old.sizes.items
+            ++ (length (uses (code_of block.now)) ∷ sizes_of (code_of block.now))) }
     {
         let at = self.sizes.len();
         let from = self.used.len();
@@ -102,8 +110,10 @@ impl Scan {
 
     #[cycle(scan)]
     fn stmt(&mut self, stmt: &LowStmt) -> Result<(), AllocError>
-        ensures used { OnOk result ((c : Code) → self.old.used.items ++ uses (before_of stmt.now c) ≡ self.new.used.items ++ uses c) }
-        ensures sizes { OnOk result ((c : Code) → self.old.sizes.items ++ sizes_of (before_of stmt.now c) ≡ self.new.sizes.items ++ sizes_of c) }
+        ensures used { OnOk result ((c : Code) → self.old.used.items ++ uses (before_of stmt.now c)
+            ≡ self.new.used.items ++ uses c) }
+        ensures sizes { OnOk result ((c : Code) → self.old.sizes.items
+            ++ sizes_of (before_of stmt.now c) ≡ self.new.sizes.items ++ sizes_of c) }
     {
         match stmt {
             LowStmt::Set(_, a) => self.operand(a)?,
@@ -127,8 +137,10 @@ impl Scan {
 
     #[cycle(scan)]
     fn end(&mut self, end: &LowEnd) -> Result<(), AllocError>
-        ensures used { OnOk result (self.new.used.items ≡ self.old.used.items ++ uses (end_of end.now)) }
-        ensures sizes { OnOk result (self.new.sizes.items ≡ self.old.sizes.items ++ sizes_of (end_of end.now)) }
+        ensures used { OnOk result (self.new.used.items ≡ self.old.used.items
+            ++ uses (end_of end.now)) }
+        ensures sizes { OnOk result (self.new.sizes.items ≡ self.old.sizes.items
+            ++ sizes_of (end_of end.now)) }
     {
         match end {
             LowEnd::Give(given) => self.operands(given.as_slice()),
@@ -143,8 +155,11 @@ impl Scan {
 
     #[cycle(scan)]
     fn arms(&mut self, arms: &[LowArm]) -> Result<(), AllocError>
-        ensures used { OnOk result ((c : Code) → self.old.used.items ++ arms_uses (arms_before (map arm_of arms.now) c) ≡ self.new.used.items ++ uses c) }
-        ensures sizes { OnOk result ((c : Code) → self.old.sizes.items ++ arms_sizes (arms_before (map arm_of arms.now) c) ≡ self.new.sizes.items ++ sizes_of c) }
+        ensures used { OnOk result ((c : Code) → self.old.used.items
+            ++ arms_uses (arms_before (map arm_of arms.now) c) ≡ self.new.used.items ++ uses c) }
+        ensures sizes { OnOk result ((c : Code) → self.old.sizes.items
+            ++ arms_sizes (arms_before (map arm_of arms.now) c) ≡ self.new.sizes.items
+            ++ sizes_of c) }
     {
         for arm in arms {
             self.tests(arm.tests.as_slice())?;

@@ -27,7 +27,8 @@ impl Uses {
 
     /// Whether a variable is used at a position from `from` on and before `to`.
     pub fn within(&self, variable: u32, from: u32, to: u32) -> bool
-        ensures { (used : List ℕ) → AreUses used self.now → (result ≡ true) ↔ IsUsedWithin used variable from to }
+        ensures { (used : List ℕ) → AreUses used self.now → (result ≡ true)
+            ↔ IsUsedWithin used variable from to }
     {
         let first = key(variable, from);
         match self.keys.binary_search(&first) {

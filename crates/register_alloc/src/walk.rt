@@ -37,16 +37,20 @@ impl Walk {
 
     /// Binds more variables.
     pub fn bind(&mut self, variables: &[u32]) -> Result<(), AllocError>
-        ensures variables { OnOk result (self.new.variables.items ≡ self.old.variables.items ++ variables.now) }
-        ensures calls { OnOk result (sites_of_calls self.new.calls.items ≡ sites_of_calls self.old.calls.items) }
+        ensures variables { OnOk result (self.new.variables.items ≡ self.old.variables.items
+            ++ variables.now) }
+        ensures calls { OnOk result (sites_of_calls self.new.calls.items
+            ≡ sites_of_calls self.old.calls.items) }
     {
         self.variables.extend_from_slice(variables)?;
         Ok(())
     }
 
     fn bind_one(&mut self, variable: u32) -> Result<(), AllocError>
-        ensures variables { OnOk result (self.new.variables.items ≡ self.old.variables.items ++ (variable ∷ [])) }
-        ensures calls { OnOk result (sites_of_calls self.new.calls.items ≡ sites_of_calls self.old.calls.items) }
+        ensures variables { OnOk result (self.new.variables.items ≡ self.old.variables.items
+            ++ (variable ∷ [])) }
+        ensures calls { OnOk result (sites_of_calls self.new.calls.items
+            ≡ sites_of_calls self.old.calls.items) }
     {
         self.variables.push(variable)?;
         Ok(())
@@ -54,7 +58,8 @@ impl Walk {
 
     fn call(&mut self, site: u32, proc: u32) -> Result<(), AllocError>
         ensures variables { OnOk result (self.new.variables.items ≡ self.old.variables.items) }
-        ensures calls { OnOk result (sites_of_calls self.new.calls.items ≡ sites_of_calls self.old.calls.items ++ ((site, proc) ∷ [])) }
+        ensures calls { OnOk result (sites_of_calls self.new.calls.items
+            ≡ sites_of_calls self.old.calls.items ++ ((site, proc) ∷ [])) }
     {
         self.calls.push(Call { site, proc })?;
         Ok(())
@@ -63,8 +68,10 @@ impl Walk {
     /// Goes through a block, by its text. `AllocError` where memory is wanting.
     #[cycle(walk)]
     pub fn block(&mut self, block: &LowBlock) -> Result<(), AllocError>
-        ensures variables { OnOk result (self.new.variables.items ≡ self.old.variables.items ++ binds (code_of block.now)) }
-        ensures calls { OnOk result (sites_of_calls self.new.calls.items ≡ sites_of_calls self.old.calls.items ++ calls_in (code_of block.now)) }
+        ensures variables { OnOk result (self.new.variables.items ≡ self.old.variables.items
+            ++ binds (code_of block.now)) }
+        ensures calls { OnOk result (sites_of_calls self.new.calls.items
+            ≡ sites_of_calls self.old.calls.items ++ calls_in (code_of block.now)) }
     {
         for stmt in block.stmts.as_slice() {
             self.stmt(stmt)?;
@@ -75,8 +82,11 @@ impl Walk {
 
     #[cycle(walk)]
     fn stmt(&mut self, stmt: &LowStmt) -> Result<(), AllocError>
-        ensures variables { OnOk result ((c : Code) → self.old.variables.items ++ binds (before_of stmt.now c) ≡ self.new.variables.items ++ binds c) }
-        ensures calls { OnOk result ((c : Code) → sites_of_calls self.old.calls.items ++ calls_in (before_of stmt.now c) ≡ sites_of_calls self.new.calls.items ++ calls_in c) }
+        ensures variables { OnOk result ((c : Code) → self.old.variables.items
+            ++ binds (before_of stmt.now c) ≡ self.new.variables.items ++ binds c) }
+        ensures calls { OnOk result ((c : Code) → sites_of_calls self.old.calls.items
+            ++ calls_in (before_of stmt.now c) ≡ sites_of_calls self.new.calls.items
+            ++ calls_in c) }
     {
         match stmt {
             LowStmt::Set(x, _) => self.bind_one(*x)?,
@@ -100,8 +110,10 @@ impl Walk {
 
     #[cycle(walk)]
     fn end(&mut self, end: &LowEnd) -> Result<(), AllocError>
-        ensures variables { OnOk result (self.new.variables.items ≡ self.old.variables.items ++ binds (end_of end.now)) }
-        ensures calls { OnOk result (sites_of_calls self.new.calls.items ≡ sites_of_calls self.old.calls.items ++ calls_in (end_of end.now)) }
+        ensures variables { OnOk result (self.new.variables.items ≡ self.old.variables.items
+            ++ binds (end_of end.now)) }
+        ensures calls { OnOk result (sites_of_calls self.new.calls.items
+            ≡ sites_of_calls self.old.calls.items ++ calls_in (end_of end.now)) }
     {
         match end {
             LowEnd::Give(_) => Ok(()),
@@ -116,8 +128,12 @@ impl Walk {
 
     #[cycle(walk)]
     fn arms(&mut self, arms: &[LowArm]) -> Result<(), AllocError>
-        ensures variables { OnOk result ((c : Code) → self.old.variables.items ++ arms_binds (arms_before (map arm_of arms.now) c) ≡ self.new.variables.items ++ binds c) }
-        ensures calls { OnOk result ((c : Code) → sites_of_calls self.old.calls.items ++ arms_calls (arms_before (map arm_of arms.now) c) ≡ sites_of_calls self.new.calls.items ++ calls_in c) }
+        ensures variables { OnOk result ((c : Code) → self.old.variables.items
+            ++ arms_binds (arms_before (map arm_of arms.now) c) ≡ self.new.variables.items
+            ++ binds c) }
+        ensures calls { OnOk result ((c : Code) → sites_of_calls self.old.calls.items
+            ++ arms_calls (arms_before (map arm_of arms.now) c)
+            ≡ sites_of_calls self.new.calls.items ++ calls_in c) }
     {
         for arm in arms {
             self.block(&arm.block)?;

@@ -30,9 +30,12 @@ fn joined(masks: &[u32], mask: u32, called: &[u32]) -> u32
 /// Adds the masks of the called procedures to a procedure's. Whether there was anything to add.
 fn grow(masks: &mut Vec<u32>, proc: usize, called: &[u32]) -> bool
     requires { proc < length masks.old.items }
-    ensures set { masks.new.items ≡ set masks.old.items proc (joined masks.old.items (mask_at masks.old.items proc) called.now) }
+    ensures set { masks.new.items
+        ≡ set masks.old.items proc
+        (joined masks.old.items (mask_at masks.old.items proc) called.now) }
     ensures closer { result ≡ true → room masks.new.items < room masks.old.items }
-    ensures same { result ≡ false → joined masks.old.items (mask_at masks.old.items proc) called.now ≡ mask_at masks.old.items proc }
+    ensures same { result ≡ false → joined masks.old.items (mask_at masks.old.items proc) called.now
+        ≡ mask_at masks.old.items proc }
 {
     let old = masks[proc];
     let all = joined(masks.as_slice(), old, called);

@@ -34,7 +34,8 @@ fn instr_at(word: u32) -> Option<Instr>
 
 #[tactic(auto, unfolding(crate::specs::Table::instr_with))]
 fn instr_with(opcode: u32, rd: u32, funct3: u32, rs1: u32, rs2: u32, funct7: u32) -> Option<Instr>
-    requires { (opcode < 128) × (rd < 32) × (funct3 < 8) × (rs1 < 32) × (rs2 < 32) × (funct7 < 128) }
+    requires { (opcode < 128) × (rd < 32) × (funct3 < 8) × (rs1 < 32) × (rs2 < 32)
+        × (funct7 < 128) }
     ensures { result ≡ instr_with opcode rd funct3 rs1 rs2 funct7 }
 {
     let upper = funct3 + 8 * (rs1 + 32 * (rs2 + 32 * funct7));

@@ -149,7 +149,8 @@ fn word_upper(opcode: u32, rd: Reg, upper: u32) -> u32
 
 #[tactic(auto, unfolding(crate::specs::Table::word_with))]
 fn word_with(opcode: u32, rd: u32, funct3: u32, rs1: u32, rs2: u32, funct7: u32) -> u32
-    requires { (opcode < 128) × (rd < 32) × (funct3 < 8) × (rs1 < 32) × (rs2 < 32) × (funct7 < 128) }
+    requires { (opcode < 128) × (rd < 32) × (funct3 < 8) × (rs1 < 32) × (rs2 < 32)
+        × (funct7 < 128) }
     ensures { result ≡ word_with opcode rd funct3 rs1 rs2 funct7 }
 {
     opcode + 128 * (rd + 32 * (funct3 + 8 * (rs1 + 32 * (rs2 + 32 * funct7))))
@@ -222,7 +223,8 @@ fn imm_funct3(kind: ImmKind) -> u32
 }
 
 fn shift_functs(kind: ShiftKind) -> (u32, u32)
-    ensures { (result.0 ≡ shift_funct3 kind) × (result.0 < 8) × (result.1 ≡ shift_funct7 kind) × (result.1 < 128) }
+    ensures { (result.0 ≡ shift_funct3 kind) × (result.0 < 8) × (result.1 ≡ shift_funct7 kind)
+        × (result.1 < 128) }
 {
     match kind {
         ShiftKind::Slli => (1, 0),
@@ -232,7 +234,8 @@ fn shift_functs(kind: ShiftKind) -> (u32, u32)
 }
 
 fn op_functs(kind: OpKind) -> (u32, u32)
-    ensures { (result.0 ≡ op_funct3 kind) × (result.0 < 8) × (result.1 ≡ op_funct7 kind) × (result.1 < 128) }
+    ensures { (result.0 ≡ op_funct3 kind) × (result.0 < 8) × (result.1 ≡ op_funct7 kind)
+        × (result.1 < 128) }
 {
     match kind {
         OpKind::Add => (0, 0),

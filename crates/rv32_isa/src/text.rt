@@ -135,14 +135,16 @@ fn access(
     offset: i32,
     base: Reg,
 ) -> Result<Vec<u8>, AllocError>
-    ensures { IfOk result (λ text. text.items ≡ two name.now (register first) (offset_from offset base)) }
+    ensures { IfOk result (λ text. text.items
+        ≡ two name.now (register first) (offset_from offset base)) }
 {
     let line = start(alloc, name, first)?.then(", ")?;
     Ok(line.address(offset, base)?.finish())
 }
 
 fn pair(alloc: Global, name: &str, first: Reg, second: Reg) -> Result<Line, AllocError>
-    ensures { IfOk result (λ line. line ≡ two name.now (register first) (register second) ++ codes ", ") }
+    ensures { IfOk result (λ line. line ≡ two name.now (register first) (register second)
+        ++ codes ", ") }
 {
     let line = start(alloc, name, first)?.then(", ")?;
     line.register(second)?.then(", ")
@@ -155,25 +157,29 @@ fn immediate(
     second: Reg,
     imm: i32,
 ) -> Result<Vec<u8>, AllocError>
-    ensures { IfOk result (λ text. text.items ≡ three name.now (register first) (register second) (signed_decimal imm)) }
+    ensures { IfOk result (λ text. text.items
+        ≡ three name.now (register first) (register second) (signed_decimal imm)) }
 {
     Ok(pair(alloc, name, first, second)?.signed(imm)?.finish())
 }
 
 fn shift(alloc: Global, name: &str, rd: Reg, rs1: Reg, amount: u32) -> Result<Vec<u8>, AllocError>
-    ensures { IfOk result (λ text. text.items ≡ three name.now (register rd) (register rs1) (decimal amount)) }
+    ensures { IfOk result (λ text. text.items
+        ≡ three name.now (register rd) (register rs1) (decimal amount)) }
 {
     Ok(pair(alloc, name, rd, rs1)?.number(amount)?.finish())
 }
 
 fn registers(alloc: Global, name: &str, rd: Reg, rs1: Reg, rs2: Reg) -> Result<Vec<u8>, AllocError>
-    ensures { IfOk result (λ text. text.items ≡ three name.now (register rd) (register rs1) (register rs2)) }
+    ensures { IfOk result (λ text. text.items
+        ≡ three name.now (register rd) (register rs1) (register rs2)) }
 {
     Ok(pair(alloc, name, rd, rs1)?.register(rs2)?.finish())
 }
 
 fn fence(alloc: Global, top: u32, rs1: Reg, rd: Reg) -> Result<Vec<u8>, AllocError>
-    ensures { IfOk result (λ text. text.items ≡ three (codes "fence") (decimal top) (register rs1) (register rd)) }
+    ensures { IfOk result (λ text. text.items
+        ≡ three (codes "fence") (decimal top) (register rs1) (register rd)) }
 {
     let line = Line::new(alloc, "fence")?
         .then(" ")?

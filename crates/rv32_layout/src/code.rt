@@ -15,7 +15,8 @@ pub fn words(alloc: Global, items: &[Item], plan: &Plan) -> Result<Vec<u32>, All
     requires labels { LabelsStand items.now }
     requires size { size_of items.now ≤ 268435456 }
     requires plan { IsPlan items.now plan.now }
-    ensures { IfOk result (λ words. Encode (code plan.now.ways.items items.now (length items.now)) words.items) }
+    ensures { IfOk result (λ words.
+        Encode (code plan.now.ways.items items.now (length items.now)) words.items) }
 {
     let mut words = Vec::with_capacity(alloc, plan.len as usize)?;
     let mut at = 0;

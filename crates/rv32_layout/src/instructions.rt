@@ -41,7 +41,8 @@ fn put_branch(
 ) -> Result<(), AllocError>
     requires room { (at ≤ 268435456) × (to ≤ 268435456) }
     requires reach { BranchGoes way at to }
-    ensures { OnOk result (Puts (branch_code way at to cond left right) words.old.items words.new.items) }
+    ensures { OnOk result (Puts (branch_code way at to cond left right) words.old.items
+        words.new.items) }
 {
     match way {
         Way::ByBranch => push(

@@ -62,8 +62,10 @@ impl Plan {
         requires size { size_of items.now ≤ 268435456 }
         requires plan { IsPlan items.now self.old }
         ensures plan { OnOk result (IsPlan items.now self.new) }
-        ensures shortens { OnOk result (Shortens items.now self.old.ways.items self.new.ways.items) }
-        ensures no_longer { OnOk result (NoLonger items.now self.old.ways.items self.new.ways.items) }
+        ensures shortens { OnOk result
+            (Shortens items.now self.old.ways.items self.new.ways.items) }
+        ensures no_longer { OnOk result
+            (NoLonger items.now self.old.ways.items self.new.ways.items) }
     {
         self.ways = shortest(alloc, items, &self.ways, &self.spots)?;
         self.len = labels::places(items, &self.ways, &mut self.spots)?;

@@ -77,7 +77,13 @@ impl Model for Machine {
 
     ghost Value = { Stand };
 
-    ghost view = { λ m. record { regs = m.regs; pc = m.pc; memory = m.memory; over = m.over; waiting = m.waiting } };
+    ghost view = { λ m. record {
+      regs = m.regs;
+      pc = m.pc;
+      memory = m.memory;
+      over = m.over;
+      waiting = m.waiting;
+    } };
 }
 
 impl Machine {
@@ -162,14 +168,16 @@ impl Machine {
     /// The answer of a call in x10.
     #[inline(always)]
     fn answer(&mut self, value: u32)
-        ensures { IsAt self.new (with_reg (state_of self.old) 10 value (next_pc (state_of self.old))) self.old.over self.old.waiting }
+        ensures { IsAt self.new (with_reg (state_of self.old) 10 value
+            (next_pc (state_of self.old))) self.old.over self.old.waiting }
     {
         let pc = self.next_pc();
         self.set_reg(Reg(10), value, pc);
     }
 
     fn answer_byte(&mut self, byte: u8)
-        ensures { IsAt self.new (given (state_of self.old) (Some byte)) self.old.over self.old.waiting }
+        ensures { IsAt self.new (given (state_of self.old) (Some byte)) self.old.over
+            self.old.waiting }
     {
         let address = self.reg(Reg(11));
         if let Access::At(region, offset) = self.memory.find(Right::Write, address, 1) {
@@ -192,7 +200,8 @@ impl Machine {
     /// A value into a register, and where to go on.
     #[inline(always)]
     fn set_reg(&mut self, number: Reg, value: u32, pc: u32)
-        ensures { IsAt self.new (with_reg (state_of self.old) number value pc) self.old.over self.old.waiting }
+        ensures { IsAt self.new (with_reg (state_of self.old) number value pc) self.old.over
+            self.old.waiting }
     {
         self.regs[number.0 as usize] = value;
         self.pc = pc;
@@ -254,7 +263,8 @@ impl Machine {
     #[inline(always)]
     fn link(&mut self, number: Reg, target: u32) -> StepResult
         requires { IsRunning self.old }
-        ensures { let s = state_of self.old in Does s (jump target (Next (with_reg s number (next_pc s) target))) result self.new }
+        ensures { let s = state_of self.old in Does s
+            (jump target (Next (with_reg s number (next_pc s) target))) result self.new }
     {
         if target % 4 != 0 {
             return self.trap(TrapKind::MisalignedJump);
@@ -267,7 +277,9 @@ impl Machine {
     #[inline(always)]
     fn branch(&mut self, taken: bool, target: u32) -> StepResult
         requires { IsRunning self.old }
-        ensures { let s = state_of self.old in Does s (if taken then jump target (Next (go_to s target)) else Next (go_to s (next_pc s))) result self.new }
+        ensures { let s = state_of self.old in Does s
+            (if taken then jump target (Next (go_to s target)) else Next (go_to s (next_pc s)))
+            result self.new }
     {
         if taken {
             if target % 4 != 0 {
@@ -283,7 +295,8 @@ impl Machine {
     #[inline(always)]
     fn load_into(&mut self, number: Reg, kind: LoadKind, address: u32) -> StepResult
         requires { IsRunning self.old }
-        ensures { let s = state_of self.old in Does s (load s number (load_value kind) (load_size kind) address) result self.new }
+        ensures { let s = state_of self.old in Does s
+            (load s number (load_value kind) (load_size kind) address) result self.new }
     {
         match kind {
             LoadKind::Lb | LoadKind::Lbu => self.load_some(number, kind, 1, address),
@@ -297,7 +310,8 @@ impl Machine {
     fn load_some(&mut self, number: Reg, kind: LoadKind, len: u32, address: u32) -> StepResult
         requires running { IsRunning self.old }
         requires len { len ≡ load_size kind }
-        ensures { let s = state_of self.old in Does s (load s number (load_value kind) (load_size kind) address) result self.new }
+        ensures { let s = state_of self.old in Does s
+            (load s number (load_value kind) (load_size kind) address) result self.new }
     {
         if address % len != 0 {
             return self.trap(TrapKind::MisalignedAccess(address));
@@ -314,7 +328,8 @@ impl Machine {
     #[inline(always)]
     fn store(&mut self, kind: StoreKind, address: u32, value: u32) -> StepResult
         requires { IsRunning self.old }
-        ensures { let s = state_of self.old in Does s (store s value (store_size kind) address) result self.new }
+        ensures { let s = state_of self.old in Does s (store s value (store_size kind) address)
+            result self.new }
     {
         match kind {
             StoreKind::Sb => self.store_some(1, address, value),
@@ -345,7 +360,8 @@ impl Machine {
         requires len { (len ≡ 1) ⊎ (len ≡ 2) ⊎ (len ≡ 4) }
         requires inside { IsInside self.old.memory len (Access.At region offset) }
         requires allowed { IsAllowed Right.Write self.old.memory (Access.At region offset) }
-        ensures { let s = state_of self.old in Does s (stored s (bytes_of len value) (Access.At region offset)) result self.new }
+        ensures { let s = state_of self.old in Does s
+            (stored s (bytes_of len value) (Access.At region offset)) result self.new }
     {
         self.memory.write(region, offset, len, value);
         self.pc = plus(self.pc, 4);
@@ -355,7 +371,8 @@ impl Machine {
     #[inline(always)]
     fn write_call(&mut self, file: u32, address: u32, len: u32) -> StepResult
         requires { IsRunning self.old }
-        ensures { let s = state_of self.old in Does s (write_call s file address len) result self.new }
+        ensures { let s = state_of self.old in Does s (write_call s file address len) result
+            self.new }
     {
         if file != 1 {
             return self.put(Reg(10), NO_FILE);
@@ -372,7 +389,8 @@ impl Machine {
     #[inline(always)]
     fn read_call(&mut self, file: u32, address: u32, len: u32) -> StepResult
         requires { IsRunning self.old }
-        ensures { let s = state_of self.old in Does s (read_call s file address len) result self.new }
+        ensures { let s = state_of self.old in Does s (read_call s file address len) result
+            self.new }
     {
         if file != 0 {
             return self.put(Reg(10), NO_FILE);

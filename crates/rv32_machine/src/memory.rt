@@ -32,7 +32,12 @@ impl Model for Region {
 
     ghost Value = { Stretch };
 
-    ghost view = { λ r. record { first = r.first; write = r.write; exec = r.exec; bytes = r.bytes.items } };
+    ghost view = { λ r. record {
+      first = r.first;
+      write = r.write;
+      exec = r.exec;
+      bytes = r.bytes.items;
+    } };
 
     ghost invariant = { λ r. r.first + length r.bytes.items ≤ 2 ^ 32 };
 }
@@ -139,7 +144,8 @@ impl Region {
     #[inline(always)]
     fn put_byte(&mut self, offset: usize, value: u32)
         requires { offset < length self.old.bytes }
-        ensures { self.new ≡ with_bytes self.old (put_over self.old.bytes offset (bytes_of 1 value)) }
+        ensures { self.new ≡ with_bytes self.old
+            (put_over self.old.bytes offset (bytes_of 1 value)) }
     {
         self.bytes[offset] = (value % 256) as u8;
     }
@@ -147,7 +153,8 @@ impl Region {
     #[inline(always)]
     fn put_half(&mut self, offset: usize, value: u32)
         requires { offset + 2 ≤ length self.old.bytes }
-        ensures { self.new ≡ with_bytes self.old (put_over self.old.bytes offset (bytes_of 2 value)) }
+        ensures { self.new ≡ with_bytes self.old
+            (put_over self.old.bytes offset (bytes_of 2 value)) }
     {
         self.bytes[offset] = (value % 256) as u8;
         self.bytes[offset + 1] = (value / 256 % 256) as u8;
@@ -156,7 +163,8 @@ impl Region {
     #[inline(always)]
     fn put_word(&mut self, offset: usize, value: u32)
         requires { offset + 4 ≤ length self.old.bytes }
-        ensures { self.new ≡ with_bytes self.old (put_over self.old.bytes offset (bytes_of 4 value)) }
+        ensures { self.new ≡ with_bytes self.old
+            (put_over self.old.bytes offset (bytes_of 4 value)) }
     {
         self.bytes[offset] = (value % 256) as u8;
         self.bytes[offset + 1] = (value / 256 % 256) as u8;

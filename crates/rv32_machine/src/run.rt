@@ -24,10 +24,19 @@ impl Machine {
         out: &mut K,
     ) -> Result<Stop, Fault>
         requires { IsRunning self.old }
-        ensures stands { IfOk result (λ stop. Told (I.left input.old) (λ i. Stays (run steps i (state_of self.old)) stop self.new (I.left input.new))) }
-        ensures output { OnOk result (Told (I.left input.old) (λ i. TookAll (of_sink K.put_gives K.taken K.faults out.old out.new) (pieces steps i (state_of self.old)))) }
-        ensures fault { IfErr result (λ fault. Told (I.left input.old) (λ i. Broke fault (of_sink K.put_gives K.taken K.faults out.old out.new) (pieces steps i (state_of self.old)))) }
-        ensures cause { Faults result (of_source I.left I.faults input.old input.new) (of_sink K.put_gives K.taken K.faults out.old out.new) }
+        ensures stands { IfOk result (λ stop.
+            Told (I.left input.old) (λ i.
+            Stays (run steps i (state_of self.old)) stop self.new (I.left input.new))) }
+        ensures output { OnOk result
+            (Told (I.left input.old) (λ i.
+            TookAll (of_sink K.put_gives K.taken K.faults out.old out.new)
+            (pieces steps i (state_of self.old)))) }
+        ensures fault { IfErr result (λ fault.
+            Told (I.left input.old) (λ i.
+            Broke fault (of_sink K.put_gives K.taken K.faults out.old out.new)
+            (pieces steps i (state_of self.old)))) }
+        ensures cause { Faults result (of_source I.left I.faults input.old input.new)
+            (of_sink K.put_gives K.taken K.faults out.old out.new) }
         ensures ended { IfOk result (λ stop. self.new.over ≡ is_end stop) }
         ensures broken { OnErr result (self.new.over ≡ true) }
         ensures answered { self.new.waiting ≡ false }
@@ -69,7 +78,10 @@ impl Machine {
     fn take_byte<I: Source>(&mut self, input: &mut I) -> Result<(), Fault>
         requires over { self.old.over ≡ false }
         requires waiting { self.old.waiting ≡ true }
-        ensures given { IfOk result (λ _. Told (I.left input.old) (λ i. IsAt self.new (given (state_of self.old) (slice_get i 0)) false false × (I.left input.new ≡ Some (drop 1 i)))) }
+        ensures given { IfOk result (λ _.
+            Told (I.left input.old) (λ i.
+            IsAt self.new (given (state_of self.old) (slice_get i 0)) false false
+            × (I.left input.new ≡ Some (drop 1 i)))) }
         ensures cause { HasCause (I.faults input.old) (I.faults input.new) result }
         ensures fault { IfErr result (λ fault. fault ≡ Fault.Read) }
         ensures running { OnOk result (IsRunning self.new) }
@@ -94,8 +106,10 @@ impl Machine {
         requires running { IsRunning self.old }
         requires range { IsSome (range_bytes self.old.memory addr len) }
         ensures done { OnOk result (self.new ≡ self.old) }
-        ensures content { (bytes : List ℕ) → range_bytes self.old.memory addr len ≡ Some bytes → Takes (K.taken out.old) (K.taken out.new) bytes result }
-        ensures exactly { (bytes : List ℕ) → range_bytes self.old.memory addr len ≡ Some bytes → K.put_gives out.old bytes (is_ok result) out.new }
+        ensures content { (bytes : List ℕ) → range_bytes self.old.memory addr len ≡ Some bytes
+            → Takes (K.taken out.old) (K.taken out.new) bytes result }
+        ensures exactly { (bytes : List ℕ) → range_bytes self.old.memory addr len ≡ Some bytes
+            → K.put_gives out.old bytes (is_ok result) out.new }
         ensures cause { HasCause (K.faults out.old) (K.faults out.new) result }
         ensures fault { IfErr result (λ fault. fault ≡ Fault.Write) }
         ensures broken { OnErr result (self.new.over ≡ true) }
@@ -113,7 +127,9 @@ impl Machine {
 
 /// One byte of a source, or `None` at its end.
 fn next_byte<I: Source>(input: &mut I) -> Result<Option<u8>, Failed>
-    ensures next { IfOk result (λ byte. Told (I.left input.old) (λ i. (byte ≡ slice_get i 0) × (I.left input.new ≡ Some (drop 1 i)))) }
+    ensures next { IfOk result (λ byte.
+        Told (I.left input.old) (λ i. (byte ≡ slice_get i 0)
+        × (I.left input.new ≡ Some (drop 1 i)))) }
     ensures cause { HasCause (I.faults input.old) (I.faults input.new) result }
 {
     let mut buf = [0];

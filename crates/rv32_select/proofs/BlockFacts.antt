@@ -231,13 +231,14 @@ module _ (l : Program) (a : Assignment) (cells stack : ℕ) (lay : Layout) (item
     InRegisters (Follows n) to = Unit {0}
     InRegisters (Jumps n) to = Unit {0}
 
-    -- the frame begins at the j-th word of the stack, over u words; m is the item to which the procedure returns
-    pub record Block (c : Code) (to : List Spot) (way : Way) (Must : ℕ → Word → Type 0) (k k' : ℕ) (block : List Item) (pos : ℕ) (scope later : List ℕ) (env : Env) (top : ℕ) (under : Option ℕ) (d : Data) (w : World) : Type 0 where
-      pub emits : Emits l a cells stack (words_at a f) (slots_of (place_of a) (variables q)) to way c k k' block
+    -- what is known where a block or the arms of a choice begin, which have their own items, fitting places and needs;
+    --     the frame begins at the j-th word of the stack, over u words; m is the item to which the procedure returns
+    pub record Entry (Emitted Fitting : Type 0) (Needs : ℕ → Word → Type 0) (to : List Spot) (way : Way) (Must : ℕ → Word → Type 0) (k : ℕ) (block : List Item) (pos : ℕ) (scope later : List ℕ) (env : Env) (top : ℕ) (under : Option ℕ) (d : Data) (w : World) : Type 0 where
+      pub emits : Emitted
       pub stands : Stands items pos block
       pub ready : Ready way (pos + length block)
       pub above : first_label l a cells stack ≤ k
-      pub fine : Fine l a f slots (slots_of (place_of a) (variables q)) scope c later
+      pub fine : Fitting
       pub scoped : (x : ℕ) (v : Word) → env x ≡ Some v → is_among x scope ≡ true
       pub owned : (x : ℕ) → is_among x scope ≡ true → IsOwn l a f (slots_of (place_of a) (variables q)) (place_of a x)
       pub must : (x : ℕ) (v : Word) → Must x v → (is_among x scope ≡ true) × (is_among x later ≡ true)
@@ -245,10 +246,14 @@ module _ (l : Program) (a : Assignment) (cells stack : ℕ) (lay : Layout) (item
       pub to_own : AllOwn l a f (slots_of (place_of a) (variables q)) to
       pub to_differ : Different to
       pub in_registers : InRegisters way to
-      pub stood : Stood l a cells stack lay f j slots d0 (lay.address m) (Needed c env Must) d w
+      pub stood : Stood l a cells stack lay f j slots d0 (lay.address m) Needs d w
       pub left : w.left ≤ n
       pub top_is : top ≡ 1 + slots + u
       pub under_is : (v : ℕ) → under ≡ Some v → (v ≡ u) × (way ≡ Returns)
+
+    abbrev pub Block : (c : Code) (to : List Spot) (way : Way) (Must : ℕ → Word → Type 0) (k k' : ℕ) (block : List Item) (pos : ℕ) (scope later : List ℕ) (env : Env) (top : ℕ) (under : Option ℕ) (d : Data) (w : World) → Type 0
+    Block c to way Must k k' block pos scope later env top under d w =
+        Entry (Emits l a cells stack (words_at a f) (slots_of (place_of a) (variables q)) to way c k k' block) (Fine l a f slots (slots_of (place_of a) (variables q)) scope c later) (Needed c env Must) to way Must k block pos scope later env top under d w
 
     -- the machine does for the block what its run does
     abbrev pub Simulates : Calls → (c : Code) (to : List Spot) (way : Way) (Must : ℕ → Word → Type 0) (pos : ℕ) (env : Env) (top : ℕ) (under : Option ℕ) (d : Data) (w : World) → Type 0

@@ -1,5 +1,5 @@
 -- Choices: tests of words, and the arm that is taken.
-use Rattle.std.proofs.Common.{◌≡◌, ◌≢◌, ℕ, suc, ◌+◌, ◌≤◌, List, [], ◌∷◌, ◌++◌, length, Bool, true, false, not, Some, None, ◌⊎◌, inl, inr, refl, ap, ◌∙◌, subst, arith, length-append}
+use Rattle.std.proofs.Common.{◌≡◌, ◌≢◌, ℕ, suc, ◌+◌, List, [], ◌∷◌, ◌++◌, length, Bool, true, false, not, Some, None, ◌⊎◌, inl, inr, refl, ap, ◌∙◌, subst, arith, length-append}
 use Rattle.std.specs.Prelude.{Option, nat_eq, slice_get}
 use Rattle.rv32_machine.specs.Steps.{set_reg}
 use Rattle.rv32_steps.specs.Straight.{value}
@@ -20,7 +20,7 @@ use Rattle.rv32_select.specs.declared.source.Source.TheVariants.{Number}
 use Rattle.rv32_select.specs.declared.source.Way.{Way}
 use Rattle.rv32_select.specs.declared.source.Way.TheVariants.{Returns, Follows, Jumps}
 use Rattle.rv32_select.specs.Emit.{plain, held, hold, test_items}
-use Rattle.rv32_select.specs.IsSelected.{source, tests_items, first_label, further, EmitsArms}
+use Rattle.rv32_select.specs.IsSelected.{source, tests_items, further, EmitsArms}
 use Rattle.low_code.specs.Literals.{TestsSmall}
 use Rattle.rv32_select.proofs.Courses.{Goes, Stands, front, back, stays}
 use Rattle.rv32_select.proofs.Straight.{Data, with_reg, does_on, at}
@@ -29,8 +29,8 @@ use Rattle.rv32_select.proofs.FrameViews.{spots, kept_on, in_frame}
 use Rattle.rv32_select.proofs.OperandsRead.{IsPlace, holds as held_by, held_stays}
 use Rattle.rv32_select.proofs.Computed.{hold_kept, hold_seen}
 use Rattle.rv32_select.proofs.Relation.{bases, Stood, Ran, ran_on, quiet, Does', does_after, does_map, Given, Needed}
-use Rattle.rv32_select.proofs.PlaceFacts.{NotAmong, Different, IsOwn, AllOwn, ArmsFine, ProcedureFine, Setting}
-use Rattle.rv32_select.proofs.BlockFacts.{room, Block, Simulates, InRegisters, Ready, among_left, among_right, world_kept}
+use Rattle.rv32_select.proofs.PlaceFacts.{IsOwn, ArmsFine, ProcedureFine, Setting}
+use Rattle.rv32_select.proofs.BlockFacts.{room, Entry, Block, Simulates, InRegisters, Ready, among_left, among_right, world_kept}
 use Rattle.rv32_select.proofs.OneBound.{Cut, cut, ready_at, plain_ran, operand_read}
 use Rattle.rv32_select.proofs.WordStatements.{stood_same, number_there}
 use Rattle.rv32_select.proofs.Stops.{good_far, passes_label}
@@ -40,24 +40,15 @@ use Rattle.rv32_select.proofs.JoinStatement.{stood_weaken}
 
 module _ (l : Program) (a : Assignment) (cells stack : ℕ) (lay : Layout) (items : List Item) (begins : List ℕ) (s : Setting l a cells stack lay items begins) (calls_n : Calls) (n : ℕ)
     (f : ℕ) (q : Procedure) (pf : ProcedureFine l a f q) (j m : ℕ) (outer : List ℕ) (d0 : Data) (u : ℕ) where
+  -- what is needed where the arms of a choice begin
+  abbrev ArmsNeed : Arms → Env → (Must : ℕ → Word → Type 0) → ℕ → Word → Type 0
+  ArmsNeed as' env Must x v = ((is_among x (arms_uses as') ≡ true) × (env x ≡ Some v)) ⊎ Must x v
+
   -- the arms of a choice in the items
-  pub record ArmsBlock (as' : Arms) (to : List Spot) (way : Way) (Must : ℕ → Word → Type 0) (k k' : ℕ) (block : List Item) (pos : ℕ) (scope later : List ℕ) (env : Env) (top : ℕ) (under : Option ℕ) (d : Data) (w : World) : Type 0 where
-    pub emits : EmitsArms l a cells stack (words_at a f) (slots_of (place_of a) (variables q)) to way as' k k' block
-    pub stands : Stands items pos block
-    pub ready : Ready l a cells stack lay items begins way (pos + length block)
-    pub above : first_label l a cells stack ≤ k
-    pub fine : ArmsFine l a f pf.slots (slots_of (place_of a) (variables q)) scope as' later
-    pub scoped : (x : ℕ) (v : Word) → env x ≡ Some v → is_among x scope ≡ true
-    pub owned : (x : ℕ) → is_among x scope ≡ true → IsOwn l a f (slots_of (place_of a) (variables q)) (place_of a x)
-    pub must : (x : ℕ) (v : Word) → Must x v → (is_among x scope ≡ true) × (is_among x later ≡ true)
-    pub clear : (x : ℕ) (v : Word) → Must x v → NotAmong (place_of a x) to
-    pub to_own : AllOwn l a f (slots_of (place_of a) (variables q)) to
-    pub to_differ : Different to
-    pub in_registers : InRegisters l a cells stack lay items begins f q pf.slots j m outer d0 u n way to
-    pub stood : Stood l a cells stack lay f j pf.slots d0 (lay.address m) (λ x v. ((is_among x (arms_uses as') ≡ true) × (env x ≡ Some v)) ⊎ Must x v) d w
-    pub left : w.left ≤ n
-    pub top_is : top ≡ 1 + pf.slots + u
-    pub under_is : (v : ℕ) → under ≡ Some v → (v ≡ u) × (way ≡ Returns)
+  abbrev pub ArmsBlock : (as' : Arms) (to : List Spot) (way : Way) (Must : ℕ → Word → Type 0) (k k' : ℕ) (block : List Item) (pos : ℕ) (scope later : List ℕ) (env : Env) (top : ℕ) (under : Option ℕ) (d : Data) (w : World) → Type 0
+  ArmsBlock as' to way Must k k' block pos scope later env top under d w =
+      Entry l a cells stack lay items begins f q pf.slots j m outer d0 u n (EmitsArms l a cells stack (words_at a f) (slots_of (place_of a) (variables q)) to way as' k k' block)
+      (ArmsFine l a f pf.slots (slots_of (place_of a) (variables q)) scope as' later) (ArmsNeed as' env Must) to way Must k block pos scope later env top under d w
 
   abbrev pub ArmsSimulates : (as' : Arms) (to : List Spot) (way : Way) (Must : ℕ → Word → Type 0) (pos : ℕ) (env : Env) (top : ℕ) (under : Option ℕ) (d : Data) (w : World) → Type 0
   ArmsSimulates as' to way Must pos env top under d w =
@@ -213,9 +204,6 @@ module _ (l : Program) (a : Assignment) (cells stack : ℕ) (lay : Layout) (item
     label_here : slice_get items (p + length (tests_items l a cells stack k ts) + length b.emits.1) ≡ Some (Label k)
     label_here = (back items (p + length (tests_items l a cells stack k ts)) b.emits.1 (Label k ∷ []) behind_tests).0
 
-    needed : (y : ℕ) (v : Word) → Needed (choose (arm ts c as')) env Must y v → Needed (choose (arm ts c as')) env Must y v
-    needed y v h = h
-
     pub arm_simulated : ((d' : Data) → Block l a cells stack lay items begins f q pf.slots j m outer d0 u n c to (further way) Must (suc k) b.emits.0 b.emits.1 (p + length (tests_items l a cells stack k ts)) scope later env top under d' w
         → Simulates l a cells stack lay items begins f q pf.slots j m outer d0 u n calls_n c to (further way) Must (p + length (tests_items l a cells stack k ts)) env top under d' w)
         → ((d' : Data) → ArmsBlock as' to way Must b.emits.0 k' b.emits.3.0 (p + length (tests_items l a cells stack k ts ++ (b.emits.1 ++ Label k ∷ []))) scope later env top under d' w
@@ -283,13 +271,13 @@ module _ (l : Program) (a : Assignment) (cells stack : ℕ) (lay : Layout) (item
               to_own = b.to_own;
               to_differ = b.to_differ;
               in_registers = b.in_registers;
-              stood = stood_weaken l a cells stack lay f j pf.slots d0 (lay.address m) (Needed (choose (arm ts c as')) env Must) (λ x v. ((is_among x (arms_uses as') ≡ true) × (env x ≡ Some v)) ⊎ Must x v) T.0 w weaken_arms T.1.1;
+              stood = stood_weaken l a cells stack lay f j pf.slots d0 (lay.address m) (Needed (choose (arm ts c as')) env Must) (ArmsNeed as' env Must) T.0 w weaken_arms T.1.1;
               left = b.left;
               top_is = b.top_is;
               under_is = b.under_is;
             }))
           where
-            weaken_arms : (y : ℕ) (v : Word) → ((is_among y (arms_uses as') ≡ true) × (env y ≡ Some v)) ⊎ Must y v → Needed (choose (arm ts c as')) env Must y v
+            weaken_arms : (y : ℕ) (v : Word) → ArmsNeed as' env Must y v → Needed (choose (arm ts c as')) env Must y v
             weaken_arms y v (inl h) = inl (among_right y (used_by_tests ts) (uses c ++ arms_uses as') (among_right y (uses c) (arms_uses as') h.0), h.1)
             weaken_arms y v (inr h) = inr h
 
@@ -305,50 +293,8 @@ module _ (l : Program) (a : Assignment) (cells stack : ℕ) (lay : Layout) (item
   unfolding code
   choice as' to way Must k k' block p scope later env top under d w h = h
 
-  pub arms_of : (as' : Arms) (to : List Spot) (way : Way) (Must : ℕ → Word → Type 0) (k k' : ℕ) (block : List Item) (p : ℕ) (scope later : List ℕ) (env : Env) (top : ℕ) (under : Option ℕ) (d : Data) (w : World)
-      → Block l a cells stack lay items begins f q pf.slots j m outer d0 u n (choose as') to way Must k k' block p scope later env top under d w → ArmsBlock as' to way Must k k' block p scope later env top under d w
-  arms_of as' to way Must k k' block p scope later env top under d w b = record {
-    emits = b.emits;
-    stands = b.stands;
-    ready = b.ready;
-    above = b.above;
-    fine = b.fine;
-    scoped = b.scoped;
-    owned = b.owned;
-    must = b.must;
-    clear = b.clear;
-    to_own = b.to_own;
-    to_differ = b.to_differ;
-    in_registers = b.in_registers;
-    stood = b.stood;
-    left = b.left;
-    top_is = b.top_is;
-    under_is = b.under_is;
-  }
-
   -- the last arm is its block
   pub last_arm : (c : Code) (to : List Spot) (way : Way) (Must : ℕ → Word → Type 0) (k k' : ℕ) (block : List Item) (p : ℕ) (scope later : List ℕ) (env : Env) (top : ℕ) (under : Option ℕ) (d : Data) (w : World)
       → Simulates l a cells stack lay items begins f q pf.slots j m outer d0 u n calls_n c to way Must p env top under d w → ArmsSimulates (otherwise c) to way Must p env top under d w
   unfolding arms
   last_arm c to way Must k k' block p scope later env top under d w h = h
-
-  pub last_of : (c : Code) (to : List Spot) (way : Way) (Must : ℕ → Word → Type 0) (k k' : ℕ) (block : List Item) (p : ℕ) (scope later : List ℕ) (env : Env) (top : ℕ) (under : Option ℕ) (d : Data) (w : World)
-      → ArmsBlock (otherwise c) to way Must k k' block p scope later env top under d w → Block l a cells stack lay items begins f q pf.slots j m outer d0 u n c to way Must k k' block p scope later env top under d w
-  last_of c to way Must k k' block p scope later env top under d w b = record {
-    emits = b.emits;
-    stands = b.stands;
-    ready = b.ready;
-    above = b.above;
-    fine = b.fine;
-    scoped = b.scoped;
-    owned = b.owned;
-    must = b.must;
-    clear = b.clear;
-    to_own = b.to_own;
-    to_differ = b.to_differ;
-    in_registers = b.in_registers;
-    stood = b.stood;
-    left = b.left;
-    top_is = b.top_is;
-    under_is = b.under_is;
-  }

@@ -27,7 +27,7 @@ use Rattle.rv32_select.proofs.GiveStatement.{give_simulated}
 use Rattle.rv32_select.proofs.TailStatement.{tail_simulated}
 use Rattle.rv32_select.proofs.CallStatement.{call_statement}
 use Rattle.rv32_select.proofs.JoinStatement.{inner, join_simulated}
-use Rattle.rv32_select.proofs.ChoiceStatement.{ArmsBlock, ArmsSimulates, arm_simulated, choice, arms_of, last_arm, last_of}
+use Rattle.rv32_select.proofs.ChoiceStatement.{ArmsBlock, ArmsSimulates, arm_simulated, choice, last_arm}
 use Rattle.rv32_select.proofs.ProcedureEntry.{NoMust}
 use Rattle.rv32_select.proofs.ProcedureCall.{waits_here, call_simulated}
 
@@ -71,7 +71,7 @@ module _ (l : Program) (a : Assignment) (cells stack : ℕ) (lay : Layout) (item
         tail_simulated l a cells stack lay items begins s calls_n n called f q pf j m outer d0 u found total g site os to way Must k k' block p scope later env top under d w b
     simulate (choose as') to way Must k k' block p scope later env top under d w b =
         choice l a cells stack lay items begins s calls_n n f q pf j m outer d0 u as' to way Must k k' block p scope later env top under d w
-        (simulate_arms as' to way Must k k' block p scope later env top under d w (arms_of l a cells stack lay items begins s calls_n n f q pf j m outer d0 u as' to way Must k k' block p scope later env top under d w b))
+        (simulate_arms as' to way Must k k' block p scope later env top under d w b)
     simulate fail to way Must k k' block p scope later env top under d w b =
         fail_simulated l a cells stack lay items begins s calls_n n f q pf j m outer d0 u to way Must k k' block p scope later env top under d w b
 
@@ -80,7 +80,7 @@ module _ (l : Program) (a : Assignment) (cells stack : ℕ) (lay : Layout) (item
         → ArmsSimulates l a cells stack lay items begins s calls_n n f q pf j m outer d0 u as' to way Must p env top under d w
     simulate_arms (otherwise c) to way Must k k' block p scope later env top under d w b =
         last_arm l a cells stack lay items begins s calls_n n f q pf j m outer d0 u c to way Must k k' block p scope later env top under d w
-        (simulate c to way Must k k' block p scope later env top under d w (last_of l a cells stack lay items begins s calls_n n f q pf j m outer d0 u c to way Must k k' block p scope later env top under d w b))
+        (simulate c to way Must k k' block p scope later env top under d w b)
     simulate_arms (arm ts c as') to way Must k k' block p scope later env top under d w b =
         arm_simulated l a cells stack lay items begins s calls_n n f q pf j m outer d0 u ts c as' to way Must k k' block p scope later env top under d w b
         (λ d' b'. simulate c to (further way) Must (suc k) b.emits.0 b.emits.1 (p + length (tests_items l a cells stack k ts)) scope later env top under d' w b')

@@ -40,7 +40,8 @@ fn further(way: Way) -> Way
 impl Selection {
     /// A label of its own. There is no memory for more items than there are labels.
     fn fresh(&mut self) -> Result<u32, AllocError>
-        ensures { IfOk result (λ label. (label ≡ self.old.next) × (self.new.next ≡ suc self.old.next) × (self.new.code ≡ self.old.code)) }
+        ensures { IfOk result (λ label. (label ≡ self.old.next)
+            × (self.new.next ≡ suc self.old.next) × (self.new.code ≡ self.old.code)) }
     {
         let label = self.next;
         self.next = label.checked_add(1).ok_or(AllocError)?;
@@ -79,21 +80,24 @@ impl Code {
 impl<'a> Context<'a> {
     pub(crate) fn heap_end(&self) -> u32
         requires { CanWrite (program_of self.now.low.now) self.now.places.now self.now.cells }
-        ensures { result ≡ end_of_heap (program_of self.now.low.now) self.now.places.now self.now.cells self.now.stack }
+        ensures { result ≡ end_of_heap (program_of self.now.low.now) self.now.places.now
+            self.now.cells self.now.stack }
     {
         HEAP_BASE + 4 * self.low.width * self.cells
     }
 
     pub(crate) fn no_alternative(&self) -> u32
         requires { Writable (program_of self.now.low.now) self.now.places.now }
-        ensures { result ≡ no_alternative_label (program_of self.now.low.now) self.now.places.now self.now.cells self.now.stack }
+        ensures { result ≡ no_alternative_label (program_of self.now.low.now) self.now.places.now
+            self.now.cells self.now.stack }
     {
         self.low.procs.len() as u32
     }
 
     pub(crate) fn heap_full(&self) -> u32
         requires { Writable (program_of self.now.low.now) self.now.places.now }
-        ensures { result ≡ heap_full_label (program_of self.now.low.now) self.now.places.now self.now.cells self.now.stack }
+        ensures { result ≡ heap_full_label (program_of self.now.low.now) self.now.places.now
+            self.now.cells self.now.stack }
     {
         1 + self.low.procs.len() as u32
     }
@@ -102,8 +106,11 @@ impl<'a> Context<'a> {
     fn send(&self, code: &mut Code, to: &[Spot], operands: &[Operand]) -> Result<(), AllocError>
         requires targets { AreTargets to.now }
         requires writable { Writable (program_of self.now.low.now) self.now.places.now }
-        requires operands { OperandsPlaced (program_of self.now.low.now) self.now.places.now operands.now }
-        ensures { OnOk result (Sent to.now (sources_of (program_of self.now.low.now) self.now.places.now self.now.cells self.now.stack operands.now) code.old code.new) }
+        requires operands { OperandsPlaced (program_of self.now.low.now) self.now.places.now
+            operands.now }
+        ensures { OnOk result (Sent to.now
+            (sources_of (program_of self.now.low.now) self.now.places.now self.now.cells
+            self.now.stack operands.now) code.old code.new) }
     {
         let from = self.sources(operands)?;
         code.send(self.alloc, to, from.as_slice())
@@ -118,8 +125,13 @@ impl<'a> Context<'a> {
     ) -> Result<(), AllocError>
         requires writable { Writable (program_of self.now.low.now) self.now.places.now }
         requires proc { proc < length self.now.low.now.procs }
-        requires operands { OperandsPlaced (program_of self.now.low.now) self.now.places.now operands.now }
-        ensures { OnOk result (Sent (argument_spots_of (program_of self.now.low.now) self.now.places.now self.now.cells self.now.stack proc) (sources_of (program_of self.now.low.now) self.now.places.now self.now.cells self.now.stack operands.now) code.old code.new) }
+        requires operands { OperandsPlaced (program_of self.now.low.now) self.now.places.now
+            operands.now }
+        ensures { OnOk result (Sent
+            (argument_spots_of (program_of self.now.low.now) self.now.places.now self.now.cells
+            self.now.stack proc)
+            (sources_of (program_of self.now.low.now) self.now.places.now self.now.cells
+            self.now.stack operands.now) code.old code.new) }
     {
         let to = self.argument_spots(proc)?;
         self.send(code, to.as_slice(), operands)
@@ -129,8 +141,12 @@ impl<'a> Context<'a> {
     fn take_results(&self, code: &mut Code, proc: u32, variables: &[u32]) -> Result<(), AllocError>
         requires writable { Writable (program_of self.now.low.now) self.now.places.now }
         requires proc { proc < length self.now.low.now.procs }
-        requires variables { TargetsPlaced (program_of self.now.low.now) self.now.places.now variables.now }
-        ensures { OnOk result (Moved (moves_across (map (place_of self.now.places.now) variables.now) (result_spots_of (program_of self.now.low.now) self.now.places.now self.now.cells self.now.stack proc)) code.old code.new) }
+        requires variables { TargetsPlaced (program_of self.now.low.now) self.now.places.now
+            variables.now }
+        ensures { OnOk result (Moved
+            (moves_across (map (place_of self.now.places.now) variables.now)
+            (result_spots_of (program_of self.now.low.now) self.now.places.now self.now.cells
+            self.now.stack proc)) code.old code.new) }
     {
         let to = self.spots(variables)?;
         let results = self.low.procs.as_slice()[proc as usize].results;
@@ -150,8 +166,11 @@ impl<'a> Context<'a> {
     ) -> Result<(), AllocError>
         requires writable { Writable (program_of self.now.low.now) self.now.places.now }
         requires frame { FrameFits frame.words frame.saved }
-        requires call { CallPlaced (program_of self.now.low.now) self.now.places.now proc site operands.now variables.now }
-        ensures { OnOk result (Called (program_of self.now.low.now) self.now.places.now self.now.cells self.now.stack frame.words frame.saved proc site operands.now variables.now code.old code.new) }
+        requires call { CallPlaced (program_of self.now.low.now) self.now.places.now proc site
+            operands.now variables.now }
+        ensures { OnOk result (Called (program_of self.now.low.now) self.now.places.now
+            self.now.cells self.now.stack frame.words frame.saved proc site operands.now
+            variables.now code.old code.new) }
     {
         let registers = self.places.saved(site);
         code.save_registers(frame.saved, registers)?;
@@ -176,8 +195,10 @@ impl<'a> Context<'a> {
         requires writable { Writable (program_of self.now.low.now) self.now.places.now }
         requires frame { words < 67108864 }
         requires proc { proc < length self.now.low.now.procs }
-        requires operands { OperandsPlaced (program_of self.now.low.now) self.now.places.now operands.now }
-        ensures { OnOk result (TailCalled (program_of self.now.low.now) self.now.places.now self.now.cells self.now.stack words proc operands.now code.old code.new) }
+        requires operands { OperandsPlaced (program_of self.now.low.now) self.now.places.now
+            operands.now }
+        ensures { OnOk result (TailCalled (program_of self.now.low.now) self.now.places.now
+            self.now.cells self.now.stack words proc operands.now code.old code.new) }
     {
         self.send_arguments(code, proc, operands)?;
         code.leave(words)?;
@@ -189,9 +210,13 @@ impl<'a> Context<'a> {
 
     fn take(&self, code: &mut Code, variables: &[u32]) -> Result<(), AllocError>
         requires writable { Writable (program_of self.now.low.now) self.now.places.now }
-        requires variables { HavePlaces (program_of self.now.low.now) self.now.places.now variables.now }
+        requires variables { HavePlaces (program_of self.now.low.now) self.now.places.now
+            variables.now }
         requires bytes { 4 * self.now.low.now.width * length variables.now < 4294967296 }
-        ensures { OnOk result (code.new ≡ code.old ++ take_items (4 * self.now.low.now.width) (heap_full_label (program_of self.now.low.now) self.now.places.now self.now.cells self.now.stack) (map (place_of self.now.places.now) variables.now)) }
+        ensures { OnOk result (code.new ≡ code.old
+            ++ take_items (4 * self.now.low.now.width)
+            (heap_full_label (program_of self.now.low.now) self.now.places.now self.now.cells
+            self.now.stack) (map (place_of self.now.places.now) variables.now)) }
     {
         let spots = self.spots(variables)?;
         code.take(4 * self.low.width, self.heap_full(), spots.as_slice())
@@ -201,7 +226,9 @@ impl<'a> Context<'a> {
     fn tests(&self, code: &mut Code, next: u32, tests: &[LowTest]) -> Result<(), AllocError>
         requires writable { Writable (program_of self.now.low.now) self.now.places.now }
         requires tests { TestsPlaced (program_of self.now.low.now) self.now.places.now tests.now }
-        ensures { OnOk result (code.new ≡ code.old ++ tests_items (program_of self.now.low.now) self.now.places.now self.now.cells self.now.stack next tests.now) }
+        ensures { OnOk result (code.new ≡ code.old
+            ++ tests_items (program_of self.now.low.now) self.now.places.now self.now.cells
+            self.now.stack next tests.now) }
     {
         for test in tests {
             code.test(next, self.source(test.left), test.right)?;
@@ -211,10 +238,14 @@ impl<'a> Context<'a> {
 
     #[cycle(blocks)]
     fn stmt(&self, frame: Frame, out: &mut Selection, stmt: &LowStmt) -> Result<(), AllocError>
-        requires writable { CanWrite (program_of self.now.low.now) self.now.places.now self.now.cells }
+        requires writable { CanWrite (program_of self.now.low.now) self.now.places.now
+            self.now.cells }
         requires frame { FrameFits frame.words frame.saved }
-        requires placed { (c : Block) × Placed (program_of self.now.low.now) self.now.places.now (before_of stmt.now c) }
-        ensures { OnOk result (Before (program_of self.now.low.now) self.now.places.now self.now.cells self.now.stack frame.words frame.saved (before_of stmt.now) out.old.code out.old.next out.new.code out.new.next) }
+        requires placed { (c : Block)
+            × Placed (program_of self.now.low.now) self.now.places.now (before_of stmt.now c) }
+        ensures { OnOk result (Before (program_of self.now.low.now) self.now.places.now
+            self.now.cells self.now.stack frame.words frame.saved (before_of stmt.now) out.old.code
+            out.old.next out.new.code out.new.next) }
     {
         match stmt {
             LowStmt::Set(x, a) => {
@@ -261,11 +292,17 @@ impl<'a> Context<'a> {
         variables: &[u32],
         block: &LowBlock,
     ) -> Result<(), AllocError>
-        requires writable { CanWrite (program_of self.now.low.now) self.now.places.now self.now.cells }
+        requires writable { CanWrite (program_of self.now.low.now) self.now.places.now
+            self.now.cells }
         requires frame { FrameFits frame.words frame.saved }
-        requires variables { TargetsPlaced (program_of self.now.low.now) self.now.places.now variables.now }
-        requires placed { Placed (program_of self.now.low.now) self.now.places.now (code_of block.now) }
-        ensures { OnOk result (Before (program_of self.now.low.now) self.now.places.now self.now.cells self.now.stack frame.words frame.saved (join variables.now (code_of block.now)) out.old.code out.old.next out.new.code out.new.next) }
+        requires variables { TargetsPlaced (program_of self.now.low.now) self.now.places.now
+            variables.now }
+        requires placed { Placed (program_of self.now.low.now) self.now.places.now
+            (code_of block.now) }
+        ensures { OnOk result (Before (program_of self.now.low.now) self.now.places.now
+            self.now.cells self.now.stack frame.words frame.saved
+            (join variables.now (code_of block.now)) out.old.code out.old.next out.new.code
+            out.new.next) }
     {
         let label = out.fresh()?;
         let spots = self.spots(variables)?;
@@ -282,11 +319,15 @@ impl<'a> Context<'a> {
         way: Way,
         arm: &LowArm,
     ) -> Result<(), AllocError>
-        requires writable { CanWrite (program_of self.now.low.now) self.now.places.now self.now.cells }
+        requires writable { CanWrite (program_of self.now.low.now) self.now.places.now
+            self.now.cells }
         requires frame { FrameFits frame.words frame.saved }
         requires targets { AreTargets to.now }
-        requires placed { ArmPlaced (program_of self.now.low.now) self.now.places.now (arm_of arm.now) }
-        ensures { OnOk result (ArmsBefore (program_of self.now.low.now) self.now.places.now self.now.cells self.now.stack frame.words frame.saved to.now way (one_arm (arm_of arm.now)) out.old.code out.old.next out.new.code out.new.next) }
+        requires placed { ArmPlaced (program_of self.now.low.now) self.now.places.now
+            (arm_of arm.now) }
+        ensures { OnOk result (ArmsBefore (program_of self.now.low.now) self.now.places.now
+            self.now.cells self.now.stack frame.words frame.saved to.now way
+            (one_arm (arm_of arm.now)) out.old.code out.old.next out.new.code out.new.next) }
     {
         let label = out.fresh()?;
         self.tests(&mut out.code, label, arm.tests.as_slice())?;
@@ -304,11 +345,16 @@ impl<'a> Context<'a> {
         arms: &[LowArm],
         otherwise: &LowBlock,
     ) -> Result<(), AllocError>
-        requires writable { CanWrite (program_of self.now.low.now) self.now.places.now self.now.cells }
+        requires writable { CanWrite (program_of self.now.low.now) self.now.places.now
+            self.now.cells }
         requires frame { FrameFits frame.words frame.saved }
         requires targets { AreTargets to.now }
-        requires placed { ArmsPlaced (program_of self.now.low.now) self.now.places.now (arms_before (map arm_of arms.now) (code_of otherwise.now)) }
-        ensures { OnOk result (EmittedArms (program_of self.now.low.now) self.now.places.now self.now.cells self.now.stack frame.words frame.saved to.now way (arms_before (map arm_of arms.now) (code_of otherwise.now)) out.old.code out.old.next out.new.code out.new.next) }
+        requires placed { ArmsPlaced (program_of self.now.low.now) self.now.places.now
+            (arms_before (map arm_of arms.now) (code_of otherwise.now)) }
+        ensures { OnOk result (EmittedArms (program_of self.now.low.now) self.now.places.now
+            self.now.cells self.now.stack frame.words frame.saved to.now way
+            (arms_before (map arm_of arms.now) (code_of otherwise.now)) out.old.code out.old.next
+            out.new.code out.new.next) }
     {
         for arm in arms {
             self.arm(frame, out, to, way, arm)?;
@@ -325,11 +371,15 @@ impl<'a> Context<'a> {
         way: Way,
         end: &LowEnd,
     ) -> Result<(), AllocError>
-        requires writable { CanWrite (program_of self.now.low.now) self.now.places.now self.now.cells }
+        requires writable { CanWrite (program_of self.now.low.now) self.now.places.now
+            self.now.cells }
         requires frame { FrameFits frame.words frame.saved }
         requires targets { AreTargets to.now }
-        requires placed { Placed (program_of self.now.low.now) self.now.places.now (end_of end.now) }
-        ensures { OnOk result (Emitted (program_of self.now.low.now) self.now.places.now self.now.cells self.now.stack frame.words frame.saved to.now way (end_of end.now) out.old.code out.old.next out.new.code out.new.next) }
+        requires placed { Placed (program_of self.now.low.now) self.now.places.now
+            (end_of end.now) }
+        ensures { OnOk result (Emitted (program_of self.now.low.now) self.now.places.now
+            self.now.cells self.now.stack frame.words frame.saved to.now way (end_of end.now)
+            out.old.code out.old.next out.new.code out.new.next) }
     {
         match end {
             LowEnd::Give(operands) => {
@@ -363,11 +413,15 @@ impl<'a> Context<'a> {
         way: Way,
         block: &LowBlock,
     ) -> Result<(), AllocError>
-        requires writable { CanWrite (program_of self.now.low.now) self.now.places.now self.now.cells }
+        requires writable { CanWrite (program_of self.now.low.now) self.now.places.now
+            self.now.cells }
         requires frame { FrameFits frame.words frame.saved }
         requires targets { AreTargets to.now }
-        requires placed { Placed (program_of self.now.low.now) self.now.places.now (code_of block.now) }
-        ensures { OnOk result (Emitted (program_of self.now.low.now) self.now.places.now self.now.cells self.now.stack frame.words frame.saved to.now way (code_of block.now) out.old.code out.old.next out.new.code out.new.next) }
+        requires placed { Placed (program_of self.now.low.now) self.now.places.now
+            (code_of block.now) }
+        ensures { OnOk result (Emitted (program_of self.now.low.now) self.now.places.now
+            self.now.cells self.now.stack frame.words frame.saved to.now way (code_of block.now)
+            out.old.code out.old.next out.new.code out.new.next) }
     {
         for stmt in block.stmts.as_slice() {
             self.stmt(frame, out, stmt)?;

@@ -172,7 +172,8 @@ impl Code {
 
     /// Gives the register from which a slot is reached: x2, or x7, which gets a far slot's address.
     fn reach(&mut self, k: u32) -> Result<Reg, AllocError>
-        ensures { IfOk result (λ base. (self.new ≡ self.old ++ plain (reach_code k)) × (base ≡ base_of_slot k)) }
+        ensures { IfOk result (λ base. (self.new ≡ self.old ++ plain (reach_code k))
+            × (base ≡ base_of_slot k)) }
     {
         if slot_bytes(k) < 2048 {
             return Ok(Reg(2));

@@ -161,7 +161,8 @@ impl Code {
     /// Registers are saved in the slots from `first` on.
     pub(crate) fn save_registers(&mut self, first: u32, registers: &[u8]) -> Result<(), AllocError>
         requires { AreRegisters registers.now × (first + length registers.now < 4294967296) }
-        ensures { OnOk result (self.new ≡ self.old ++ plain (moves_code (save_moves first registers.now))) }
+        ensures { OnOk result (self.new ≡ self.old
+            ++ plain (moves_code (save_moves first registers.now))) }
     {
         let mut slot = first;
         for register in registers {
@@ -178,7 +179,8 @@ impl Code {
         registers: &[u8],
     ) -> Result<(), AllocError>
         requires { AreRegisters registers.now × (first + length registers.now < 4294967296) }
-        ensures { OnOk result (self.new ≡ self.old ++ plain (moves_code (restore_moves first registers.now))) }
+        ensures { OnOk result (self.new ≡ self.old
+            ++ plain (moves_code (restore_moves first registers.now))) }
     {
         let mut slot = first;
         for register in registers {
@@ -202,8 +204,10 @@ impl Code {
 
 impl<'a> Context<'a> {
     pub(crate) fn source(&self, operand: Operand) -> Source
-        requires { Writable (program_of self.now.low.now) self.now.places.now × OperandPlaced (program_of self.now.low.now) self.now.places.now operand }
-        ensures { (result ≡ source_of (program_of self.now.low.now) self.now.places.now self.now.cells self.now.stack operand) × IsSource result }
+        requires { Writable (program_of self.now.low.now) self.now.places.now
+            × OperandPlaced (program_of self.now.low.now) self.now.places.now operand }
+        ensures { (result ≡ source_of (program_of self.now.low.now) self.now.places.now
+            self.now.cells self.now.stack operand) × IsSource result }
     {
         match operand {
             Operand::Var(x) => Source::At(self.places.place(x)),
@@ -216,8 +220,11 @@ impl<'a> Context<'a> {
     }
 
     pub(crate) fn sources(&self, operands: &[Operand]) -> Result<Vec<Source>, AllocError>
-        requires { Writable (program_of self.now.low.now) self.now.places.now × OperandsPlaced (program_of self.now.low.now) self.now.places.now operands.now }
-        ensures { IfOk result (λ sources. (sources.items ≡ sources_of (program_of self.now.low.now) self.now.places.now self.now.cells self.now.stack operands.now) × AreSources sources.items) }
+        requires { Writable (program_of self.now.low.now) self.now.places.now
+            × OperandsPlaced (program_of self.now.low.now) self.now.places.now operands.now }
+        ensures { IfOk result (λ sources.
+            (sources.items ≡ sources_of (program_of self.now.low.now) self.now.places.now
+            self.now.cells self.now.stack operands.now) × AreSources sources.items) }
     {
         let mut sources = Vec::new(self.alloc);
         for operand in operands {
@@ -229,7 +236,9 @@ impl<'a> Context<'a> {
     /// The places of variables.
     pub(crate) fn spots(&self, variables: &[u32]) -> Result<Vec<Spot>, AllocError>
         requires { HavePlaces (program_of self.now.low.now) self.now.places.now variables.now }
-        ensures { IfOk result (λ spots. (spots.items ≡ map (place_of self.now.places.now) variables.now) × AreSpots spots.items) }
+        ensures { IfOk result (λ spots.
+            (spots.items ≡ map (place_of self.now.places.now) variables.now)
+            × AreSpots spots.items) }
     {
         let mut spots = Vec::new(self.alloc);
         for x in variables {
@@ -240,8 +249,11 @@ impl<'a> Context<'a> {
 
     /// The spots in which a procedure takes its arguments.
     pub(crate) fn argument_spots(&self, proc: u32) -> Result<Vec<Spot>, AllocError>
-        requires { Writable (program_of self.now.low.now) self.now.places.now × (proc < length self.now.low.now.procs) }
-        ensures { IfOk result (λ spots. (spots.items ≡ argument_spots_of (program_of self.now.low.now) self.now.places.now self.now.cells self.now.stack proc) × AreTargets spots.items) }
+        requires { Writable (program_of self.now.low.now) self.now.places.now
+            × (proc < length self.now.low.now.procs) }
+        ensures { IfOk result (λ spots.
+            (spots.items ≡ argument_spots_of (program_of self.now.low.now) self.now.places.now
+            self.now.cells self.now.stack proc) × AreTargets spots.items) }
     {
         let places = self.spots(self.low.procs.as_slice()[proc as usize].params.as_slice())?;
         spots_for(self.alloc, places.as_slice())

@@ -36,7 +36,8 @@ pub fn select(
     stack: u32,
 ) -> Result<Asm, AllocError>
     requires { Selectable (program_of low.now) places.now cells stack }
-    ensures selected { IfOk result (λ asm. IsSelected (program_of low.now) places.now cells stack asm.items) }
+    ensures selected { IfOk result (λ asm.
+        IsSelected (program_of low.now) places.now cells stack asm.items) }
 {
     let context = Context {
         alloc,

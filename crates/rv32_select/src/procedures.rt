@@ -33,7 +33,8 @@ impl Code {
         params: &[Spot],
     ) -> Result<(), AllocError>
         requires { (words < 67108864) × (length params.now ≤ 16) }
-        ensures { OnOk result (self.new ≡ self.old ++ entry_items label words stack_base stack_full params.now) }
+        ensures { OnOk result (self.new ≡ self.old
+            ++ entry_items label words stack_base stack_full params.now) }
     {
         self.put(Item::Label(label))?;
         self.add_to(Reg(2), Reg(2), negated(4 * words))?;
@@ -80,7 +81,11 @@ impl<'a> Context<'a> {
     /// What the start is called with.
     fn start_sources(&self) -> Result<Vec<Source>, AllocError>
         requires { Writable (program_of self.now.low.now) self.now.places.now }
-        ensures { IfOk result (λ sources. (sources.items ≡ sources_of (program_of self.now.low.now) self.now.places.now self.now.cells self.now.stack (argument_of_start (program_of self.now.low.now) self.now.places.now self.now.cells self.now.stack self.now.low.now.argument)) × AreSources sources.items) }
+        ensures { IfOk result (λ sources.
+            (sources.items ≡ sources_of (program_of self.now.low.now) self.now.places.now
+            self.now.cells self.now.stack
+            (argument_of_start (program_of self.now.low.now) self.now.places.now self.now.cells
+            self.now.stack self.now.low.now.argument)) × AreSources sources.items) }
     {
         match self.low.argument {
             None => self.sources(&[]),
@@ -90,9 +95,16 @@ impl<'a> Context<'a> {
 
     /// The frames' end, the next cell, the heap's end and the globals.
     pub(crate) fn start_up(&self, code: &mut Code) -> Result<(), AllocError>
-        requires writable { CanWrite (program_of self.now.low.now) self.now.places.now self.now.cells }
+        requires writable { CanWrite (program_of self.now.low.now) self.now.places.now
+            self.now.cells }
         requires globals { length self.now.low.now.globals ≤ 131072 }
-        ensures { OnOk result (code.new ≡ code.old ++ start_items 2013265920 1342177280 (end_of_heap (program_of self.now.low.now) self.now.places.now self.now.cells self.now.stack) (bytes_of_cell (program_of self.now.low.now) self.now.places.now self.now.cells self.now.stack) (heap_full_label (program_of self.now.low.now) self.now.places.now self.now.cells self.now.stack) self.now.low.now.globals) }
+        ensures { OnOk result (code.new ≡ code.old
+            ++ start_items 2013265920 1342177280
+            (end_of_heap (program_of self.now.low.now) self.now.places.now self.now.cells
+            self.now.stack) (bytes_of_cell (program_of self.now.low.now) self.now.places.now
+            self.now.cells self.now.stack)
+            (heap_full_label (program_of self.now.low.now) self.now.places.now self.now.cells
+            self.now.stack) self.now.low.now.globals) }
     {
         let globals = self.low.globals.as_slice();
         let step = 4 * self.low.width;
@@ -106,7 +118,9 @@ impl<'a> Context<'a> {
     /// The call of the start, and the exit after it.
     pub(crate) fn first_call(&self, code: &mut Code) -> Result<(), AllocError>
         requires { Writable (program_of self.now.low.now) self.now.places.now }
-        ensures { OnOk result (code.new ≡ code.old ++ first_call_items (program_of self.now.low.now) self.now.places.now self.now.cells self.now.stack) }
+        ensures { OnOk result (code.new ≡ code.old
+            ++ first_call_items (program_of self.now.low.now) self.now.places.now self.now.cells
+            self.now.stack) }
     {
         let to = self.argument_spots(self.low.start)?;
         let from = self.start_sources()?;
@@ -120,10 +134,13 @@ impl<'a> Context<'a> {
 
     /// A procedure: its entry and its block.
     pub(crate) fn procedure(&self, out: &mut Selection, proc: u32) -> Result<(), AllocError>
-        requires writable { CanWrite (program_of self.now.low.now) self.now.places.now self.now.cells }
+        requires writable { CanWrite (program_of self.now.low.now) self.now.places.now
+            self.now.cells }
         requires stack { self.now.stack ≤ 67108864 }
         requires proc { proc < length self.now.low.now.procs }
-        ensures { OnOk result (EmittedProcedure (program_of self.now.low.now) self.now.places.now self.now.cells self.now.stack proc out.old.code out.old.next out.new.code out.new.next) }
+        ensures { OnOk result (EmittedProcedure (program_of self.now.low.now) self.now.places.now
+            self.now.cells self.now.stack proc out.old.code out.old.next out.new.code
+            out.new.next) }
     {
         let procedure = &self.low.procs.as_slice()[proc as usize];
         let words = self.places.frame_words(proc);
@@ -151,7 +168,9 @@ impl<'a> Context<'a> {
     /// The stops, after all procedures.
     pub(crate) fn stops(&self, code: &mut Code) -> Result<(), AllocError>
         requires { Writable (program_of self.now.low.now) self.now.places.now }
-        ensures { OnOk result (code.new ≡ code.old ++ stop_items (no_alternative_label (program_of self.now.low.now) self.now.places.now self.now.cells self.now.stack)) }
+        ensures { OnOk result (code.new ≡ code.old
+            ++ stop_items (no_alternative_label (program_of self.now.low.now) self.now.places.now
+            self.now.cells self.now.stack)) }
     {
         code.stops(self.no_alternative())
     }

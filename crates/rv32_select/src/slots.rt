@@ -29,7 +29,8 @@ fn slot_end(place: Spot) -> u32
 impl<'a> Context<'a> {
     /// One more than the number of the last slot among variables.
     fn slots_among(&self, variables: &[u32]) -> u32
-        requires placed { HavePlaces (program_of self.now.low.now) self.now.places.now variables.now }
+        requires placed { HavePlaces (program_of self.now.low.now) self.now.places.now
+            variables.now }
         requires few { slots_of (place_of self.now.places.now) variables.now < 4294967296 }
         ensures { result ≡ slots_of (place_of self.now.places.now) variables.now }
     {
@@ -42,9 +43,12 @@ impl<'a> Context<'a> {
 
     /// The same of all variables of a procedure.
     pub(crate) fn slots(&self, procedure: &LowProc) -> Result<u32, AllocError>
-        requires placed { HavePlaces (program_of self.now.low.now) self.now.places.now (variables_of (procedure_of procedure.now)) }
-        requires few { slots_of (place_of self.now.places.now) (variables_of (procedure_of procedure.now)) < 4294967296 }
-        ensures { IfOk result (λ slots. slots ≡ slots_of (place_of self.now.places.now) (variables_of (procedure_of procedure.now))) }
+        requires placed { HavePlaces (program_of self.now.low.now) self.now.places.now
+            (variables_of (procedure_of procedure.now)) }
+        requires few { slots_of (place_of self.now.places.now)
+            (variables_of (procedure_of procedure.now)) < 4294967296 }
+        ensures { IfOk result (λ slots. slots
+            ≡ slots_of (place_of self.now.places.now) (variables_of (procedure_of procedure.now))) }
     {
         let mut walk = Walk::new(self.alloc);
         walk.bind(procedure.params.as_slice())?;

@@ -80,7 +80,8 @@ impl<T> Seq<T> {
 
     /// The last item, taken off, or `None` for the empty list.
     pub fn pop(&mut self) -> Option<T>
-        ensures { MatchOption result ((self.old ≡ []) × (self.new ≡ [])) (λ last. self.old ≡ self.new ++ last ∷ []) }
+        ensures { MatchOption result ((self.old ≡ []) × (self.new ≡ [])) (λ last. self.old
+            ≡ self.new ++ last ∷ []) }
     {
         self.items.pop()
     }

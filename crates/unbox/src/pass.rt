@@ -67,18 +67,8 @@ fn with_members(alloc: Global, g: Grin, members: &Members) -> Result<Grin, Alloc
     for proc in g.procs.into_vec() {
         let bare = members.has(ProcId(f));
         let body = members.block(alloc, bare, proc.body)?;
-        procs.push(Proc {
-            name: proc.name,
-            params: proc.params,
-            body,
-        })?;
+        procs.push(Proc { body, ..proc })?;
         f = f.checked_add(1).ok_or(AllocError)?;
     }
-    Ok(Grin {
-        tags: g.tags,
-        globals: g.globals,
-        procs,
-        start: g.start,
-        argument: g.argument,
-    })
+    Ok(Grin { procs, ..g })
 }

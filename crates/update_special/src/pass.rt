@@ -50,17 +50,8 @@ fn with_cases(alloc: Global, g: Grin, flow: &Flow) -> Result<Grin, AllocError>
     };
     let mut procs = Seq::new(alloc);
     for proc in g.procs.into_vec() {
-        procs.push(Proc {
-            name: proc.name,
-            params: proc.params,
-            body: tags.block(alloc, proc.body)?,
-        })?;
+        let body = tags.block(alloc, proc.body)?;
+        procs.push(Proc { body, ..proc })?;
     }
-    Ok(Grin {
-        tags: g.tags,
-        globals: g.globals,
-        procs,
-        start: g.start,
-        argument: g.argument,
-    })
+    Ok(Grin { procs, ..g })
 }

@@ -42,17 +42,8 @@ pub fn with_vectors(alloc: Global, g: Grin) -> Result<Grin, AllocError>
     let vectors = Vectors { layout, known };
     let mut procs = Seq::new(alloc);
     for proc in g.procs.into_vec() {
-        procs.push(Proc {
-            name: proc.name,
-            params: proc.params,
-            body: vectors.block(alloc, proc.body)?,
-        })?;
+        let body = vectors.block(alloc, proc.body)?;
+        procs.push(Proc { body, ..proc })?;
     }
-    Ok(Grin {
-        tags: g.tags,
-        globals: g.globals,
-        procs,
-        start: g.start,
-        argument: g.argument,
-    })
+    Ok(Grin { procs, ..g })
 }

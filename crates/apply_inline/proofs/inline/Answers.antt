@@ -6,7 +6,7 @@ use Rattle.grin_meaning.specs.Ready.{IsInlined}
 use Rattle.points_to.specs.Found.{found}
 use Rattle.apply_inline.proofs.Done.{inlining_done}
 use Rattle.apply_inline.proofs.Well.{inlining_formed}
-use Rattle.apply_inline.proofs.Whole.{whole, keeps_after}
+use Rattle.apply_inline.proofs.InlinedProgram.{whole, keeps_after}
 use Rattle.apply_inline.proofs.inline.Goals as goal
 
 pub returns-clause-inlined : goal.returns-clause-inlined

@@ -7,11 +7,11 @@ use Rattle.eval_inline.specs.Inlining.{eval_inlined}
 use Rattle.points_to.specs.Found.{found}
 use Rattle.eval_inline.proofs.Pieces.{map_same}
 use Rattle.eval_inline.proofs.Statements.{one_more_proc}
-use Rattle.eval_inline.proofs.Whole.{inlined_is, inlined_keeps, inlined_formed, inlined_without}
+use Rattle.eval_inline.proofs.InlinedProgram.{inlined_is, inlined_keeps, inlined_formed, inlined_without}
 use Rattle.eval_inline.proofs.inline.Goals as goal
 
 pub loop-proc-preserved : goal.loop-proc-preserved
-loop-proc-preserved c = one_more_proc _ (found c.args.flow.now) c.past-fresh.result.next c.loop-proc.fresh.next _ c.loop-proc.made _ c.loop-proc.yielded c.in-Some.proc _ c.loop-proc.invariant refl refl c.in_ok-block.ensures.is c.in_ok-block.ensures.next c.in_ok-push.ensures.ok
+loop-proc-preserved c = one_more_proc _ (found c.args.flow.now) c.past-fresh.result.next c.loop-proc.fresh.next _ c.loop-proc.made _ c.loop-proc.yielded c.in-Some.proc _ c.loop-proc.invariant refl refl c.in_ok-body.ensures.is c.in_ok-body.ensures.next c.in_ok-push.ensures.ok
 
 inlined : (c : goal.After-drop-g-2) → program_of (record c.args.g { procs = c.loop-proc.made }) ≡ eval_inlined (found c.args.flow.now) (program_of c.args.g)
 inlined c =

@@ -7,7 +7,7 @@ use Rattle.copy_prop.proofs.pass.without_copies.Goals as goal
 
 pub loop-proc-preserved : goal.loop-proc-preserved
 loop-proc-preserved c =
-    rw c.in_ok-push.ensures.ok (proc_resolves _ _ _ _ _ _ c.loop-proc.invariant (with_body_of c.in_ok-block.ensures.tree) c.in_ok-block.ensures.table)
+    rw c.in_ok-push.ensures.ok (proc_resolves _ _ _ _ _ _ c.loop-proc.invariant (with_body_of c.in_ok-body.ensures.tree) c.in_ok-body.ensures.table)
 
 pub returns : goal.returns
 returns c =

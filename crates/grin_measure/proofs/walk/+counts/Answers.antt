@@ -1,4 +1,4 @@
-use Rattle.std.proofs.Common.{◌≤◌, ap, sym, ◌∙◌, subst, take, length}
+use Rattle.std.proofs.Common.{◌≤◌, ap, refl, sym, ◌∙◌, subst, take, length}
 use Rattle.grin_syntax.specs.Tree.{act_of, before_of, code_of}
 use Rattle.grin_meaning.specs.Slim.{node_words, end_words}
 use Rattle.grin_measure.specs.Counts.{counts, sum, of_cells, of_act, of_code, of_pattern, of_target}
@@ -27,7 +27,7 @@ block-loop-stmt-preserved t c =
 
 pub block-returns : goal.block-returns
 block-returns t c =
-    let last = c.words-last.ensures ∙ ap (λ n. counts 0 0 n 0) (c.last_words.ensures ∙ ap (λ o. end_words (act_of o)) c.deref.ensures) in
+    let last = c.words-last.ensures ∙ ap (λ n. counts 0 0 n 0) (c.value_words.ensures.last refl ∙ ap (λ o. end_words (act_of o)) c.deref.ensures) in
     let inner = c.operation.ensures ∙ ap (λ o. of_act (act_of o)) c.deref-2.ensures in
     let own = c.and.ensures ∙ (λ i. sum (last i) (inner i)) in
     c.and-2.ensures ∙ ap (sum c.loop-stmt.counts) own
@@ -41,7 +41,7 @@ statement-returns-in-Store t c =
 
 pub statement-returns-in-Bind : goal.statement-returns-in-Bind
 statement-returns-in-Bind t c =
-    let words = c.words-bound.ensures ∙ ap (λ n. counts 0 0 n 0) c.bound_words.ensures in
+    let words = c.words-bound.ensures ∙ ap (λ n. counts 0 0 n 0) (c.value_words.ensures.bound refl) in
     let own = c.and.ensures ∙ (λ i. sum (words i) (c.operation.ensures i)) in
     let all = c.and-in-Bind.ensures ∙ (λ i. sum (c.target.ensures i) (own i)) in
     λ b. ap (λ s. of_code (before_of s b)) c.in-Bind.is ∙ bind_counted c.in-Bind.to c.in-Bind.op b ∙ ap (λ n. sum n (of_code b)) (sym all)

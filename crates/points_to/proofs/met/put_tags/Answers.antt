@@ -1,15 +1,8 @@
-use Rattle.points_to.proofs.Read.{nothing_joins}
-use Rattle.points_to.proofs.TagsInCells.{joined_more, joined_all}
+use Rattle.points_to.proofs.Loops.{map_next, map_done}
 use Rattle.points_to.proofs.met.put_tags.Goals as goal
 
-pub loop-tag-init : goal.loop-tag-init
-loop-tag-init c = record { joined = nothing_joins c.args.numbers.now.keys; ordered = c.requires }
-
 pub loop-tag-preserved : goal.loop-tag-preserved
-loop-tag-preserved c = record {
-  joined = joined_more _ _ _ c.args.tags.now _ (record { 0 = 0 }) c.loop-tag-test.true c.loop-tag.invariant.joined c.in_ok-put_number.ensures.joined;
-  ordered = c.in_ok-put_number.ensures.ordered;
-}
+loop-tag-preserved c = map_next (λ t. t.0) c.args.tags.now _ (record { 0 = 0 }) _ _ _ c.loop-tag-test.true c.loop-tag.invariant c.in_ok-push.ensures.ok
 
-pub returns-clause-joined : goal.returns-clause-joined
-returns-clause-joined c = joined_all _ _ c.args.tags.now _ c.loop-tag-test.false c.loop-tag.invariant.joined
+pub returns : goal.returns
+returns c = map_done (λ t. t.0) c.args.tags.now _ _ _ c.loop-tag-test.false c.loop-tag.invariant

@@ -1,6 +1,6 @@
 use Rattle.grin_syntax.specs.Tree.{program_of}
 use Rattle.points_to.specs.Found.{found}
-use Rattle.apply_inline.proofs.Whole.{ProcsApply}
+use Rattle.apply_inline.proofs.InlinedProgram.{ProcsApply}
 use Rattle.apply_inline.proofs.blocks.Inlining.procs.Given as goal
 
 abbrev pub invariant-loop-proc : goal.invariant-loop-proc

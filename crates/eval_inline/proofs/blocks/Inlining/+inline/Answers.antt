@@ -1,81 +1,37 @@
-use Rattle.std.proofs.Common.{◌≡◌, ℕ, ap, refl, sym, ◌∙◌, rules}
+use Rattle.std.proofs.Common.{◌≡◌, ℕ, ◌+◌, map, ap, refl, sym, ◌∙◌, rules}
 use Rattle.std.proofs.lemmas.Iterator.Adapters.{YieldsList-from_vec}
 use Rattle.std.proofs.lemmas.Iterator.Consumers.{YieldsList-end}
-use Rattle.grin_syntax.specs.Tree.{program_of, act_of, eval}
-use Rattle.grin_syntax.proofs.TreeOf.{act_of-Unit, act_of-Fetch, act_of-FetchWord, act_of-Update, act_of-Eval, act_of-Apply, act_of-Call, act_of-Prim, act_of-Read, act_of-Write, act_of-Fail}
+use Rattle.grin_syntax.specs.Tree.{program_of, act_of, arm_of, arms_of, eval}
+use Rattle.grin_syntax.proofs.TreeOf.{act_of-Fetch, act_of-Eval}
 use Rattle.points_to.specs.Found.{found}
-use Rattle.eval_inline.proofs.Statements.{one_more_stmt, store_done, store_room, bind_done, bind_room, block_done, block_room, plain_stays, plain_room, same_follows, eval_follows, eval_room, one_more_arm, case_done, case_room, nested_done, nested_room}
+use Rattle.eval_inline.specs.Inlining.{eval_all, all_room}
+use Rattle.eval_inline.proofs.Statements.{one_more_stmt, store_done, store_room, bind_done, bind_room, block_done, block_room, other_is_plain, plain_stays, plain_room, same_follows, eval_follows, eval_room, one_more_arm, arms_done, arms_room_done, case_done, case_room, nested_done, nested_room}
 use Rattle.eval_inline.proofs.Pieces.{ok_follows, on_ok_follows, map_same}
 use Rattle.eval_inline.proofs.blocks.Inlining.+inline.Goals as goal
 
 pub block-loop-stmt-preserved : goal.block-loop-stmt-preserved
 block-loop-stmt-preserved t c = one_more_stmt (program_of c.args.self.now.program.now) (found c.args.self.now.flow.now) c.args.fresh.now.next c.loop-stmt.fresh.next _ c.loop-stmt.stmts _ c.loop-stmt.yielded c.in-Some.stmt c.loop-stmt.invariant c.in_ok-stmt.ensures.is c.in_ok-stmt.ensures.next
 
-pub op-loop-alt-preserved : goal.op-loop-alt-preserved
-op-loop-alt-preserved t c = record {
-  scrutinee = c.loop-alt.invariant.scrutinee;
-  some = one_more_arm (program_of c.args.self.now.program.now) (found c.args.self.now.flow.now) c.args.fresh.now.next c.loop-alt.fresh.next _ c.loop-alt.made _ c.loop-alt.yielded c.in-Some.alt _ c.loop-alt.invariant.some (search rules) c.in_ok-block-in-Case.ensures.is c.in_ok-block-in-Case.ensures.next c.in_ok-push-in-Case.ensures.ok;
-}
+pub alts-loop-alt-preserved : goal.alts-loop-alt-preserved
+alts-loop-alt-preserved t c = one_more_arm (program_of c.args.self.now.program.now) (found c.args.self.now.flow.now) c.args.fresh.now.next c.loop-alt.fresh.next _ c.loop-alt.made _ c.loop-alt.yielded c.in-Some.alt _ c.loop-alt.invariant (search rules) c.in_ok-block.ensures.is c.in_ok-block.ensures.next c.in_ok-push.ensures.ok
 
-pub op-returns-in-Unit-clause-is : goal.op-returns-in-Unit-clause-is
-op-returns-in-Unit-clause-is t c = rw (c.in-Unit.is, act_of-Unit) (plain_stays (program_of c.args.self.now.program.now) (found c.args.self.now.flow.now) c.args.fresh.now.next _ _ tt)
+pub alts-returns-clause-is : goal.alts-returns-clause-is
+alts-returns-clause-is t c =
+    let all = YieldsList-end (YieldsList-from_vec c.args.alts (search rules) (search rules)) c.loop-alt.yielded c.loop-alt.alt-iterator c.loop-alt.yielded_by _ c.next.new.self c.in-None.is c.next.ensures.steps in
+    arms_done (program_of c.args.self.now.program.now) (found c.args.self.now.flow.now) c.args.fresh.now.next c.loop-alt.fresh.next c.loop-alt.made c.loop-alt.yielded c.loop-alt.invariant
+    ∙ ap (λ l. eval_all (program_of c.args.self.now.program.now) (found c.args.self.now.flow.now) c.args.fresh.now.next (arms_of (map arm_of l))) (sym (map_same c.loop-alt.yielded) ∙ all.0)
 
-pub op-returns-in-Unit-clause-next : goal.op-returns-in-Unit-clause-next
-op-returns-in-Unit-clause-next t c = rw (c.in-Unit.is, act_of-Unit) (plain_room (program_of c.args.self.now.program.now) (found c.args.self.now.flow.now) c.args.fresh.now.next _ tt)
+pub alts-returns-clause-next : goal.alts-returns-clause-next
+alts-returns-clause-next t c =
+    let all = YieldsList-end (YieldsList-from_vec c.args.alts (search rules) (search rules)) c.loop-alt.yielded c.loop-alt.alt-iterator c.loop-alt.yielded_by _ c.next.new.self c.in-None.is c.next.ensures.steps in
+    arms_room_done (program_of c.args.self.now.program.now) (found c.args.self.now.flow.now) c.args.fresh.now.next c.loop-alt.fresh.next c.loop-alt.made c.loop-alt.yielded c.loop-alt.invariant
+    ∙ ap (λ l. c.args.fresh.now.next + all_room (program_of c.args.self.now.program.now) (found c.args.self.now.flow.now) (arms_of (map arm_of l))) (sym (map_same c.loop-alt.yielded) ∙ all.0)
 
-pub op-returns-in-Fetch-clause-is : goal.op-returns-in-Fetch-clause-is
-op-returns-in-Fetch-clause-is t c = rw (c.in-Fetch.is, act_of-Fetch) (plain_stays (program_of c.args.self.now.program.now) (found c.args.self.now.flow.now) c.args.fresh.now.next _ _ tt)
+pub op-returns-in_default-clause-is : goal.op-returns-in_default-clause-is
+op-returns-in_default-clause-is t c = plain_stays (program_of c.args.self.now.program.now) (found c.args.self.now.flow.now) c.args.fresh.now.next _ _ (other_is_plain c.args.op c.in_default.not-Eval c.in_default.not-Case c.in_default.not-Nested)
 
-pub op-returns-in-Fetch-clause-next : goal.op-returns-in-Fetch-clause-next
-op-returns-in-Fetch-clause-next t c = rw (c.in-Fetch.is, act_of-Fetch) (plain_room (program_of c.args.self.now.program.now) (found c.args.self.now.flow.now) c.args.fresh.now.next _ tt)
-
-pub op-returns-in-FetchWord-clause-is : goal.op-returns-in-FetchWord-clause-is
-op-returns-in-FetchWord-clause-is t c = rw (c.in-FetchWord.is, act_of-FetchWord) (plain_stays (program_of c.args.self.now.program.now) (found c.args.self.now.flow.now) c.args.fresh.now.next _ _ tt)
-
-pub op-returns-in-FetchWord-clause-next : goal.op-returns-in-FetchWord-clause-next
-op-returns-in-FetchWord-clause-next t c = rw (c.in-FetchWord.is, act_of-FetchWord) (plain_room (program_of c.args.self.now.program.now) (found c.args.self.now.flow.now) c.args.fresh.now.next _ tt)
-
-pub op-returns-in-Update-clause-is : goal.op-returns-in-Update-clause-is
-op-returns-in-Update-clause-is t c = rw (c.in-Update.is, act_of-Update) (plain_stays (program_of c.args.self.now.program.now) (found c.args.self.now.flow.now) c.args.fresh.now.next _ _ tt)
-
-pub op-returns-in-Update-clause-next : goal.op-returns-in-Update-clause-next
-op-returns-in-Update-clause-next t c = rw (c.in-Update.is, act_of-Update) (plain_room (program_of c.args.self.now.program.now) (found c.args.self.now.flow.now) c.args.fresh.now.next _ tt)
-
-pub op-returns-in-Apply-clause-is : goal.op-returns-in-Apply-clause-is
-op-returns-in-Apply-clause-is t c = rw (c.in-Apply.is, act_of-Apply) (plain_stays (program_of c.args.self.now.program.now) (found c.args.self.now.flow.now) c.args.fresh.now.next _ _ tt)
-
-pub op-returns-in-Apply-clause-next : goal.op-returns-in-Apply-clause-next
-op-returns-in-Apply-clause-next t c = rw (c.in-Apply.is, act_of-Apply) (plain_room (program_of c.args.self.now.program.now) (found c.args.self.now.flow.now) c.args.fresh.now.next _ tt)
-
-pub op-returns-in-Call-clause-is : goal.op-returns-in-Call-clause-is
-op-returns-in-Call-clause-is t c = rw (c.in-Call.is, act_of-Call) (plain_stays (program_of c.args.self.now.program.now) (found c.args.self.now.flow.now) c.args.fresh.now.next _ _ tt)
-
-pub op-returns-in-Call-clause-next : goal.op-returns-in-Call-clause-next
-op-returns-in-Call-clause-next t c = rw (c.in-Call.is, act_of-Call) (plain_room (program_of c.args.self.now.program.now) (found c.args.self.now.flow.now) c.args.fresh.now.next _ tt)
-
-pub op-returns-in-Prim-clause-is : goal.op-returns-in-Prim-clause-is
-op-returns-in-Prim-clause-is t c = rw (c.in-Prim.is, act_of-Prim) (plain_stays (program_of c.args.self.now.program.now) (found c.args.self.now.flow.now) c.args.fresh.now.next _ _ tt)
-
-pub op-returns-in-Prim-clause-next : goal.op-returns-in-Prim-clause-next
-op-returns-in-Prim-clause-next t c = rw (c.in-Prim.is, act_of-Prim) (plain_room (program_of c.args.self.now.program.now) (found c.args.self.now.flow.now) c.args.fresh.now.next _ tt)
-
-pub op-returns-in-Read-clause-is : goal.op-returns-in-Read-clause-is
-op-returns-in-Read-clause-is t c = rw (c.in-Read.is, act_of-Read) (plain_stays (program_of c.args.self.now.program.now) (found c.args.self.now.flow.now) c.args.fresh.now.next _ _ tt)
-
-pub op-returns-in-Read-clause-next : goal.op-returns-in-Read-clause-next
-op-returns-in-Read-clause-next t c = rw (c.in-Read.is, act_of-Read) (plain_room (program_of c.args.self.now.program.now) (found c.args.self.now.flow.now) c.args.fresh.now.next _ tt)
-
-pub op-returns-in-Write-clause-is : goal.op-returns-in-Write-clause-is
-op-returns-in-Write-clause-is t c = rw (c.in-Write.is, act_of-Write) (plain_stays (program_of c.args.self.now.program.now) (found c.args.self.now.flow.now) c.args.fresh.now.next _ _ tt)
-
-pub op-returns-in-Write-clause-next : goal.op-returns-in-Write-clause-next
-op-returns-in-Write-clause-next t c = rw (c.in-Write.is, act_of-Write) (plain_room (program_of c.args.self.now.program.now) (found c.args.self.now.flow.now) c.args.fresh.now.next _ tt)
-
-pub op-returns-in-Fail-clause-is : goal.op-returns-in-Fail-clause-is
-op-returns-in-Fail-clause-is t c = rw (c.in-Fail.is, act_of-Fail) (plain_stays (program_of c.args.self.now.program.now) (found c.args.self.now.flow.now) c.args.fresh.now.next _ _ tt)
-
-pub op-returns-in-Fail-clause-next : goal.op-returns-in-Fail-clause-next
-op-returns-in-Fail-clause-next t c = rw (c.in-Fail.is, act_of-Fail) (plain_room (program_of c.args.self.now.program.now) (found c.args.self.now.flow.now) c.args.fresh.now.next _ tt)
+pub op-returns-in_default-clause-next : goal.op-returns-in_default-clause-next
+op-returns-in_default-clause-next t c = plain_room (program_of c.args.self.now.program.now) (found c.args.self.now.flow.now) c.args.fresh.now.next _ (other_is_plain c.args.op c.in_default.not-Eval c.in_default.not-Case c.in_default.not-Nested)
 
 pub op-returns-in_ok-push-in-Eval-clause-is : goal.op-returns-in_ok-push-in-Eval-clause-is
 op-returns-in_ok-push-in-Eval-clause-is t c =
@@ -86,18 +42,11 @@ pub op-returns-in_ok-push-in-Eval-clause-next : goal.op-returns-in_ok-push-in-Ev
 op-returns-in_ok-push-in-Eval-clause-next t c =
     on_ok_follows _ _ c.evaluation.result (λ e. eval_room (program_of c.args.self.now.program.now) (found c.args.self.now.flow.now) c.args.fresh.now.next _ _ c.args.op c.in-Eval.word c.in-Eval.is c.in_ok-node-in-Eval.ensures.next e) c.evaluation.ensures.next
 
-all_alts : (t : ℕ) (c : goal.op-After-drop-alt-iterator-in-Case t) → c.loop-alt.yielded ≡ c.in-Case.alts
-all_alts t c =
-    let all = YieldsList-end (YieldsList-from_vec c.in-Case.alts (search rules) (search rules)) c.loop-alt.yielded c.loop-alt.alt-iterator c.loop-alt.yielded_by _ c.next.new.self c.in-None.is c.next.ensures.steps in
-    sym (map_same c.loop-alt.yielded) ∙ all.0
+pub op-returns-in_ok-made-in-Case-clause-is : goal.op-returns-in_ok-made-in-Case-clause-is
+op-returns-in_ok-made-in-Case-clause-is t c = case_done (program_of c.args.self.now.program.now) (found c.args.self.now.flow.now) c.args.fresh.now.next c.args.before.now c.args.op c.in-Case.v c.in_ok-made-in-Case.made c.in-Case.alts c.in-Case.is c.in_ok-made-in-Case.ensures.is
 
-pub op-returns-in-None-clause-is : goal.op-returns-in-None-clause-is
-op-returns-in-None-clause-is t c =
-    case_done (program_of c.args.self.now.program.now) (found c.args.self.now.flow.now) c.args.fresh.now.next c.loop-alt.fresh.next c.args.before.now c.args.op c.in-Case.v _ c.loop-alt.made c.loop-alt.yielded c.in-Case.alts c.in-Case.is c.loop-alt.invariant.scrutinee (all_alts t c) c.loop-alt.invariant.some
-
-pub op-returns-in-None-clause-next : goal.op-returns-in-None-clause-next
-op-returns-in-None-clause-next t c =
-    case_room (program_of c.args.self.now.program.now) (found c.args.self.now.flow.now) c.args.fresh.now.next c.loop-alt.fresh.next c.args.op c.in-Case.v c.loop-alt.made c.loop-alt.yielded c.in-Case.alts c.in-Case.is (all_alts t c) c.loop-alt.invariant.some
+pub op-returns-in_ok-made-in-Case-clause-next : goal.op-returns-in_ok-made-in-Case-clause-next
+op-returns-in_ok-made-in-Case-clause-next t c = case_room (program_of c.args.self.now.program.now) (found c.args.self.now.flow.now) c.args.fresh.now.next _ c.args.op c.in-Case.v c.in-Case.alts c.in-Case.is c.in_ok-made-in-Case.ensures.next
 
 pub op-returns-in_ok-new-in-Nested-clause-is : goal.op-returns-in_ok-new-in-Nested-clause-is
 op-returns-in_ok-new-in-Nested-clause-is t c = nested_done (program_of c.args.self.now.program.now) (found c.args.self.now.flow.now) c.args.fresh.now.next c.args.before.now c.args.op c.in-Nested.block c.in_ok-new-in-Nested.field-0 c.into_inner.result c.in_ok-inner-in-Nested.inner c.in-Nested.is c.into_inner.ensures c.in_ok-inner-in-Nested.ensures.is c.in_ok-new-in-Nested.ensures.ok
