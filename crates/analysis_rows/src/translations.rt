@@ -1,10 +1,14 @@
-// Programs in normal form, and the listings of their translations.
+// Texts of programs, and the listings of their translations.
 
-use arity_check::normal::{Body, Bound, Branch, Checked, Con, Flat, Fun, PrimOp, Var};
-use grin_syntax::list;
+use arity_check::check::check;
+use core_reader::read;
+use grin_syntax::{Grin, list};
 use grin_translate::translate;
-use seq::Seq;
-use std::alloc::{AllocError, Global};
+use std::alloc::Global;
+use std::test::Fail;
+
+// `Nil` and `Cons`, which stand before each text.
+pub(crate) const LISTS: &str = "data Nil 0; data Cons 2; ";
 
 const PRINT: &str = "
 @print v0 =
@@ -24,16 +28,18 @@ const PRINT: &str = "
       fail
 ";
 
-// main = Nil;
-const EMPTY: &str = "\
+const EMPTY: &str = "main = Nil;";
+
+const EMPTY_LISTED: &str = "\
 global main = (Fmain)
 
 main =
   unit (CNil)
 ";
 
-// main xs = xs;
-const ECHO: &str = "
+pub(crate) const ECHO: &str = "main xs = xs;";
+
+const ECHO_LISTED: &str = "
 main v0 =
   eval v0
 
@@ -50,6 +56,7 @@ main v0 =
       unit (CCons v2 v3)
 ";
 
+// What stands behind the printing loop.
 const START: &str = "
 @start =
   store
@@ -58,10 +65,13 @@ const START: &str = "
   call @print v1
 ";
 
-// take xs = case xs of { Nil -> Nil; Cons h t -> Cons h (take t) };
-// id x = x;
-// main = Cons (id id 66) (take (Cons (add 32 33) Nil));
-const FORMS: &str = "\
+pub(crate) const FORMS: &str = "\
+take xs = case xs of { Nil -> Nil; Cons h t -> Cons h (take t) };
+id x = x;
+main = Cons (id id 66) (take (Cons (add 32 33) Nil));
+";
+
+const FORMS_LISTED: &str = "\
 global main = (Fmain)
 
 take v0 =
@@ -112,13 +122,16 @@ main =
       fail
 ";
 
-// f x = case (case x of { 0 -> 1; n -> n }) of { 7 -> x; _ -> add x x };
-// one = 1;
-// h x = x x x;
-// both x y = Cons x y;
-// half = both one;
-// main = Cons (f one) Nil;
-const BRANCHES: &str = "\
+pub(crate) const BRANCHES: &str = "\
+f x = case case x of { 0 -> 1; n -> n } of { 7 -> x; _ -> add x x };
+one = 1;
+h x = x x x;
+both x y = Cons x y;
+half = both one;
+main = Cons (f one) Nil;
+";
+
+const BRANCHES_LISTED: &str = "\
 global one = (Fone)
 global half = (Fhalf)
 global main = (Fmain)
@@ -171,190 +184,30 @@ main =
   unit (CCons v0 v1)
 ";
 
-pub(crate) fn con(alloc: Global, c: u32, locals: &[u32]) -> Result<Flat, AllocError> {
-    Ok(Flat::Con(c, vars(alloc, locals)?))
+// The translation of a whole text.
+pub(crate) fn whole(alloc: Global, text: &str) -> Result<Grin, Fail> {
+    let core = read(alloc, text.as_bytes())?;
+    Ok(translate(alloc, &check(alloc, core)?)?)
 }
 
-pub(crate) fn vars(alloc: Global, locals: &[u32]) -> Result<Seq<Var>, AllocError> {
-    let mut made = Seq::new(alloc);
-    for x in locals {
-        made.push(Var::Local(*x))?;
+// The translation of a text after `LISTS`.
+pub(crate) fn translated(alloc: Global, text: &str) -> Result<Grin, Fail> {
+    let text = format!(in alloc; "{LISTS}{text}")?;
+    whole(alloc, &text)
+}
+
+#[test]
+fn translations_are_listed(rt: HostRuntime) -> Result<(), Fail> {
+    let alloc = rt.alloc();
+    for (text, front, back) in [
+        (EMPTY, EMPTY_LISTED, ""),
+        (ECHO, ECHO_LISTED, START),
+        (FORMS, FORMS_LISTED, ""),
+        (BRANCHES, BRANCHES_LISTED, ""),
+    ] {
+        let listing = list(alloc, &translated(alloc, text)?)?;
+        let expected = format!(in alloc; "{front}{PRINT}{back}")?;
+        assert_eq!(rt; listing.as_slice(), expected.as_bytes(), "{text}");
     }
-    Ok(made)
-}
-
-pub(crate) fn fun(alloc: Global, name: &str, params: u32, body: Body) -> Result<Fun, AllocError> {
-    Ok(Fun {
-        name: Seq::from_slice(alloc, name.as_bytes())?,
-        params,
-        body,
-    })
-}
-
-pub(crate) fn itself(alloc: Global) -> Body {
-    Body::App(Flat::Apply(Var::Local(0), Seq::new(alloc)))
-}
-
-pub(crate) fn program(alloc: Global, funs: Vec<Fun>, main: u32) -> Result<Checked, AllocError> {
-    let mut cons = Seq::new(alloc);
-    cons.push(Con {
-        name: Seq::from_slice(alloc, b"Nil")?,
-        fields: 0,
-    })?;
-    cons.push(Con {
-        name: Seq::from_slice(alloc, b"Cons")?,
-        fields: 2,
-    })?;
-    Ok(Checked {
-        cons,
-        funs: Seq::from_vec(funs),
-        main,
-    })
-}
-
-fn listed(alloc: Global, p: &Checked) -> Result<Vec<u8>, AllocError> {
-    list(alloc, &translate(alloc, p)?)
-}
-
-fn take(alloc: Global) -> Result<Fun, AllocError> {
-    let mut group = Seq::new(alloc);
-    group.push(Bound {
-        local: 3,
-        flat: Flat::Call(0, vars(alloc, &[2])?),
-    })?;
-    let more = Box::new(alloc, Body::App(con(alloc, 1, &[1, 3])?))?;
-    let mut branches = Seq::new(alloc);
-    branches.push(Branch::Con(0, Seq::new(alloc), Body::App(con(alloc, 0, &[])?)))?;
-    branches.push(Branch::Con(1, Seq::from_slice(alloc, &[1, 2])?, Body::Let(group, more)))?;
-    let tested = Box::new(alloc, itself(alloc))?;
-    fun(alloc, "take", 1, Body::Case(tested, branches))
-}
-
-fn main_of_forms(alloc: Global) -> Result<Fun, AllocError> {
-    let mut flats = Vec::new(alloc);
-    flats.push(Flat::Part(1, Seq::new(alloc)))?;
-    flats.push(Flat::Call(1, vars(alloc, &[0])?))?;
-    flats.push(Flat::Int(66))?;
-    flats.push(Flat::Apply(Var::Local(1), vars(alloc, &[2])?))?;
-    flats.push(Flat::Int(32))?;
-    flats.push(Flat::Int(33))?;
-    flats.push(Flat::Prim(PrimOp::Add, Var::Local(4), Var::Local(5)))?;
-    flats.push(con(alloc, 0, &[])?)?;
-    flats.push(con(alloc, 1, &[6, 7])?)?;
-    flats.push(Flat::Call(0, vars(alloc, &[8])?))?;
-    let mut group = Seq::new(alloc);
-    let mut local = 0_u32;
-    for flat in flats {
-        group.push(Bound { local, flat })?;
-        local = local.wrapping_add(1);
-    }
-    let last = Box::new(alloc, Body::App(con(alloc, 1, &[3, 9])?))?;
-    fun(alloc, "main", 0, Body::Let(group, last))
-}
-
-fn tested_twice(alloc: Global) -> Result<Fun, AllocError> {
-    let mut inner = Seq::new(alloc);
-    inner.push(Branch::Int(0, Body::App(Flat::Int(1))))?;
-    let named = Body::App(Flat::Apply(Var::Local(1), Seq::new(alloc)));
-    inner.push(Branch::Default(Some(1), named))?;
-    let first = Box::new(alloc, itself(alloc))?;
-    let tested = Box::new(alloc, Body::Case(first, inner))?;
-    let mut outer = Seq::new(alloc);
-    outer.push(Branch::Int(7, itself(alloc)))?;
-    let twice = Body::App(Flat::Prim(PrimOp::Add, Var::Local(0), Var::Local(0)));
-    outer.push(Branch::Default(None, twice))?;
-    fun(alloc, "f", 1, Body::Case(tested, outer))
-}
-
-fn shared(alloc: Global) -> Result<Seq<Var>, AllocError> {
-    let mut made = Seq::new(alloc);
-    made.push(Var::Global(1))?;
-    Ok(made)
-}
-
-fn main_of_branches(alloc: Global) -> Result<Fun, AllocError> {
-    let mut group = Seq::new(alloc);
-    group.push(Bound {
-        local: 0,
-        flat: Flat::Call(0, shared(alloc)?),
-    })?;
-    group.push(Bound {
-        local: 1,
-        flat: con(alloc, 0, &[])?,
-    })?;
-    let last = Box::new(alloc, Body::App(con(alloc, 1, &[0, 1])?))?;
-    fun(alloc, "main", 0, Body::Let(group, last))
-}
-
-fn empty(alloc: Global) -> Result<Checked, AllocError> {
-    let mut funs = Vec::new(alloc);
-    funs.push(fun(alloc, "main", 0, Body::App(con(alloc, 0, &[])?))?)?;
-    program(alloc, funs, 0)
-}
-
-pub(crate) fn echo(alloc: Global) -> Result<Checked, AllocError> {
-    let mut funs = Vec::new(alloc);
-    funs.push(fun(alloc, "main", 1, itself(alloc))?)?;
-    program(alloc, funs, 0)
-}
-
-pub(crate) fn forms(alloc: Global) -> Result<Checked, AllocError> {
-    let mut funs = Vec::new(alloc);
-    funs.push(take(alloc)?)?;
-    funs.push(fun(alloc, "id", 1, itself(alloc))?)?;
-    funs.push(main_of_forms(alloc)?)?;
-    program(alloc, funs, 2)
-}
-
-pub(crate) fn branches(alloc: Global) -> Result<Checked, AllocError> {
-    let mut funs = Vec::new(alloc);
-    funs.push(tested_twice(alloc)?)?;
-    funs.push(fun(alloc, "one", 0, Body::App(Flat::Int(1)))?)?;
-    let applied = Flat::Apply(Var::Local(0), vars(alloc, &[0, 0])?);
-    funs.push(fun(alloc, "h", 1, Body::App(applied))?)?;
-    funs.push(fun(alloc, "both", 2, Body::App(con(alloc, 1, &[0, 1])?))?)?;
-    funs.push(fun(alloc, "half", 0, Body::App(Flat::Part(3, shared(alloc)?)))?)?;
-    funs.push(main_of_branches(alloc)?)?;
-    program(alloc, funs, 5)
-}
-
-#[test]
-fn no_list_is_listed(rt: HostRuntime) -> Result<(), AllocError> {
-    let alloc = rt.alloc();
-    let text = listed(alloc, &empty(alloc)?)?;
-    let mut expected = Vec::from_slice(alloc, EMPTY.as_bytes())?;
-    expected.extend_from_slice(PRINT.as_bytes())?;
-    assert_eq!(rt; text.as_slice(), expected.as_slice());
-    Ok(())
-}
-
-#[test]
-fn the_input_is_listed(rt: HostRuntime) -> Result<(), AllocError> {
-    let alloc = rt.alloc();
-    let text = listed(alloc, &echo(alloc)?)?;
-    let mut expected = Vec::from_slice(alloc, ECHO.as_bytes())?;
-    expected.extend_from_slice(PRINT.as_bytes())?;
-    expected.extend_from_slice(START.as_bytes())?;
-    assert_eq!(rt; text.as_slice(), expected.as_slice());
-    Ok(())
-}
-
-#[test]
-fn forms_are_listed(rt: HostRuntime) -> Result<(), AllocError> {
-    let alloc = rt.alloc();
-    let text = listed(alloc, &forms(alloc)?)?;
-    let mut expected = Vec::from_slice(alloc, FORMS.as_bytes())?;
-    expected.extend_from_slice(PRINT.as_bytes())?;
-    assert_eq!(rt; text.as_slice(), expected.as_slice());
-    Ok(())
-}
-
-#[test]
-fn branches_are_listed(rt: HostRuntime) -> Result<(), AllocError> {
-    let alloc = rt.alloc();
-    let text = listed(alloc, &branches(alloc)?)?;
-    let mut expected = Vec::from_slice(alloc, BRANCHES.as_bytes())?;
-    expected.extend_from_slice(PRINT.as_bytes())?;
-    assert_eq!(rt; text.as_slice(), expected.as_slice());
     Ok(())
 }

@@ -22,34 +22,7 @@ use rv32_select::{select, selected_items_do};
 use std::alloc::{AllocError, Global};
 use std::test::Fail;
 use vectorised_form::vectorise_takes_inlined;
-
-/// Eight queens: the number of placements, in decimal.
-const QUEENS: &str = "data Nil 0; data Cons 2;
-one = 1;
-eight = 8;
-ten = 10;
-safe q d qs = case qs of {
-  Nil -> 1;
-  Cons h t -> case eq h q of {
-    1 -> 0;
-    _ -> case eq h (add q d) of {
-      1 -> 0;
-      _ -> case eq h (sub q d) of {
-        1 -> 0;
-        _ -> safe q (add d one) t } } } };
-place n qs = case n of {
-  0 -> 1;
-  _ -> try eight (sub n one) qs };
-try q n qs = case q of {
-  0 -> 0;
-  _ -> case safe q one qs of {
-    0 -> try (sub q one) n qs;
-    _ -> add (place n (Cons q qs)) (try (sub q one) n qs) } };
-digits n rest = case lt n ten of {
-  1 -> Cons (add n 48) rest;
-  _ -> digits (quot n ten) (Cons (add (rem n ten) 48) rest) };
-main = digits (place eight Nil) (Cons 10 Nil);
-";
+use worked_texts::QUEENS;
 
 /// Whether a program is slim beside one of these sizes, and not too large.
 fn is_small(g: &Grin, sizes: Sizes) -> bool

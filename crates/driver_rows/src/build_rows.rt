@@ -1,10 +1,10 @@
 //! Texts whose images are put, and whose code is listed.
 
 use crate::outside::{Ended, LISTS, Object, Outside};
-use crate::texts::QUEENS;
 use std::alloc::{AllocError, Global};
 use std::fmt::Write;
 use std::test::Fail;
+use worked_texts::QUEENS;
 
 /// A program that prints two bytes.
 const GREETS: &str = "data Nil 0; data Cons 2; main = Cons 72 (Cons 105 Nil);";

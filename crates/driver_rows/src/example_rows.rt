@@ -1,8 +1,8 @@
 //! Longer programs: what they print.
 
 use crate::outside::Outside;
-use crate::texts::{INTERPRETER, PRIMES};
 use std::test::Fail;
+use worked_texts::{INTERPRETER, PRIMES};
 
 #[test]
 fn longer_programs(rt: HostRuntime) -> Result<(), Fail> {

@@ -1,8 +1,8 @@
 //! Programs that read their input.
 
 use crate::outside::{LISTS, Object, Outside};
-use crate::texts::SORT;
 use std::test::Fail;
+use worked_texts::SORT;
 
 /// Prints its input.
 const ECHO: &str = "main xs = xs;";

@@ -1,9 +1,9 @@
 //! Texts whose programs are long, or nest or bind much.
 
 use crate::outside::{LISTS, Outside};
-use crate::texts::QUEENS;
 use std::alloc::{AllocError, Global};
 use std::test::Fail;
+use worked_texts::QUEENS;
 
 /// The numbers from `i` to `n`.
 const UPTO: &str = "upto i n = case lt n i of { 1 -> Nil; _ -> Cons i (upto (add i 1) n) }; ";

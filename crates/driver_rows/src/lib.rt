@@ -27,5 +27,3 @@ mod list_rows;
 mod outside;
 #[cfg(test)]
 mod run_rows;
-#[cfg(test)]
-mod texts;

@@ -11,6 +11,7 @@ use rv32_layout::place;
 use rv32_machine::{Machine, Stop};
 use seq::Seq;
 use std::alloc::{AllocError, Global};
+use std::process::Abort;
 
 /// The words of a case of so many alternatives for the numbers below, which is done on a value.
 fn words(alloc: Global, count: u32, value: u32) -> Result<Vec<u32>, AllocError>
@@ -124,23 +125,53 @@ fn alternative(k: u32, over: u32) -> [Instr; 4]
     ]
 }
 
+/// The case has so many words, and ends so.
+fn case_ends(
+    rt: &impl Abort,
+    alloc: Global,
+    count: u32,
+    value: u32,
+    size: usize,
+    stop: Stop,
+) -> anyhow::Result<()>
+    requires { (count ≤ 1000) × (value ≤ 1000) }
+{
+    let words = words(alloc, count, value)?;
+    assert_eq!(rt; words.len(), size);
+    assert_eq!(rt; end(alloc, &words)?, stop);
+    Ok(())
+}
+
+/// The words at a place have these instructions.
+fn has(rt: &impl Abort, words: &[u32], at: usize, code: &[Instr]) {
+    for (n, instr) in code.iter().enumerate() {
+        let place = at.saturating_add(n);
+        assert_eq!(rt; words.get(place).copied(), Some(encode(*instr)), "{place}");
+    }
+}
+
 #[test]
 fn three_hundred_alternatives(rt: HostRuntime) -> anyhow::Result<()> {
+    case_ends(&rt, rt.alloc(), 300, 299, 1206, Stop::Exit(299))
+}
+
+/// The branch over all is a short one over a jump, and so are the ends of the alternatives jumps.
+#[test]
+fn words_of_three_hundred_alternatives(rt: HostRuntime) -> anyhow::Result<()> {
     let words = words(rt.alloc(), 300, 299)?;
-    assert_eq!(rt; words.len(), 1206);
     let over = [
         Instr::Branch(BranchKind::Bltu, Reg(5), Reg(6), OffB(8)),
         Instr::Jal(Reg(0), OffJ(4804)),
     ];
-    assert_eq!(rt; words.get(2).copied(), Some(encode(over[0])));
-    assert_eq!(rt; words.get(3).copied(), Some(encode(over[1])));
+    has(&rt, &words, 2, &over);
     for k in 0..300 {
-        for (n, instr) in alternative(k, 1197 - 4 * k).iter().enumerate() {
-            let at = (4 + 4 * k as usize).saturating_add(n);
-            assert_eq!(rt; words.get(at).copied(), Some(encode(*instr)), "{k}");
-        }
+        has(
+            &rt,
+            &words,
+            4 + 4 * k as usize,
+            &alternative(k, 1197 - 4 * k),
+        );
     }
-    assert_eq!(rt; end(rt.alloc(), &words)?, Stop::Exit(299));
     Ok(())
 }
 
@@ -148,16 +179,12 @@ fn three_hundred_alternatives(rt: HostRuntime) -> anyhow::Result<()> {
 #[test]
 fn near_once_all_is_short(rt: HostRuntime) -> anyhow::Result<()> {
     let words = words(rt.alloc(), 150, 149)?;
-    assert_eq!(rt; words.len(), 605);
     let over = Instr::Branch(BranchKind::Bgeu, Reg(5), Reg(6), OffB(2404));
-    assert_eq!(rt; words.get(2).copied(), Some(encode(over)));
-    assert_eq!(rt; end(rt.alloc(), &words)?, Stop::Exit(149));
-    Ok(())
+    has(&rt, &words, 2, &[over]);
+    case_ends(&rt, rt.alloc(), 150, 149, 605, Stop::Exit(149))
 }
 
 #[test]
 fn no_alternative(rt: HostRuntime) -> anyhow::Result<()> {
-    let words = words(rt.alloc(), 300, 300)?;
-    assert_eq!(rt; end(rt.alloc(), &words)?, Stop::Exit(0));
-    Ok(())
+    case_ends(&rt, rt.alloc(), 300, 300, 1206, Stop::Exit(0))
 }

@@ -1,7 +1,8 @@
 //! Executables that were written by hand, whole and broken.
 
-use elf32::{ElfRefusal, read, too_long, write};
+use elf32::{ElfRefusal, Loaded, read, too_long, write};
 use std::alloc::{AllocError, Global};
+use std::process::Abort;
 use std::test::Fail;
 
 /// An image that exits with 7: its code, `addi x17, x0, 93`, `addi x10, x0, 7`, `ecall`, stands at 0x00010054.
@@ -72,9 +73,8 @@ fn outcome(alloc: Global, file: &[u8]) -> (u8, u32) {
     }
 }
 
-#[test]
-fn the_exit_image_is_one_segment(rt: HostRuntime) -> Result<(), Fail> {
-    let image = read(rt.alloc(), &EXIT)?;
+/// The image has the one segment of the exit image.
+fn is_one_segment(rt: &impl Abort, image: &Loaded) -> Result<(), Fail> {
     assert_eq!(rt; image.entry, 0x0001_0054);
     assert_eq!(rt; image.segments.len(), 1);
     let code = image.segments.get(0).ok_or("no segment")?;
@@ -85,56 +85,74 @@ fn the_exit_image_is_one_segment(rt: HostRuntime) -> Result<(), Fail> {
 }
 
 #[test]
-fn broken_images_are_refused(rt: HostRuntime) -> Result<(), Fail> {
-    let table: [(u8, &[u8], (u8, u32)); 16] = [
-        (0, &[0x00], (42, 0)),
-        (4, &[0x02], (43, 0)),
-        (42, &[0x1F], (43, 0)),
-        (28, &[0xFF, 0xFF, 0xFF, 0xFF], (44, 0)),
-        (44, &[0xFF, 0xFF], (44, 0)),
-        (60, &[0xFC, 0xFF, 0xFF, 0xFF], (45, 0)),
-        (72, &[0x08], (45, 0)),
-        (24, &[0x00, 0x00, 0x00, 0x00], (47, 0)),
-        (76, &[0x04], (47, 0)),
-        (44, &[0x00], (47, 0)),
-        (72, &[0x01, 0x00, 0x00, 0x80], (48, 0)),
-        (24, &[0x55], (0, 0)),
-        (
-            28,
-            &[
-                0xFF, 0xFF, 0xFF, 0xFF, 0, 0, 0, 0, 0, 0, 0, 0, 52, 0, 0, 0, 0, 0,
-            ],
-            (47, 0),
-        ),
-        (68, &[0x00], (0, 0)),
-        (56, &[0xFF, 0xFF, 0xFF, 0xFF], (45, 0)),
-        (72, &[0x00, 0x00, 0x00, 0x80], (0, 0)),
-    ];
-    for (offset, bytes, want) in table {
-        let file = changed(rt.alloc(), offset, bytes)?;
-        assert_eq!(rt;
-            outcome(rt.alloc(), &file),
-            want,
-            "bytes {bytes:?} at {offset}"
-        );
+fn the_exit_image_is_one_segment(rt: HostRuntime) -> Result<(), Fail> {
+    let image = read(rt.alloc(), &EXIT)?;
+    is_one_segment(&rt, &image)
+}
+
+/// The exit image with these bytes from an offset on, and what comes of it.
+const CHANGES: [(u8, &[u8], (u8, u32)); 16] = [
+    (0, &[0x00], (42, 0)),
+    (4, &[0x02], (43, 0)),
+    (42, &[0x1F], (43, 0)),
+    (28, &[0xFF, 0xFF, 0xFF, 0xFF], (44, 0)),
+    (44, &[0xFF, 0xFF], (44, 0)),
+    (60, &[0xFC, 0xFF, 0xFF, 0xFF], (45, 0)),
+    (72, &[0x08], (45, 0)),
+    (24, &[0x00, 0x00, 0x00, 0x00], (47, 0)),
+    (76, &[0x04], (47, 0)),
+    (44, &[0x00], (47, 0)),
+    (72, &[0x01, 0x00, 0x00, 0x80], (48, 0)),
+    (24, &[0x55], (0, 0)),
+    (
+        28,
+        &[
+            0xFF, 0xFF, 0xFF, 0xFF, 0, 0, 0, 0, 0, 0, 0, 0, 52, 0, 0, 0, 0, 0,
+        ],
+        (47, 0),
+    ),
+    (68, &[0x00], (0, 0)),
+    (56, &[0xFF, 0xFF, 0xFF, 0xFF], (45, 0)),
+    (72, &[0x00, 0x00, 0x00, 0x80], (0, 0)),
+];
+
+/// The changed images have these outcomes.
+fn changes_have(
+    rt: &impl Abort,
+    alloc: Global,
+    rows: &[(u8, &[u8], (u8, u32))],
+) -> Result<(), AllocError> {
+    for (offset, bytes, want) in rows {
+        let file = changed(alloc, *offset, bytes)?;
+        assert_eq!(rt; outcome(alloc, &file), *want, "bytes {bytes:?} at {offset}");
     }
+    Ok(())
+}
+
+#[test]
+fn broken_images_are_refused(rt: HostRuntime) -> Result<(), AllocError> {
     assert_eq!(rt; outcome(rt.alloc(), &EXIT[..51]), (41, 0));
     assert_eq!(rt; outcome(rt.alloc(), &EXIT[..83]), (44, 0));
     assert_eq!(rt; outcome(rt.alloc(), &EXIT[..95]), (45, 0));
     assert_eq!(rt; outcome(rt.alloc(), &TWICE), (46, 1));
     assert!(rt; too_long(1_342_177_281) && !too_long(1_342_177_280));
-    Ok(())
+    changes_have(&rt, rt.alloc(), &CHANGES)
+}
+
+/// The file begins with the headers, goes on with zeros, and ends with the code.
+fn has_its_parts(rt: &impl Abort, file: &[u8]) {
+    assert_eq!(rt; file.len(), 4108);
+    assert!(rt; file.starts_with(&HEADERS));
+    for byte in file.iter().skip(148).take(3948) {
+        assert_eq!(rt; *byte, 0);
+    }
+    assert!(rt; file.ends_with(&EXIT[84..]));
 }
 
 #[test]
 fn a_program_is_written_and_read(rt: HostRuntime) -> Result<(), Fail> {
     let file = write(rt.alloc(), &CODE, 1120, 2048)?;
-    assert_eq!(rt; file.len(), 4108);
-    assert!(rt; file.as_slice().starts_with(&HEADERS));
-    for byte in file.iter().skip(148).take(3948) {
-        assert_eq!(rt; *byte, 0);
-    }
-    assert!(rt; file.as_slice().ends_with(&EXIT[84..]));
+    has_its_parts(&rt, &file);
     let image = read(rt.alloc(), &file)?;
     assert_eq!(rt; image.entry, 0x0001_0000);
     assert_eq!(rt; image.segments.len(), 3);

@@ -27,6 +27,21 @@ fn files(alloc: Global) -> Result<Vec<MemFile>, AllocError> {
     Ok(files)
 }
 
+// A read into the buffer gives so many bytes, and the buffer then has these.
+fn shelf_reads<S: Shelf>(
+    rt: &impl Abort,
+    shelf: &mut S,
+    buf: &mut [u8; 2],
+    count: usize,
+    has: &[u8; 2],
+)
+    requires { S.is_open shelf.old ≡ true }
+    ensures { S.is_open shelf.new ≡ true }
+{
+    assert_eq!(rt; shelf.read(buf), Ok(count));
+    assert_eq!(rt; &*buf, has);
+}
+
 // Opens a file of the three bytes "xyz", and reads it to its end through a buffer of two bytes.
 fn read_through<S: Shelf>(rt: &impl Abort, shelf: &mut S, name: &str)
     requires { S.permitted name.now }
@@ -34,68 +49,97 @@ fn read_through<S: Shelf>(rt: &impl Abort, shelf: &mut S, name: &str)
 {
     let mut buf = *b"..";
     assert!(rt; shelf.open(name).is_ok());
-    assert_eq!(rt; shelf.read(&mut buf), Ok(2));
-    assert_eq!(rt; buf, *b"xy");
-    assert_eq!(rt; shelf.read(&mut buf), Ok(1));
-    assert_eq!(rt; buf, *b"zy");
-    assert_eq!(rt; shelf.read(&mut buf), Ok(0));
-    assert_eq!(rt; buf, *b"zy");
+    shelf_reads(rt, shelf, &mut buf, 2, b"xy");
+    shelf_reads(rt, shelf, &mut buf, 1, b"zy");
+    shelf_reads(rt, shelf, &mut buf, 0, b"zy");
+}
+
+// The calls 0, 1 and 6 fail.
+fn read_with_failures(rt: &impl Abort, shelf: &mut MemShelf) {
+    assert_eq!(rt; shelf.open("abc"), Err(Failed));
+    assert_eq!(rt; shelf.open("abc"), Err(Failed));
+    read_through(rt, shelf, "abc");
+    assert_eq!(rt; shelf.read(&mut [0; 2]), Err(Failed));
+    assert_eq!(rt; shelf.open("ABC"), Err(Failed));
+}
+
+// No call fails.
+fn read_surely(rt: &impl Abort, shelf: &mut SureShelf) {
+    assert_eq!(rt; shelf.open("other"), Err(Failed));
+    read_through(rt, shelf, "abc");
+    assert!(rt; shelf.open("empty").is_ok());
+    assert_eq!(rt; shelf.read(&mut [0; 2]), Ok(0));
 }
 
 #[test]
-fn shelves_in_memory(rt: HostRuntime) -> Result<(), Fail> {
-    let alloc = rt.alloc();
-    let mut buf = *b"..";
-    let mut shelf = MemShelf::new(files(alloc)?, vec![in alloc; 0, 1, 6]?);
-    assert_eq!(rt; shelf.open("abc"), Err(Failed));
-    assert_eq!(rt; shelf.open("abc"), Err(Failed));
-    read_through(&rt, &mut shelf, "abc");
-    assert_eq!(rt; shelf.read(&mut buf), Err(Failed));
-    assert_eq!(rt; shelf.open("ABC"), Err(Failed));
-    let mut sure = SureShelf::new(files(alloc)?);
-    assert_eq!(rt; sure.open("other"), Err(Failed));
-    read_through(&rt, &mut sure, "abc");
-    assert!(rt; sure.open("empty").is_ok());
-    assert_eq!(rt; sure.read(&mut buf), Ok(0));
+fn shelves_in_memory(rt: HostRuntime) -> Result<(), AllocError> {
+    let failing = vec![in rt.alloc(); 0, 1, 6]?;
+    read_with_failures(&rt, &mut MemShelf::new(files(rt.alloc())?, failing));
+    read_surely(&rt, &mut SureShelf::new(files(rt.alloc())?));
     Ok(())
+}
+
+// A read into the buffer gives so many bytes, and the buffer then has these.
+fn source_reads(
+    rt: &impl Abort,
+    source: &mut impl Source,
+    buf: &mut [u8; 2],
+    count: usize,
+    has: &[u8; 2],
+) {
+    assert_eq!(rt; source.read(buf), Ok(count));
+    assert_eq!(rt; &*buf, has);
 }
 
 // Reads "xyz" through a buffer of two bytes.
 fn drain(rt: &impl Abort, source: &mut impl Source) {
     let mut buf = *b"..";
-    assert_eq!(rt; source.read(&mut buf), Ok(2));
-    assert_eq!(rt; buf, *b"xy");
-    assert_eq!(rt; source.read(&mut buf[..0]), Ok(0));
-    assert_eq!(rt; source.read(&mut buf), Ok(1));
-    assert_eq!(rt; buf, *b"zy");
+    source_reads(rt, source, &mut buf, 2, b"xy");
+    assert_eq!(rt; source.read(&mut []), Ok(0));
+    source_reads(rt, source, &mut buf, 1, b"zy");
     assert_eq!(rt; source.read(&mut buf), Ok(0));
 }
 
-#[test]
-fn sources_in_memory(rt: HostRuntime) -> Result<(), Fail> {
-    let alloc = rt.alloc();
-    let mut source = MemSource::new(Vec::from_slice(alloc, b"xyz")?, vec![in alloc; 1, 0]?);
+// The calls 0 and 1 fail.
+fn drain_after_failures(rt: &impl Abort, source: &mut MemSource) {
     assert_eq!(rt; source.read(&mut [0; 4]), Err(Failed));
     assert_eq!(rt; source.read(&mut [0; 4]), Err(Failed));
-    drain(&rt, &mut source);
-    drain(&rt, &mut SureSource::new(Vec::from_slice(alloc, b"xyz")?));
-    Ok(())
+    drain(rt, source);
 }
 
 #[test]
-fn sink_in_memory(rt: HostRuntime) -> Result<(), Fail> {
-    let alloc = rt.alloc();
-    let mut sink = MemSink::new(alloc, 5, vec![in alloc; 0, 1]?)?;
-    assert_eq!(rt; sink.put(b"ab"), Err(Failed));
-    assert_eq!(rt; sink.put(b"ab"), Err(Failed));
-    assert_eq!(rt; sink.taken(), b"".as_slice());
-    assert_eq!(rt; sink.put(b"abc"), Ok(()));
-    assert_eq!(rt; sink.put(b""), Ok(()));
-    assert_eq!(rt; sink.put(b"def"), Err(Failed));
-    assert_eq!(rt; sink.taken(), b"abcde".as_slice());
-    assert_eq!(rt; sink.put(b"f"), Err(Failed));
-    assert_eq!(rt; sink.put(b""), Ok(()));
-    assert_eq!(rt; sink.taken(), b"abcde".as_slice());
+fn sources_in_memory(rt: HostRuntime) -> Result<(), AllocError> {
+    let bytes = Vec::from_slice(rt.alloc(), b"xyz")?;
+    drain(&rt, &mut SureSource::new(bytes));
+    let bytes = Vec::from_slice(rt.alloc(), b"xyz")?;
+    let failing = vec![in rt.alloc(); 1, 0]?;
+    drain_after_failures(&rt, &mut MemSource::new(bytes, failing));
+    Ok(())
+}
+
+// Pieces that are put into a sink with room for five bytes whose calls 0 and 1 fail: whether each is taken, and what has been
+// taken by then.
+const PUTS: [(&[u8], bool, &[u8]); 7] = [
+    (b"ab", false, b""),
+    (b"ab", false, b""),
+    (b"abc", true, b"abc"),
+    (b"", true, b"abc"),
+    (b"def", false, b"abcde"),
+    (b"f", false, b"abcde"),
+    (b"", true, b"abcde"),
+];
+
+fn puts(rt: &impl Abort, sink: &mut MemSink, rows: &[(&[u8], bool, &[u8])]) {
+    for (piece, is_taken, taken) in rows {
+        assert_eq!(rt; sink.put(piece).is_ok(), *is_taken);
+        assert_eq!(rt; sink.taken(), *taken);
+    }
+}
+
+#[test]
+fn sink_in_memory(rt: HostRuntime) -> Result<(), AllocError> {
+    let failing = vec![in rt.alloc(); 0, 1]?;
+    puts(&rt, &mut MemSink::new(rt.alloc(), 5, failing)?, &PUTS);
     Ok(())
 }
 
@@ -103,17 +147,21 @@ fn sink_in_memory(rt: HostRuntime) -> Result<(), Fail> {
 const FILE: &str = "three.bytes";
 
 #[test]
-fn files_and_streams(rt: HostRuntime) -> Result<(), Fail> {
+fn files_of_the_system(rt: HostRuntime) -> Result<(), Fail> {
+    fs::write(&rt, FILE, b"xyz")?;
     let mut shelf = FileShelf::new(rt.clone()?);
     assert_eq!(rt; shelf.open("missing"), Err(Failed));
-    fs::write(&rt, FILE, b"xyz")?;
     read_through(&rt, &mut shelf, FILE);
-    fs::remove_file(&rt, FILE)?;
     assert_eq!(rt; shelf.open("missing"), Err(Failed));
+    fs::remove_file(&rt, FILE)?;
+    Ok(())
+}
+
+#[test]
+fn streams(rt: HostRuntime) {
     assert_eq!(rt; StdIn::new(&rt).read(&mut []), Ok(0));
     assert_eq!(rt; StdOut::new(&rt).put(b"out\n"), Ok(()));
     assert_eq!(rt; StdErr::new(&rt).put(b"err\n"), Ok(()));
-    Ok(())
 }
 
 // A directory opens and can't be read.

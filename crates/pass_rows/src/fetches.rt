@@ -1,12 +1,33 @@
-// A program made by hand.
+// A program whose fetches are of whole nodes.
 
-use crate::parts::{block, only, proc, program, tag};
 use fetch_passes::with_words;
-use grin_syntax::{
-    Alt, Block, Grin, Op, ProcId, Shape, Stmt, TagId, TagKind, Target, Val, VarId, Word, list,
-};
-use seq::Seq;
-use std::alloc::{AllocError, Global};
+use grin_syntax::list;
+use grin_text::program;
+use std::test::Fail;
+
+const NODES: &str = "\
+tags CInt/1 CNil/0 CCons/2 Ffoo/3
+start take
+words
+global main = (CNil)
+
+take v0 =
+  [v1 v2 v3 v4] <- fetch v0
+  [v5 v6 v7] <- case [v1 v2 v3 v4] of
+    (CNil) ->
+      unit [v1 v2 v3]
+    (CCons) ->
+      unit [v1 v2 v3]
+    (Ffoo) ->
+      [v8 v9 v10] <- call take v2
+      update v0 [v8 v9 v10]
+      unit [v8 v9 v10]
+  unit [v5 v6 v7]
+
+head v0 =
+  [v1 v2 v3] <- fetch v0
+  unit v2
+";
 
 // The fields are fetched where an alternative uses them, and the last one, which nobody uses, is not fetched. A word that is
 // used outside the case is fetched after the tag.
@@ -37,79 +58,12 @@ head v0 =
   unit v2
 ";
 
-// The words of a vector that was bound to these variables.
-fn held(alloc: Global, vars: &[VarId]) -> Result<Val, AllocError> {
-    let mut words = Seq::new(alloc);
-    for var in vars {
-        words.push(Word::Var(*var))?;
-    }
-    Ok(Val::Vector(words))
-}
-
-fn bind(alloc: Global, vars: &[VarId], op: Op) -> Result<Stmt, AllocError> {
-    Ok(Stmt::Bind(Target::Vector(Seq::from_slice(alloc, vars)?), op))
-}
-
-fn alt(alloc: Global, tag: u32, body: Block) -> Result<Alt, AllocError> {
-    let pattern = Shape::Node(TagId(tag), Seq::new(alloc));
-    Ok(Alt { pattern, body })
-}
-
-// The node of a cell, as it is.
-fn given(alloc: Global) -> Result<Block, AllocError> {
-    only(
-        alloc,
-        Op::Unit(held(alloc, &[VarId(1), VarId(2), VarId(3)])?),
-    )
-}
-
-// A call whose result goes into the cell.
-fn called(alloc: Global) -> Result<Block, AllocError> {
-    let vars = [VarId(8), VarId(9), VarId(10)];
-    let words = Seq::from_slice(alloc, &[Word::Var(VarId(2))])?;
-    let mut stmts = Seq::new(alloc);
-    stmts.push(bind(alloc, &vars, Op::Call(ProcId(0), words))?)?;
-    let result = held(alloc, &vars)?;
-    stmts.push(Stmt::Bind(Target::Nothing, Op::Update(Word::Var(VarId(0)), result)))?;
-    block(alloc, stmts, Op::Unit(held(alloc, &vars)?))
-}
-
-fn take(alloc: Global) -> Result<Block, AllocError> {
-    let node = [VarId(1), VarId(2), VarId(3), VarId(4)];
-    let vars = [VarId(5), VarId(6), VarId(7)];
-    let mut alts = Seq::new(alloc);
-    alts.push(alt(alloc, 1, given(alloc)?)?)?;
-    alts.push(alt(alloc, 2, given(alloc)?)?)?;
-    alts.push(alt(alloc, 3, called(alloc)?)?)?;
-    let mut stmts = Seq::new(alloc);
-    stmts.push(bind(alloc, &node, Op::Fetch(Word::Var(VarId(0))))?)?;
-    stmts.push(bind(alloc, &vars, Op::Case(held(alloc, &node)?, alts))?)?;
-    block(alloc, stmts, Op::Unit(held(alloc, &vars)?))
-}
-
-fn head(alloc: Global) -> Result<Block, AllocError> {
-    let node = [VarId(12), VarId(13), VarId(14)];
-    let mut stmts = Seq::new(alloc);
-    stmts.push(bind(alloc, &node, Op::Fetch(Word::Var(VarId(11))))?)?;
-    block(alloc, stmts, Op::Unit(Val::One(Word::Var(VarId(13)))))
-}
-
-fn both(alloc: Global) -> Result<Grin, AllocError> {
-    let mut tags = Seq::new(alloc);
-    tags.push(tag(alloc, TagKind::Con, "Int", 1)?)?;
-    tags.push(tag(alloc, TagKind::Con, "Nil", 0)?)?;
-    tags.push(tag(alloc, TagKind::Con, "Cons", 2)?)?;
-    tags.push(tag(alloc, TagKind::Fun, "foo", 3)?)?;
-    let mut procs = Seq::new(alloc);
-    procs.push(proc(alloc, "take", &[VarId(0)], take(alloc)?)?)?;
-    procs.push(proc(alloc, "head", &[VarId(11)], head(alloc)?)?)?;
-    program(alloc, tags, procs, 0)
-}
-
 #[test]
-fn words_are_fetched_where_they_are_used(rt: HostRuntime) -> Result<(), AllocError> {
-    let split = with_words(rt.alloc(), both(rt.alloc())?)?;
-    let printed = list(rt.alloc(), &split)?;
-    assert_eq!(rt; printed.as_slice(), WORDS.as_bytes());
+fn words_are_fetched_where_they_are_used(rt: HostRuntime) -> Result<(), Fail> {
+    let g = program(rt.alloc(), NODES)?;
+    let listing = list(rt.alloc(), &g)?;
+    assert!(rt; NODES.as_bytes().ends_with(listing.as_slice()));
+    let split = with_words(rt.alloc(), g)?;
+    assert_eq!(rt; list(rt.alloc(), &split)?.as_slice(), WORDS.as_bytes());
     Ok(())
 }

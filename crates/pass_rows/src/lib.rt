@@ -1,12 +1,10 @@
-//! Rows for the passes: programs that were worked by hand.
+//! Rows for the passes: listings that were worked by hand.
 #![tactic(auto)]
 
 #[cfg(test)]
 mod copies;
 #[cfg(test)]
 mod fetches;
-#[cfg(test)]
-mod parts;
 #[cfg(test)]
 mod raising;
 #[cfg(test)]

@@ -1,10 +1,24 @@
-// Programs made by hand.
+// Programs that put nodes with several tags into a cell, and then what has the tag that is there.
 
-use crate::parts::{block, con, proc, program, var, vector};
-use grin_syntax::{Block, Grin, Op, Stmt, TagId, Target, Val, VarId, list};
-use seq::Seq;
+use grin_syntax::list;
+use grin_text::{ReadError, program};
 use std::alloc::{AllocError, Global};
+use std::fmt::Write;
+use std::test::Fail;
 use update_special::with_literal_tags;
+
+const HEAD: &str = "\
+tags CInt/1 CA/0 CB/0 CC/0 CD/0 CE/0 CF/0 CG/0 CH/0 CI/0
+words
+global main = (CA)
+
+again v0 =
+";
+
+const END: &str = "  v1 <- fetch v0 0
+  update v0 [v1]
+  unit [v1]
+";
 
 // The cell may hold (CA) or (CB), whose tag is written back.
 const TWO_TAGS: &str = "\
@@ -22,54 +36,37 @@ again v0 =
   unit [v1]
 ";
 
-fn bound(alloc: Global, stmts: &mut Seq<Stmt>, value: Val) -> Result<(), AllocError> {
-    stmts.push(Stmt::Bind(Target::Nothing, Op::Update(var(0), value)))?;
-    Ok(())
-}
-
-// A procedure that puts the nodes with so many tags into its cell, and then what has the tag that is there.
-fn body(alloc: Global, count: u32) -> Result<Block, AllocError> {
-    let mut stmts = Seq::new(alloc);
-    for t in 0..count {
-        let node = Val::Node(TagId(1 + t), Seq::new(alloc));
-        bound(alloc, &mut stmts, node)?;
+// The text of the program in whose cell these tags may stand.
+fn again(alloc: Global, tags: &str) -> Result<String, AllocError> {
+    let mut text = String::from_str(alloc, HEAD)?;
+    for tag in tags.split_whitespace() {
+        writeln!(text, "  update v0 ({tag})")?;
     }
-    stmts.push(Stmt::Bind(Target::One(VarId(1)), Op::FetchWord(var(0), 0)))?;
-    bound(alloc, &mut stmts, vector(alloc, &[var(1)])?)?;
-    block(alloc, stmts, Op::Unit(vector(alloc, &[var(1)])?))
+    text.push_str(END)?;
+    Ok(text)
 }
 
-fn again(alloc: Global, count: u32) -> Result<Grin, AllocError> {
-    let mut tags = Seq::new(alloc);
-    tags.push(con(alloc, "Int", 1)?)?;
-    for name in ["A", "B", "C", "D", "E", "F", "G", "H", "I"] {
-        tags.push(con(alloc, name, 0)?)?;
-    }
-    let mut procs = Seq::new(alloc);
-    procs.push(proc(alloc, "again", &[VarId(0)], body(alloc, count)?)?)?;
-    program(alloc, tags, procs, 0)
-}
-
-// The program in whose cell so many tags may stand, and what the pass makes of it, as text.
-fn listed(alloc: Global, count: u32) -> Result<(Vec<u8>, Vec<u8>), AllocError> {
-    let g = again(alloc, count)?;
+// The listing of this program, and of what the pass makes of it.
+fn listed(alloc: Global, tags: &str) -> Result<(Vec<u8>, Vec<u8>), ReadError> {
+    let text = again(alloc, tags)?;
+    let g = program(alloc, text.as_str())?;
     let before = list(alloc, &g)?;
     let after = list(alloc, &with_literal_tags(alloc, g)?)?;
     Ok((before, after))
 }
 
 #[test]
-fn an_update_is_a_case_over_its_tags(rt: HostRuntime) -> Result<(), AllocError> {
-    let (_before, after) = listed(rt.alloc(), 2)?;
+fn an_update_is_a_case_over_its_tags(rt: HostRuntime) -> Result<(), Fail> {
+    let (_before, after) = listed(rt.alloc(), "CA CB")?;
     assert_eq!(rt; after.as_slice(), TWO_TAGS.as_bytes());
     Ok(())
 }
 
 #[test]
-fn an_update_with_nine_tags_stays(rt: HostRuntime) -> Result<(), AllocError> {
-    let (before, after) = listed(rt.alloc(), 9)?;
+fn an_update_with_nine_tags_stays(rt: HostRuntime) -> Result<(), Fail> {
+    let (before, after) = listed(rt.alloc(), "CA CB CC CD CE CF CG CH CI")?;
     assert_eq!(rt; after.as_slice(), before.as_slice());
-    let (before, after) = listed(rt.alloc(), 8)?;
+    let (before, after) = listed(rt.alloc(), "CA CB CC CD CE CF CG CH")?;
     assert_eq!(rt; after.len() > before.len(), true);
     Ok(())
 }
