@@ -103,3 +103,11 @@ fn programs_about_the_largest_size(rt: HostRuntime) -> Result<(), Fail> {
     assert!(rt; shown.is(1, "", "grinc: refused 36 at 131322\n"));
     Ok(())
 }
+
+#[test]
+fn a_program_far_too_large(rt: HostRuntime) -> Result<(), Fail> {
+    let text = many_delayed(rt.alloc(), 1000)?;
+    let shown = Outside::of(text.as_bytes()).run(rt.alloc(), &["grinc", "run", "a"])?;
+    assert!(rt; shown.is(1, "", "grinc: refused 36 at 9014042\n"));
+    Ok(())
+}
