@@ -17,7 +17,7 @@ use Rattle.grin_meaning.proofs.Related.{CallsFollow}
 use Rattle.flow_system.specs.Solution.{Solution}
 use Rattle.flow_system.specs.Covers.{Lies}
 use Rattle.eval_inline.specs.Inlining.{those}
-use Rattle.apply_inline.specs.Inlining.{value_has, is_part_tag, apply_body, part_body, apply_arms, parts_of, others_of, else_fail}
+use Rattle.apply_inline.specs.Inlining.{value_has, is_part_tag, apply_body, part_body, apply_arms, part_tags_of, others_of, else_fail}
 use Rattle.eval_inline.proofs.Known.{Among, those_have, nat_eq-true}
 use Rattle.eval_inline.proofs.Inlining.{it, named, names_stand, fields_fit_named, nat_eq-false, agree_named}
 use Rattle.apply_inline.proofs.ValueTags.{Had, value_had, and_true}
@@ -138,10 +138,10 @@ module _ (K : Depths) (g : Program) (A : Solution) (x0 : ℕ) (procs : List Proc
   kind_is n t b e f = ap (λ o. is_some_and o (λ i. is_part_kind i.kind)) e ∙ f
 
   known_sim : (y : ℕ) (v : Val) (a : Word) (x : Datum) (val : Value) (n : Node) (env env' : Env) (d d' : ℕ) (w : World) (ss : List State) (e : ℕ) → x0 ≤ y → WordOk Ok a → Agree Ok env env' → word_of g env a ≡ Some x
-      → as_node g val ≡ Some n → Had g A v n → K.Deep d' d → K.Deep e w.depth → Sim P K (apply_node g c d n x w) (arms h c' env' d' val (apply_arms g A a y (parts_of g A v) (else_fail g A (others_of g A v))) (other w ss e))
+      → as_node g val ≡ Some n → Had g A v n → K.Deep d' d → K.Deep e w.depth → Sim P K (apply_node g c d n x w) (arms h c' env' d' val (apply_arms g A a y (part_tags_of g A v) (else_fail g A (others_of g A v))) (other w ss e))
   known_sim y v a x val n env env' d d' w ss e fresh ok ag at is_n had dd de = go (slice_get g.tags n.tag) refl
     where
-      go : (o : Option Tag) → slice_get g.tags n.tag ≡ o → Sim P K (apply_node g c d n x w) (arms h c' env' d' val (apply_arms g A a y (parts_of g A v) (else_fail g A (others_of g A v))) (other w ss e))
+      go : (o : Option Tag) → slice_get g.tags n.tag ≡ o → Sim P K (apply_node g c d n x w) (arms h c' env' d' val (apply_arms g A a y (part_tags_of g A v) (else_fail g A (others_of g A v))) (other w ss e))
       go None q = rw q (λ _. free)
       go (Some t) q = rw q (on (is_part_kind t.kind) refl)
         where
@@ -151,24 +151,24 @@ module _ (K : Depths) (g : Program) (A : Solution) (x0 : ℕ) (procs : List Proc
           lt : n.tag < length g.tags
           lt = below g.tags n.tag t q
 
-          on : (b : Bool) → is_part_kind t.kind ≡ b → Sim P K (cond b (need t.proc w (λ f. apply_part g c d n x f.0 t.missing w)) (stops no_alternative w)) (arms h c' env' d' val (apply_arms g A a y (parts_of g A v) (else_fail g A (others_of g A v))) (other w ss e))
-          on true k = part_sim a val n x t (else_fail g A (others_of g A v)) env env' d d' w ss e ok ag at is_n q full dd de (parts_of g A v) y fresh
+          on : (b : Bool) → is_part_kind t.kind ≡ b → Sim P K (cond b (need t.proc w (λ f. apply_part g c d n x f.0 t.missing w)) (stops no_alternative w)) (arms h c' env' d' val (apply_arms g A a y (part_tags_of g A v) (else_fail g A (others_of g A v))) (other w ss e))
+          on true k = part_sim a val n x t (else_fail g A (others_of g A v)) env env' d d' w ss e ok ag at is_n q full dd de (part_tags_of g A v) y fresh
               (those_have (λ t. value_has g A v t && is_part_tag g A t) n.tag (and_true _ _ had.has (kind_is n t true q k)) 0 (length g.tags) (omega arith) (omega (arith, lt)))
           on false k = else_sim a val n env' d' w ss e is_n (kind_is n t false q k) de (others_of g A v)
               (those_have (λ t. value_has g A v t && not (is_part_tag g A t)) n.tag (and_true _ _ had.has (ap not (kind_is n t false q k))) 0 (length g.tags) (omega arith) (omega (arith, lt)))
-              (parts_of g A v) y (those_parts g A (value_has g A v) 0 (length g.tags))
+              (part_tags_of g A v) y (those_parts g A (value_has g A v) 0 (length g.tags))
 
-  pub apply_sim : (y : ℕ) (v : Val) (a : Word) → x0 ≤ y → ValOk Ok v → WordOk Ok a → ActLike (it K g A x0 procs c c' cb cf) (apply v a) (case v (apply_arms g A a y (parts_of g A v) (else_fail g A (others_of g A v))))
+  pub apply_sim : (y : ℕ) (v : Val) (a : Word) → x0 ≤ y → ValOk Ok v → WordOk Ok a → ActLike (it K g A x0 procs c c' cb cf) (apply v a) (case v (apply_arms g A a y (part_tags_of g A v) (else_fail g A (others_of g A v))))
   unfolding act
   apply_sim y v a fresh okv ok = record { by = λ env env' d d' w ss e ag dd de lies. rw (value_same g Ok env env' ag v okv) (go env env' d d' w ss e ag dd de lies (value_of g env v) refl) }
     where
       go : (env env' : Env) (d d' : ℕ) (w : World) (ss : List State) (e : ℕ) → Agree Ok env env' → K.Deep d' d → K.Deep e w.depth → P (record { env = env; heap = w.cells }) → (o : Option Value) → value_of g env v ≡ o
-          → Sim P K (need (and_then o (as_node g)) w (λ n. need (word_of g env a) w (λ x. apply_node g c d n x w))) (need o (other w ss e) (λ val. arms h c' env' d' val (apply_arms g A a y (parts_of g A v) (else_fail g A (others_of g A v))) (other w ss e)))
+          → Sim P K (need (and_then o (as_node g)) w (λ n. need (word_of g env a) w (λ x. apply_node g c d n x w))) (need o (other w ss e) (λ val. arms h c' env' d' val (apply_arms g A a y (part_tags_of g A v) (else_fail g A (others_of g A v))) (other w ss e)))
       go env env' d d' w ss e ag dd de lies None q = λ _. free
       go env env' d d' w ss e ag dd de lies (Some val) q = by_node (as_node g val) refl (word_of g env a) refl
         where
           by_node : (o : Option Node) → as_node g val ≡ o → (r : Option Datum) → word_of g env a ≡ r
-              → Sim P K (need o w (λ n. need r w (λ x. apply_node g c d n x w))) (arms h c' env' d' val (apply_arms g A a y (parts_of g A v) (else_fail g A (others_of g A v))) (other w ss e))
+              → Sim P K (need o w (λ n. need r w (λ x. apply_node g c d n x w))) (arms h c' env' d' val (apply_arms g A a y (part_tags_of g A v) (else_fail g A (others_of g A v))) (other w ss e))
           by_node None z r s = λ _. free
           by_node (Some n) z None s = λ _. free
           by_node (Some n) z (Some x) s = known_sim y v a x val n env env' d d' w ss e fresh ok ag s z (value_had g A _ lies v n (ap (λ o. and_then o (as_node g)) q ∙ z)) dd de

@@ -13,7 +13,7 @@ use Rattle.grin_syntax.proofs.Unbound.{past_procs_none}
 use Rattle.grin_meaning.specs.Run.{part_from}
 use Rattle.flow_system.specs.Solution.{Solution}
 use Rattle.eval_inline.specs.Inlining.{fields_at}
-use Rattle.apply_inline.specs.Inlining.{with_one_more, apply_body, part_body, apply_arm, apply_arms, parts_of, others_of, else_fail, parts_room, apply_act, apply_code, apply_all, apply_procs, apply_act_room, apply_code_room, apply_arms_room}
+use Rattle.apply_inline.specs.Inlining.{with_one_more, apply_body, part_body, apply_arm, apply_arms, part_tags_of, others_of, else_fail, parts_room, apply_act, apply_code, apply_all, apply_procs, apply_act_room, apply_code_room, apply_arms_room}
 
 -- the fresh variables that procedures take
 abbrev pub procs_room : Program → Solution → List Procedure → ℕ
@@ -79,7 +79,7 @@ module _ (p : Program) (A : Solution) (z : ℕ) where
     act_counted : (x : ℕ) (o : Act) → times z (act_vars (apply_act p A x o)) ≡ times z (act_vars o) + fresh z x (apply_act_room p A o)
     act_counted x (case v as') = all_counted x as'
     act_counted x (nested b) = code_counted x b
-    act_counted x (apply v a) = omega (arith, arms_counted a x (parts_of p A v) (else_fail p A (others_of p A v)), last_counted (others_of p A v))
+    act_counted x (apply v a) = omega (arith, arms_counted a x (part_tags_of p A v) (else_fail p A (others_of p A v)), last_counted (others_of p A v))
     act_counted x (unit v) = refl
     act_counted x (fetch a) = refl
     act_counted x (fetch_word a i) = refl
@@ -178,7 +178,7 @@ module _ (p : Program) (A : Solution) where
     act_sites_stay : (x : ℕ) (o : Act) → act_sites (apply_act p A x o) ≡ act_sites o
     act_sites_stay x (case v as') = all_sites_stay x as'
     act_sites_stay x (nested b) = code_sites_stay x b
-    act_sites_stay x (apply v a) = applied_arms_sites a x (parts_of p A v) (else_fail p A (others_of p A v)) ∙ last_sites (others_of p A v)
+    act_sites_stay x (apply v a) = applied_arms_sites a x (part_tags_of p A v) (else_fail p A (others_of p A v)) ∙ last_sites (others_of p A v)
     act_sites_stay x (unit v) = refl
     act_sites_stay x (fetch a) = refl
     act_sites_stay x (fetch_word a i) = refl

@@ -11,7 +11,7 @@ use Rattle.grin_meaning.specs.Run.{part_from}
 use Rattle.grin_meaning.specs.Ready.{EachAct, EachCode, EachArms, Any, Inlined, IsInlined}
 use Rattle.flow_system.specs.Solution.{Solution}
 use Rattle.eval_inline.specs.Inlining.{fields_at}
-use Rattle.apply_inline.specs.Inlining.{with_one_more, apply_body, part_body, apply_arm, apply_arms, parts_of, others_of, else_fail, apply_act, apply_code, apply_all, apply_procs, apply_act_room, apply_code_room, apply_inlined}
+use Rattle.apply_inline.specs.Inlining.{with_one_more, apply_body, part_body, apply_arm, apply_arms, part_tags_of, others_of, else_fail, apply_act, apply_code, apply_all, apply_procs, apply_act_room, apply_code_room, apply_inlined}
 use Rattle.eval_inline.specs.Without.{NotEval, HasNoEval}
 
 module _ (p : Program) (A : Solution) where
@@ -53,7 +53,7 @@ module _ (p : Program) (A : Solution) where
     act_done : (x : ℕ) (o : Act) → EachAct NotEval Any Any Any o → EachAct Inlined Any Any Any (apply_act p A x o)
     act_done x (case v as') h = (tt, tt, all_done x as' h.2)
     act_done x (nested b) h = (tt, code_done x b h.1)
-    act_done x (apply v a) h = (tt, tt, arms_done a x (parts_of p A v) (else_fail p A (others_of p A v)) (last_done (others_of p A v)))
+    act_done x (apply v a) h = (tt, tt, arms_done a x (part_tags_of p A v) (else_fail p A (others_of p A v)) (last_done (others_of p A v)))
     act_done x (eval a) h = h
     act_done x (unit v) h = (tt, tt)
     act_done x (fetch a) h = tt

@@ -10,7 +10,7 @@ use Rattle.grin_syntax.specs.Tree.{Program}
 use Rattle.grin_meaning.specs.Run.{is_part_kind, is_some_and}
 use Rattle.flow_system.specs.Solution.{Solution}
 use Rattle.eval_inline.specs.Inlining.{those}
-use Rattle.apply_inline.specs.Inlining.{value_has, is_part_tag, parts_of, others_of}
+use Rattle.apply_inline.specs.Inlining.{value_has, is_part_tag, part_tags_of, others_of}
 use Rattle.points_to.specs.Held.{In, here, there}
 use Rattle.points_to.proofs.Member.{none_in}
 use Rattle.apply_inline.specs.Applied.{fits, meets_part, meets_other, Candidates}
@@ -106,7 +106,7 @@ module _ (p : Program) (A : Solution) (v : Val) (ts : List ℕ) (c : Candidates 
       let w = within p.tags t lt in
       rw w.1 (ap (λ b. not (is_part_kind w.0.kind) && b) (c.fitting t w.0 m w.1) ∙ and_swap (not (is_part_kind w.0.kind)) (value_has p A v t))
 
-  pub parts_filtered : parts_of p A v ≡ filter (meets_part p A v) ts
+  pub parts_filtered : part_tags_of p A v ≡ filter (meets_part p A v) ts
   parts_filtered = those_filtered (λ t. value_has p A v t && is_part_tag p A t) (meets_part p A v) (length p.tags) 0 (length p.tags) ts (omega arith) (ascends ts c.ascending)
       (λ t lt h le. c.all t (and_left (value_has p A v t) (is_part_tag p A t) h)) part_same (λ t m le. ap (λ o. is_some_and o (λ i. is_part_kind i.kind && fits p A v t i)) (slice_get_past p.tags t le))
 

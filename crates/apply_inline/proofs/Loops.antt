@@ -28,7 +28,7 @@ use Rattle.grin_syntax.proofs.TreeOf.{code_of-parts, arm_of-parts, act_of-Case, 
 use Rattle.grin_syntax.proofs.Pieces.{all_before_push, map_push}
 use Rattle.flow_system.specs.Solution.{Solution}
 use Rattle.eval_inline.specs.Inlining.{fields_at}
-use Rattle.apply_inline.specs.Inlining.{apply_arm, apply_arms, parts_of, others_of, else_fail, parts_room, apply_act, apply_code, apply_all, apply_procs, apply_act_room, apply_code_room, apply_arms_room}
+use Rattle.apply_inline.specs.Inlining.{apply_arm, apply_arms, part_tags_of, others_of, else_fail, parts_room, apply_act, apply_code, apply_all, apply_procs, apply_act_room, apply_code_room, apply_arms_room}
 use Rattle.apply_inline.specs.Applied.{has_some, arms_before}
 use Rattle.apply_inline.proofs.Binding.{procs_room}
 
@@ -207,21 +207,21 @@ module _ (p : Program) (A : Solution) where
   }
 
   -- the case in place of an application
-  pub application_done : (a : Word) (x : ℕ) (v : Val) (alts : List Alt) → ((last : Arms) → arms_before (map arm_of alts) last ≡ apply_arms p A a x (parts_of p A v) last)
-      → has_some (others_of p A v) ≡ false → act_of (Case v alts) ≡ case v (apply_arms p A a x (parts_of p A v) (else_fail p A (others_of p A v)))
+  pub application_done : (a : Word) (x : ℕ) (v : Val) (alts : List Alt) → ((last : Arms) → arms_before (map arm_of alts) last ≡ apply_arms p A a x (part_tags_of p A v) last)
+      → has_some (others_of p A v) ≡ false → act_of (Case v alts) ≡ case v (apply_arms p A a x (part_tags_of p A v) (else_fail p A (others_of p A v)))
   application_done a x v alts h e =
-      act_of-Case v alts ∙ ap (case v) (arms_of_before (map arm_of alts) ∙ h no_arm ∙ ap (apply_arms p A a x (parts_of p A v)) (sym (none (others_of p A v) e)))
+      act_of-Case v alts ∙ ap (case v) (arms_of_before (map arm_of alts) ∙ h no_arm ∙ ap (apply_arms p A a x (part_tags_of p A v)) (sym (none (others_of p A v) e)))
     where
       none : (ts : List ℕ) → has_some ts ≡ false → else_fail p A ts ≡ no_arm
       none [] e = refl
       none (t ∷ ts) e = cc
 
-  pub application_fails : (a : Word) (x : ℕ) (v : Val) (alts : List Alt) (last : Alt) → ((last : Arms) → arms_before (map arm_of alts) last ≡ apply_arms p A a x (parts_of p A v) last)
-      → has_some (others_of p A v) ≡ true → last.pattern ≡ Else → code_of last.body ≡ end fail → act_of (Case v (alts ++ last ∷ [])) ≡ case v (apply_arms p A a x (parts_of p A v) (else_fail p A (others_of p A v)))
+  pub application_fails : (a : Word) (x : ℕ) (v : Val) (alts : List Alt) (last : Alt) → ((last : Arms) → arms_before (map arm_of alts) last ≡ apply_arms p A a x (part_tags_of p A v) last)
+      → has_some (others_of p A v) ≡ true → last.pattern ≡ Else → code_of last.body ≡ end fail → act_of (Case v (alts ++ last ∷ [])) ≡ case v (apply_arms p A a x (part_tags_of p A v) (else_fail p A (others_of p A v)))
   application_fails a x v alts last h e s b =
       act_of-Case v (alts ++ last ∷ []) ∙ ap (case v) (arms_of_before (map arm_of (alts ++ last ∷ [])) ∙ ap (λ l. arms_before l no_arm) (map_push arm_of alts last) ∙ arms_before-push (map arm_of alts) (arm_of last) no_arm
       ∙ ap (λ q. arms_before (map arm_of alts) (arm q.0 q.1 no_arm)) (arm_of-parts last) ∙ (λ i. arms_before (map arm_of alts) (arm (s i) (b i) no_arm)) ∙ h (arm Else (end fail) no_arm)
-      ∙ ap (apply_arms p A a x (parts_of p A v)) (sym (some (others_of p A v) e)))
+      ∙ ap (apply_arms p A a x (part_tags_of p A v)) (sym (some (others_of p A v) e)))
     where
       some : (ts : List ℕ) → has_some ts ≡ true → else_fail p A ts ≡ arm Else (end fail) no_arm
       some [] e = cc

@@ -13,7 +13,7 @@ use Rattle.grin_meaning.specs.Run.{is_fun_kind, is_part_kind, is_some_and, part_
 use Rattle.flow_system.specs.Solution.{Solution}
 use Rattle.apply_inline.specs.Size.{target_size, act_size, code_size, arms_size, procedure_size, total}
 use Rattle.eval_inline.specs.Inlining.{fields_at, call_body, eval_arm, eval_arms, evaluation, eval_bound, eval_ended, eval_act, eval_code, eval_all, eval_procs, act_room, code_room, tags_of, eval_inlined}
-use Rattle.apply_inline.specs.Inlining.{is_part_tag, value_has, with_one_more, apply_body, part_body, apply_arm, apply_arms, parts_of, others_of, else_fail, apply_act, apply_code, apply_all, apply_procs, apply_act_room, apply_code_room, inlined_size}
+use Rattle.apply_inline.specs.Inlining.{is_part_tag, value_has, with_one_more, apply_body, part_body, apply_arm, apply_arms, part_tags_of, others_of, else_fail, apply_act, apply_code, apply_all, apply_procs, apply_act_room, apply_code_room, inlined_size}
 use Rattle.eval_inline.specs.Without.{NotEval}
 use Rattle.apply_inline.specs.Expanded.{called_size, eval_tag_size, eval_tags_size, given_size, part_body_size, part_tag_size, parts_size, else_size, expanded_act, expanded_code, expanded_arms, expanded_procedure}
 use Rattle.apply_inline.specs.Parts.{there_is, HaveNext}
@@ -114,7 +114,7 @@ module _ (p : Program) (A : Solution) where
       act_measured : (x y : ℕ) (o : Act) → NotEval o → act_size (apply_act e A y (eval_act p A x o)) ≡ expanded_act p A o
       act_measured x y (case v as') h = omega (arith, arms_measured x y as')
       act_measured x y (nested b) h = omega (arith, code_measured x y b)
-      act_measured x y (apply v a) h = omega (arith, apply_arms_size next a y (parts_of p A v) (else_fail e A (others_of p A v)) (those_parts p A (value_has p A v) 0 (length p.tags)), last_size (others_of p A v))
+      act_measured x y (apply v a) h = omega (arith, apply_arms_size next a y (part_tags_of p A v) (else_fail e A (others_of p A v)) (those_parts p A (value_has p A v) 0 (length p.tags)), last_size (others_of p A v))
       act_measured x y (eval a) h = absurd h
       act_measured x y (unit v) h = refl
       act_measured x y (fetch a) h = refl

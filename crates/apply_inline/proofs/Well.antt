@@ -16,7 +16,7 @@ use Rattle.grin_syntax.specs.Fresh.{variables, past_procs}
 use Rattle.grin_meaning.specs.Run.{part_from}
 use Rattle.flow_system.specs.Solution.{Solution}
 use Rattle.eval_inline.specs.Inlining.{fields_at}
-use Rattle.apply_inline.specs.Inlining.{with_one_more, apply_body, part_body, apply_arm, apply_arms, parts_of, others_of, else_fail, apply_act, apply_code, apply_all, apply_procs, apply_act_room, apply_code_room, apply_inlined}
+use Rattle.apply_inline.specs.Inlining.{with_one_more, apply_body, part_body, apply_arm, apply_arms, part_tags_of, others_of, else_fail, apply_act, apply_code, apply_all, apply_procs, apply_act_room, apply_code_room, apply_inlined}
 use Rattle.apply_inline.proofs.Binding.{vars_once, sites_stay}
 
 part_below : (i : ℕ) (ts : List Tag) (f r t : ℕ) → part_from i ts f r ≡ Some t → t < i + length ts
@@ -89,7 +89,7 @@ module _ (p : Program) (A : Solution) (procs : List Procedure) (same_count : len
     act_formed : (x : ℕ) (o : Act) (scope : Scope) → ActFormed p scope o → ActFormed there scope (apply_act p A x o)
     act_formed x (case v as') scope h = (h.0, all_formed x as' scope h.1)
     act_formed x (nested b) scope h = code_formed x b scope h
-    act_formed x (apply v a) scope h = (h.0, arms_formed scope a x (parts_of p A v) (else_fail p A (others_of p A v)) h.1 (last_formed scope (others_of p A v)))
+    act_formed x (apply v a) scope h = (h.0, arms_formed scope a x (part_tags_of p A v) (else_fail p A (others_of p A v)) h.1 (last_formed scope (others_of p A v)))
     act_formed x (unit v) scope h = h
     act_formed x (fetch a) scope h = h
     act_formed x (fetch_word a i) scope h = h

@@ -9,7 +9,7 @@ use Rattle.grin_meaning.specs.Run.{is_fun_kind}
 use Rattle.flow_system.specs.Solution.{Solution}
 use Rattle.apply_inline.specs.Size.{shape_size, val_size, target_size, cells_size, act_size}
 use Rattle.eval_inline.specs.Inlining.{tags_of}
-use Rattle.apply_inline.specs.Inlining.{parts_of, others_of}
+use Rattle.apply_inline.specs.Inlining.{part_tags_of, others_of}
 
 -- a number of 64 bits, the largest one for all that are larger
 abbrev pub capped : ℕ → ℕ
@@ -58,7 +58,7 @@ module _ (p : Program) (A : Solution) where
   else_size (t ∷ ts) = 1
 
   abbrev pub application_size : Val → ℕ
-  application_size v = 1 + val_size v + parts_size (parts_of p A v) + else_size (others_of p A v)
+  application_size v = 1 + val_size v + parts_size (part_tags_of p A v) + else_size (others_of p A v)
 
   unfoldable mutual
     pub expanded_act : Act → ℕ

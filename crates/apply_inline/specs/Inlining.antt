@@ -57,8 +57,8 @@ module _ (p : Program) (A : Solution) where
   apply_arms a x [] last = last
   apply_arms a x (t ∷ ts) last = apply_arm a x t (slice_get p.tags t) (apply_arms a (x + fields_at p A (slice_get p.tags t)) ts last)
 
-  abbrev pub parts_of : V.Val → List ℕ
-  parts_of v = those (λ t. value_has v t && is_part_tag t) 0 (length p.tags)
+  abbrev pub part_tags_of : V.Val → List ℕ
+  part_tags_of v = those (λ t. value_has v t && is_part_tag t) 0 (length p.tags)
 
   abbrev pub others_of : V.Val → List ℕ
   others_of v = those (λ t. value_has v t && not (is_part_tag t)) 0 (length p.tags)
@@ -73,7 +73,7 @@ module _ (p : Program) (A : Solution) where
 
   unfoldable mutual
     pub apply_act_room : Act → ℕ
-    apply_act_room (apply v a) = parts_room (parts_of v)
+    apply_act_room (apply v a) = parts_room (part_tags_of v)
     apply_act_room (case v as') = apply_arms_room as'
     apply_act_room (nested b) = apply_code_room b
     apply_act_room _ = 0
@@ -89,7 +89,7 @@ module _ (p : Program) (A : Solution) where
 
   unfoldable mutual
     pub apply_act : ℕ → Act → Act
-    apply_act x (apply v a) = case v (apply_arms a x (parts_of v) (else_fail (others_of v)))
+    apply_act x (apply v a) = case v (apply_arms a x (part_tags_of v) (else_fail (others_of v)))
     apply_act x (case v as') = case v (apply_all x as')
     apply_act x (nested b) = nested (apply_code x b)
     apply_act x o = o

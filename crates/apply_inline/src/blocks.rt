@@ -6,7 +6,7 @@ ghost use Rattle.grin_syntax.specs.declared.program.Word.TheVariants.{Var};
 ghost use Rattle.grin_syntax.specs.Tree.{Code, Arms, arm, end, case, act_of, before_of, arm_of, arms_of, code_of, procedure_of, program_of};
 ghost use Rattle.grin_syntax.specs.Tags.{part_from};
 ghost use Rattle.grin_syntax.specs.Fresh.{variables};
-ghost use Rattle.apply_inline.specs.Inlining.{part_body, apply_body, apply_arm, apply_arms, parts_of, others_of, else_fail, parts_room, apply_act, apply_code, apply_all, apply_procs, apply_act_room, apply_code_room, apply_arms_room};
+ghost use Rattle.apply_inline.specs.Inlining.{part_body, apply_body, apply_arm, apply_arms, part_tags_of, others_of, else_fail, parts_room, apply_act, apply_code, apply_all, apply_procs, apply_act_room, apply_code_room, apply_arms_room};
 ghost use Rattle.points_to.specs.Found.{found};
 ghost use Rattle.apply_inline.specs.Applied.{arms_before};
 ghost use Rattle.apply_inline.specs.Parts.{SearchStarts};
@@ -141,14 +141,15 @@ impl Inlining<'_> {
         ensures is { IfOk result (λ o. act_of o
             ≡ case v (apply_arms (program_of self.now.known.program.now)
             (found self.now.known.flow.now) a fresh.old.next
-            (parts_of (program_of self.now.known.program.now) (found self.now.known.flow.now) v)
+            (part_tags_of (program_of self.now.known.program.now) (found self.now.known.flow.now) v)
             (else_fail (program_of self.now.known.program.now) (found self.now.known.flow.now)
             (others_of (program_of self.now.known.program.now) (found self.now.known.flow.now)
             v)))) }
         ensures next { OnOk result (fresh.new.next
             ≡ fresh.old.next + parts_room (program_of self.now.known.program.now)
             (found self.now.known.flow.now)
-            (parts_of (program_of self.now.known.program.now) (found self.now.known.flow.now) v)) }
+            (part_tags_of (program_of self.now.known.program.now) (found self.now.known.flow.now)
+            v)) }
     {
         let mut alts = self.parts(alloc, fresh, &v, a)?;
         if self.known.has_other(&v) {
@@ -170,12 +171,12 @@ impl Inlining<'_> {
     ) -> Result<Seq<Alt>, AllocError>
         ensures are { IfOk result (λ alts. (last : Arms) → arms_before (map arm_of alts) last
             ≡ apply_arms (program_of self.now.known.program.now) (found self.now.known.flow.now) a
-            fresh.old.next (parts_of (program_of self.now.known.program.now)
+            fresh.old.next (part_tags_of (program_of self.now.known.program.now)
             (found self.now.known.flow.now) v.now) last) }
         ensures next { OnOk result (fresh.new.next
             ≡ fresh.old.next + parts_room (program_of self.now.known.program.now)
             (found self.now.known.flow.now)
-            (parts_of (program_of self.now.known.program.now) (found self.now.known.flow.now)
+            (part_tags_of (program_of self.now.known.program.now) (found self.now.known.flow.now)
             v.now)) }
     {
         let mut alts = Seq::new(alloc);

@@ -4,7 +4,7 @@
 
 ghost use Rattle.std.specs.Prelude.{◌≡◌, ◌+◌, map, slice_get};
 ghost use Rattle.grin_syntax.specs.Tree.{Code, act_of, before_of, arm_of, arms_of, code_of, procedure_of, program_of};
-ghost use Rattle.apply_inline.specs.Inlining.{parts_of};
+ghost use Rattle.apply_inline.specs.Inlining.{part_tags_of};
 ghost use Rattle.apply_inline.specs.Size.{val_size, target_size, shape_size, cells_size, total};
 ghost use Rattle.points_to.specs.Found.{found};
 ghost use Rattle.apply_inline.specs.Expanded.{capped, eval_body_size, eval_tag_size, evaluation_size, part_body_size, parts_size, application_size, expanded_act, expanded_code, expanded_arms, expanded_procedure};
@@ -146,7 +146,7 @@ impl Known<'_> {
     fn parts_size(&self, v: &Val) -> u64
         ensures { result ≡ capped
             (parts_size (program_of self.now.program.now) (found self.now.flow.now)
-            (parts_of (program_of self.now.program.now) (found self.now.flow.now) v.now)) }
+            (part_tags_of (program_of self.now.program.now) (found self.now.flow.now) v.now)) }
     {
         let mut size = 0u64;
         for t in self.candidates(v) {

@@ -11,7 +11,7 @@ use Rattle.arity_raise.specs.Raisable.{Raisable}
 use Rattle.arity_raise.specs.Raising.{Raising, Decisions, fields_of}
 use Rattle.arity_raise.specs.Decided.{AllStay, Decided, ProcedureDecided, AllDecided, new_params, all_new_params, IsDecided}
 use Rattle.arity_raise.specs.Fixed.{Fixed}
-use Rattle.arity_raise.specs.Turns.{count_after, Turn, InRow, NoneRaised}
+use Rattle.arity_raise.specs.Deciding.{count_after, DecidedOf, InRow, NoneRaised}
 
 -- ---- variables in a row
 
@@ -76,7 +76,7 @@ module _ (A : Solution) (g : Program) where
 
   -- ---- the parameters of a procedure
 
-  turn_first : (q : Procedure) (x : VarId) (count : ℕ) (d : Option Raising) (xs : List VarId) (ds : Decisions) → Turn A g q x count d → Decided A g q (count_after count d) xs ds → Decided A g q count (x ∷ xs) (d ∷ ds)
+  turn_first : (q : Procedure) (x : VarId) (count : ℕ) (d : Option Raising) (xs : List VarId) (ds : Decisions) → DecidedOf A g q x count d → Decided A g q (count_after count d) xs ds → Decided A g q count (x ∷ xs) (d ∷ ds)
   turn_first q x count None xs ds t h = (t, h)
   turn_first q x count (Some r) xs ds t h = (t.0, t.1, h)
 
@@ -86,7 +86,7 @@ module _ (A : Solution) (g : Program) where
     pub row : InRow (new_params ds) n m
 
   pub one_turn_more : (q : Procedure) (xs : List VarId) (i : ℕ) (x0 : VarId) (start count after : ℕ) (ds more : Decisions) (d : Option Raising) (n m k : ℕ) → i < length xs
-      → TurnsSoFar q (take i xs) start count ds n m → Turn A g q (get_or xs i x0) count d → InRow (new_params (d ∷ [])) m k → more ≡ ds ++ d ∷ [] → after ≡ count_after count d → TurnsSoFar q (take (i + 1) xs) start after more n k
+      → TurnsSoFar q (take i xs) start count ds n m → DecidedOf A g q (get_or xs i x0) count d → InRow (new_params (d ∷ [])) m k → more ≡ ds ++ d ∷ [] → after ≡ count_after count d → TurnsSoFar q (take (i + 1) xs) start after more n k
   one_turn_more q xs i x0 start count after ds more d n m k lt u t r e f =
       let x : VarId = get_or xs i x0 in
       let taken : take (i + 1) xs ≡ take i xs ++ x ∷ [] = take_more xs i x0 lt in

@@ -21,8 +21,7 @@ use Rattle.grin_meaning.proofs.Procedures.{nothing, BodyFollows, BodiesFollow, n
 use Rattle.grin_meaning.proofs.KeptBy.{likewise_kept, looking_kept}
 use Rattle.grin_meaning.proofs.Looked.{looking_law}
 use Rattle.grin_meaning.proofs.LooksBack.{look_agrees}
-use Rattle.flow_system.specs.declared.fact.Place.TheVariants.{Result as result}
-use Rattle.flow_system.specs.Inclusions.{into}
+use Rattle.flow_system.specs.Inclusions.{into_result}
 use Rattle.flow_system.specs.Tables.{tables}
 use Rattle.flow_system.specs.System.{system, code_flows, globals_flow, procs_flow, start_flows}
 use Rattle.flow_system.specs.Solution.{Solution, AllMet, Solves, IsLeast}
@@ -111,7 +110,7 @@ module _ (g : Program) (A : Solution) (D : List Decisions) (n : ℕ) (of : OfVec
     given_too (same {a = v}) s = (s, same)
 
     body_follows : (f m : ℕ) (q : Procedure) (ds : Decisions) → n ≤ m → slice_get D f ≡ Some ds → AllRaisable g A q q.params ds → EachCode Inlined Any Any Any q.body → EachCode ByWords Any Any Any q.body
-        → ((y : ℕ) → times y (numbers_of q.params) + times y (code_vars q.body) ≤ 1) → past_vars q.params ≤ first → past_code q.body ≤ first → AllMet (tables g) A (code_flows g (into (result f)) q.body)
+        → ((y : ℕ) → times y (numbers_of q.params) + times y (code_vars q.body) ≤ 1) → past_vars q.params ≤ first → past_code q.body ≤ first → AllMet (tables g) A (code_flows g (into_result f) q.body)
         → BodyFollows (it g A D n F c c' cb cf) f q (raised_procedure D m ds q)
     body_follows f m q ds le at ra iq bq once pq pb met = record {
       R = λ cells. Related F first (decided ds q.params);
@@ -119,7 +118,7 @@ module _ (g : Program) (A : Solution) (D : List Decisions) (n : ℕ) (of : OfVec
       enters = λ cells xs xs' bs a e lies. entry_related F first ds q.params xs xs' bs
           (params_once g D n dec.numbered f ds q.params at (λ y. (let o : times y (numbers_of q.params) + times y (code_vars q.body) ≤ 1 = once y in omega (arith, o))) out)
           (below first (numbers_of q.params) out) (subst (λ l. ArgsFor F l xs xs') (ap or_none at) a) e;
-      body = body_like g A D n F known (past_top g D n dec.numbered) c c' cb cf q (decided ds q.params) (new_ones g D n dec.numbered f ds q.params at) (λ y r e. raisable_at g A q y r q.params ds ra e) (into (result f)) m q.body le (record {
+      body = body_like g A D n F known (past_top g D n dec.numbered) c c' cb cf q (decided ds q.params) (new_ones g D n dec.numbered f ds q.params at) (λ y r e. raisable_at g A q y r q.params ds ra e) (into_result f) m q.body le (record {
         free = λ y r e. (let R : Raisable A g q y r.tag.0 r.fields = raisable_at g A q y r q.params ds ra e in R.only_fetched);
         plain = all_in (Plain first (decided ds q.params)) (code_vars q.body) (λ y i. (low y i, none_decided y ds q.params (let o : times y (numbers_of q.params) + times y (code_vars q.body) ≤ 1 = once y in omega (arith, o, i))));
         inlined = iq;
@@ -141,7 +140,7 @@ module _ (g : Program) (A : Solution) (D : List Decisions) (n : ℕ) (of : OfVec
     bodies_follow f m (q ∷ qs) [] le h = absurd h.so
     bodies_follow f m (q ∷ qs) (ds ∷ dss) le h = one_more {f = f} {q = q} {r = raised_procedure D m ds q}
         (body_follows f m q ds le (ap (slice_get D) (let z : f ≡ f + 0 = omega arith in z) ∙ h.at 0) (all_raisable g A f q ds h.so.0) h.inlined.0 h.by_words.0 here (let p : past_procs (q ∷ qs) ≤ first = h.past in omega (arith, p)) (let p : past_procs (q ∷ qs) ≤ first = h.past in omega (arith, p))
-        (met_front g A (code_flows g (into (result f)) q.body) (procs_flow g (suc f) qs) h.met))
+        (met_front g A (code_flows g (into_result f) q.body) (procs_flow g (suc f) qs) h.met))
         (bodies_follow (suc f) (m + new_code D q.body) qs dss (omega (arith, le)) (record {
           so = h.so.1;
           at = λ j. ap (slice_get D) (let z : suc f + j ≡ f + suc j = omega arith in z) ∙ h.at (suc j);
@@ -149,7 +148,7 @@ module _ (g : Program) (A : Solution) (D : List Decisions) (n : ℕ) (of : OfVec
           by_words = h.by_words.1;
           once = later;
           past = let p : past_procs (q ∷ qs) ≤ first = h.past in omega (arith, p);
-          met = met_back g A (code_flows g (into (result f)) q.body) (procs_flow g (suc f) qs) h.met;
+          met = met_back g A (code_flows g (into_result f) q.body) (procs_flow g (suc f) qs) h.met;
         }))
       where
         here : (y : ℕ) → times y (numbers_of q.params) + times y (code_vars q.body) ≤ 1

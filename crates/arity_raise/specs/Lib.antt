@@ -5,4 +5,4 @@ pub mod Decided
 pub mod Raised
 pub mod Decision
 pub mod Fixed
-pub mod Turns
+pub mod Deciding

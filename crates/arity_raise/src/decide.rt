@@ -6,7 +6,7 @@ ghost use Rattle.grin_syntax.specs.Tree.{procedure_of, program_of};
 ghost use Rattle.points_to.specs.Found.{found};
 ghost use Rattle.arity_raise.specs.Raisable.{Raisable};
 ghost use Rattle.arity_raise.specs.Decided.{IsRoom, Decided, ProcedureDecided, IsDecided, new_params};
-ghost use Rattle.arity_raise.specs.Turns.{count_after, Turn, InRow, NoneRaised};
+ghost use Rattle.arity_raise.specs.Deciding.{count_after, DecidedOf, InRow, NoneRaised};
 
 use crate::cells::{Known, Node};
 use crate::raising::Raising;
@@ -107,8 +107,8 @@ impl Known<'_> {
         count: u64,
     ) -> Result<Option<Raising>, AllocError>
         ensures turn { IfOk result (λ d.
-            Turn (found self.now.flow.now) (program_of self.now.g.now) (procedure_of proc.now) x
-            count d) }
+            DecidedOf (found self.now.flow.now) (program_of self.now.g.now) (procedure_of proc.now)
+            x count d) }
         ensures row { IfOk result (λ d. InRow (new_params (d ∷ [])) fresh.old.next fresh.new.next) }
     {
         match self.raisable(proc, x) {

@@ -21,7 +21,7 @@ use Rattle.grin_meaning.specs.Run.{Calls, act, code, arms, calls, run, choose, s
 use Rattle.grin_meaning.specs.Keeps.{world_of}
 use Rattle.grin_meaning.specs.Follows.{Every}
 use Rattle.flow_system.specs.Tables.{tables, params_of}
-use Rattle.flow_system.specs.Inclusions.{cell_of, tag, site, var, result, tags, field, word, value, a_number, held, nodes_at, word_at, evaluated, extended, arguments, Sink, to, into, flows, applies}
+use Rattle.flow_system.specs.Inclusions.{cell_of, tag, site, var, result, tags, field, word, value, a_number, held, nodes_at, word_at, evaluated, extended, arguments, Sink, to, into_site, into_result, flows, applies}
 use Rattle.flow_system.specs.System.{system, act_evals, code_evals, arms_eval, procs_eval, has_eval, cells_flow, site_flows, shape_flows, act_flows, code_flows, arms_flow, globals_flow, procs_flow, start_flows}
 use Rattle.flow_system.specs.Solution.{Solution, Sets, At, one_word, AsNodes, node_tag, node_field, AsWords, word_word, IsEvaluated, evaluated_tag, evaluated_field, Waits, StandsFor, WordAmong, first, ValueGives, FetchGives, its_tag, extended_tag, extended_field, extended_last, ArgumentsGive, field_argument, word_argument, of_node, of_words, global, width, Gives, FlowsTo, Meets, AllMet, Solves}
 use Rattle.flow_system.specs.Covers.{site_at, DatumIn, AllIn, NodeIn, ValueIn, GlobalsThere, Lies, Started, Covers, SolutionsCover}
@@ -161,7 +161,7 @@ module _ (p : Program) (A : Solution) where
                 enters : (f : ProcId) → t.proc ≡ Some f → Goes (At_sink k) w (then_do (c f.0 x.node.fields (suc d) w) (updated p c i))
                 enters f z = then_goes (Returns f.0) (At_sink k) w (c f.0 x.node.fields (suc d) w) (updated p c i) (cg.by f.0 x.node.fields (suc d) w g args) back
                   where
-                    both : FlowsTo (tables p) A (arguments (held (site x.site)) x.node.tag []) (to (params_of (tables p) f.0)) × FlowsTo (tables p) A (evaluated (held (result f.0))) (into (site x.site))
+                    both : FlowsTo (tables p) A (arguments (held (site x.site)) x.node.tag []) (to (params_of (tables p) f.0)) × FlowsTo (tables p) A (evaluated (held (result f.0))) (into_site x.site)
                     both = lies.1 ev x.node.tag f.0 lies.0.tag_in (record { info = t; is_tag = r; delayed = e; proc = f; is_proc = z; is_f = refl })
 
                     args : ArgumentsLie p w.cells A f.0 x.node.fields
@@ -391,10 +391,10 @@ module _ (p : Program) (A : Solution) where
   spend_goes Y (suc m) w k g f = f m
 
   -- the inclusions of each procedure are met
-  body_met : (qs : List Procedure) (i : ℕ) → AllMet (tables p) A (procs_flow p i qs) → (f j : ℕ) → j ≡ i + f → IfSome (slice_get qs f) (λ q. AllMet (tables p) A (code_flows p (into (result j)) q.body))
+  body_met : (qs : List Procedure) (i : ℕ) → AllMet (tables p) A (procs_flow p i qs) → (f j : ℕ) → j ≡ i + f → IfSome (slice_get qs f) (λ q. AllMet (tables p) A (code_flows p (into_result j) q.body))
   body_met [] i m f j e = tt
-  body_met (q ∷ qs) i m zero j e = subst (λ k. AllMet (tables p) A (code_flows p (into (result k)) q.body)) (omega arith) (met_front p A (code_flows p (into (result i)) q.body) (procs_flow p (suc i) qs) m)
-  body_met (q ∷ qs) i m (suc f) j e = body_met qs (suc i) (met_back p A (code_flows p (into (result i)) q.body) (procs_flow p (suc i) qs) m) f j (omega arith)
+  body_met (q ∷ qs) i m zero j e = subst (λ k. AllMet (tables p) A (code_flows p (into_result k) q.body)) (omega arith) (met_front p A (code_flows p (into_result i) q.body) (procs_flow p (suc i) qs) m)
+  body_met (q ∷ qs) i m (suc f) j e = body_met qs (suc i) (met_back p A (code_flows p (into_result i) q.body) (procs_flow p (suc i) qs) m) f j (omega arith)
 
   body_evals : (qs : List Procedure) (f : ℕ) → IfSome (slice_get qs f) (λ q. IsTrue (code_evals q.body) → IsTrue (procs_eval qs))
   body_evals [] f = tt
@@ -414,8 +414,8 @@ module _ (p : Program) (A : Solution) where
       body : (f d left : ℕ) (w : World) → Good w → (q : Procedure) → slice_get p.procs f ≡ Some q → (env : Env) → EnvLies p w.cells A env → CallsGo (calls p n)
           → Goes (Returns f) w (code p (calls p n) env d q.body (passing env (spent f d left w)))
       body f d left w g q e env el cg =
-          code_goes (calls p n) cg (into (result f)) q.body env d (passing env (spent f d left w)) (pass env (spent f d left w) (record { cells_good = g.cells_good; globals_there = g.globals_there; seen_good = g.seen_good }) el) el
-          (from_some (λ q. AllMet (tables p) A (code_flows p (into (result f)) q.body)) (slice_get p.procs f) q (body_met p.procs 0 m f f (omega arith)) e)
+          code_goes (calls p n) cg (into_result f) q.body env d (passing env (spent f d left w)) (pass env (spent f d left w) (record { cells_good = g.cells_good; globals_there = g.globals_there; seen_good = g.seen_good }) el) el
+          (from_some (λ q. AllMet (tables p) A (code_flows p (into_result f) q.body)) (slice_get p.procs f) q (body_met p.procs 0 m f f (omega arith)) e)
           (from_some (λ q. IsTrue (code_evals q.body) → IsTrue (procs_eval p.procs)) (slice_get p.procs f) q (body_evals p.procs f) e)
 
   -- the start

@@ -4,10 +4,10 @@ use Rattle.grin_syntax.specs.declared.program.VarId.{VarId}
 use Rattle.grin_syntax.specs.declared.program.Word.{Word}
 use Rattle.grin_syntax.specs.declared.program.Val.{Val}
 use Rattle.grin_syntax.specs.declared.program.Target.TheVariants.{Nothing, Node as NodeTarget, One as OneTarget, Vector as VectorTarget}
-use Rattle.flow_system.specs.Inclusions.{AbstractWord, Place, site, var, result, Part, tags, word, Source, value, a_cell, a_number, held, nodes_at, word_at, evaluated, extended, arguments, Sink, to, into, cells_at, Inclusion, flows, forces, applies}
+use Rattle.flow_system.specs.Inclusions.{AbstractWord, Place, site, var, result, Part, tags, word, Source, value, a_cell, a_number, held, nodes_at, word_at, evaluated, extended, arguments, Sink, to, into_site, into_result, cells_at, Inclusion, flows, forces, applies}
 use Rattle.flow_system.specs.Tables.{Tables, params_of}
 use Rattle.flow_system.specs.Solution.{Solution, Sets, At, OneWord, one_word, AsNodes, node_tag, node_field, words_tag, words_field, AsWords, word_word, tag_word, field_word, zero_word, Evaluated, evaluated_tag, evaluated_field, StandsFor, literal, variable, global, tag_itself, WordAmong, first, later, ValueGives, of_variable as value_variable, of_node, of_field, of_words, of_word, FetchGives, its_tag, its_field, its_zero, ExtendGives, extended_tag, extended_field, extended_last, ArgumentsGive, field_argument, word_argument, width, Gives, WordsTo, Reaches, FlowsTo, Meets, AllMet, Solves, IsLeast}
-use Rattle.flow_system.specs.Demands.{Asks, of_node_variable, of_variable, of_vector, of_site, of_place, of_result, of_cells, AsksFlow, Demands, by_flow, by_delayed, by_evaluated, by_argument, by_applied, Content}
+use Rattle.flow_system.specs.Demands.{Asks, of_node_variable, of_variable, of_vector, of_site, of_result, of_cells, AsksFlow, Demands, by_flow, by_delayed, by_evaluated, by_argument, by_applied, Content}
 
 abbrev pub Within : Sets → Sets → Type 0
 Within X Y = (part : Part) (u : AbstractWord) → X part u → Y part u
@@ -89,7 +89,6 @@ module _ (p : Tables) where
     asked k X Y w s q part u r (of_variable x) = r _ (w _ _ x)
     asked k X Y w s q part u r (of_vector {xs = xs} {x = x} {j = j} e y) = words_have X Y w 0 xs r x j u e (subst (λ k. AsWords p X k u) (omega arith) y)
     asked k X Y w s q part u r (of_site x) = r _ _ (as_nodes_mono k X Y w _ _ x)
-    asked k X Y w s q part u r (of_place x) = r _ _ (w _ _ x)
     asked k X Y w s q part u r (of_result x) = r _ _ (w _ _ x)
     asked k X Y w s q part u r (of_cells st x) = r _ (stands_mono _ _ st) _ _ (as_nodes_mono k X Y w _ _ x)
 
@@ -99,7 +98,7 @@ module _ (p : Tables) where
     pub demanded : (c : Inclusion) (q : Place) (part : Part) (u : AbstractWord) → Meets p B c → Demands p A c q part u → At B q part u
     demanded c q part u m (by_flow {s = s} {k = k} x) = flow_asked s k q part u m x
     demanded c q part u m (by_delayed {s = s} {t = t} {f = f} x d y) = flow_asked (arguments (held (site s)) t []) (to (params_of p f)) q part u (m t f (b _ _ _ x) d).0 y
-    demanded c q part u m (by_evaluated {s = s} {t = t} {f = f} x d y) = flow_asked (evaluated (held (result f))) (into (site s)) q part u (m t f (b _ _ _ x) d).1 y
+    demanded c q part u m (by_evaluated {s = s} {t = t} {f = f} x d y) = flow_asked (evaluated (held (result f))) (into_site s) q part u (m t f (b _ _ _ x) d).1 y
     demanded c q part u m (by_argument {v = v} {a = a} {t = t} {f = f} x d y) = flow_asked (arguments (value v) t (a ∷ [])) (to (params_of p f)) q part u (m t f (as_nodes_mono (width (value v)) _ _ (value_mono v) _ _ x) d).0 y
     demanded c q part u m (by_applied {v = v} {k = k} {t = t} {f = f} x d y) = flow_asked (held (result f)) k q part u (m t f (as_nodes_mono (width (value v)) _ _ (value_mono v) _ _ x) d).1 y
 
@@ -117,9 +116,8 @@ module _ (p : Tables) where
     reached k X (to (NodeTarget x)) c = λ part u y. c (var x.0) part u (of_node_variable y)
     reached k X (to (OneTarget x)) c = λ u y. c (var x.0) (word 0) u (of_variable y)
     reached k X (to (VectorTarget xs)) c = words_reach k X xs c 0 xs (λ i x e. subst (λ n. slice_get xs n ≡ Some x) (omega arith) e)
-    reached k X (into (site s)) c = λ part u y. c (site s) part u (of_site y)
-    reached k X (into (var x)) c = λ part u y. c (var x) part u (of_place y)
-    reached k X (into (result f)) c = λ part u y. c (result f) part u (of_result y)
+    reached k X (into_site s) c = λ part u y. c (site s) part u (of_site y)
+    reached k X (into_result f) c = λ part u y. c (result f) part u (of_result y)
     reached k X (cells_at a) c = λ s st part u y. c (site s) part u (of_cells st y)
 
     pub meets_from : (c : Inclusion) → Content p A c → Meets p A c

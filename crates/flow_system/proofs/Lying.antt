@@ -14,7 +14,7 @@ use Rattle.grin_syntax.specs.Tree.{Procedure, Program}
 use Rattle.grin_meaning.specs.Values.{Datum, number, tag as tag', cell, Node, Value, node, words, Env, HeapCell, and_then, Binding, with_vars, one_each, padded, only_word, fields_of, made_node, as_node, word_of, words_of, value_of, bindings_of}
 use Rattle.grin_meaning.specs.Run.{place_of, nth_or_zero}
 use Rattle.flow_system.specs.Tables.{tables, target_of, params_of}
-use Rattle.flow_system.specs.Inclusions.{AbstractWord, cell_of, tag, num, Place, site, var, result, Part, tags, field, word, value, Sink, to, into, cells_at}
+use Rattle.flow_system.specs.Inclusions.{AbstractWord, cell_of, tag, num, Place, site, var, result, Part, tags, field, word, value, Sink, to, into_site, into_result, cells_at}
 use Rattle.flow_system.specs.Solution.{Solution, Sets, At, Enough, AsNodes, node_tag, node_field, words_tag, words_field, AsWords, word_word, tag_word, field_word, zero_word, StandsFor, literal, variable, global, tag_itself, WordAmong, first, later, ValueGives, of_variable, of_node, of_field, of_words, of_word, FetchGives, its_field, its_zero, width, WordsTo, NodesTo, ReachesTarget, Reaches}
 use Rattle.flow_system.specs.Covers.{site_at, DatumIn, AllIn, NodeIn, ValueIn, GlobalsThere}
 
@@ -197,9 +197,8 @@ module _ (p : Program) (h : List HeapCell) where
     -- a value is as a sink wants it
     abbrev pub Lands : Value → Sink → Type 0
     Lands v (to t) = IfSome (bindings_of p t v) BindingsLie
-    Lands v (into (site s)) = IfSome (as_node p v) (NodeIn p h (At A (site s)))
-    Lands v (into (var x)) = ValueIn p h (At A (var x)) v
-    Lands v (into (result f)) = ValueIn p h (At A (result f)) v
+    Lands v (into_site s) = IfSome (as_node p v) (NodeIn p h (At A (site s)))
+    Lands v (into_result f) = ValueIn p h (At A (result f)) v
     Lands v (cells_at a) = (s : ℕ) → StandsFor (tables p) A a (cell_of s) → IfSome (as_node p v) (NodeIn p h (At A (site s)))
 
     node_lands : (k : Option ℕ) (X : Sets) (q : Place) (v : Value) → NodesTo (tables p) A k X q → ValueIn p h X v → Narrow k v → IfSome (as_node p v) (NodeIn p h (At A q))
@@ -207,9 +206,8 @@ module _ (p : Program) (h : List HeapCell) where
 
     pub lands : (k : Option ℕ) (X : Sets) (s : Sink) (v : Value) → Reaches (tables p) A k X s → ValueIn p h X v → Narrow k v → Lands v s
     lands k X (to t) v r x w = target_lies k X t v r x w
-    lands k X (into (site s)) v r x w = node_lands k X (site s) v r x w
-    lands k X (into (var y)) v r x w = value_mono p h X (At A (var y)) r v x
-    lands k X (into (result f)) v r x w = value_mono p h X (At A (result f)) r v x
+    lands k X (into_site s) v r x w = node_lands k X (site s) v r x w
+    lands k X (into_result f) v r x w = value_mono p h X (At A (result f)) r v x
     lands k X (cells_at a) v r x w = λ s y. node_lands k X (site s) v (r s y) x w
 
     -- no words land anywhere
@@ -219,9 +217,8 @@ module _ (p : Program) (h : List HeapCell) where
     nothing_lands (to (OneTarget x)) = tt
     nothing_lands (to (VectorTarget [])) = tt
     nothing_lands (to (VectorTarget (x ∷ xs))) = tt
-    nothing_lands (into (site s)) = tt
-    nothing_lands (into (var x)) = tt
-    nothing_lands (into (result f)) = tt
+    nothing_lands (into_site s) = tt
+    nothing_lands (into_result f) = tt
     nothing_lands (cells_at a) = λ s y. tt
 
     -- arguments of a call

@@ -19,7 +19,7 @@ use Rattle.grin_syntax.specs.declared.program.Cell.{Cell}
 use Rattle.grin_syntax.specs.declared.program.Proc.{Proc}
 use Rattle.grin_syntax.specs.declared.program.GlobalCell.{GlobalCell}
 use Rattle.grin_syntax.specs.Tree.{Program, Procedure, procedure_of}
-use Rattle.flow_system.specs.Inclusions.{Inclusion, Sink, to, into, result}
+use Rattle.flow_system.specs.Inclusions.{Inclusion, Sink, to, into_result}
 use Rattle.flow_system.specs.System.{act_evals, code_evals, arms_eval, procs_eval, cells_flow, shape_flows, act_flows, code_flows, arms_flow, globals_flow, procs_flow}
 
 pub record EvalsSoFar (ss : List Stmt) (found : Bool) : Type 0 where
@@ -181,12 +181,12 @@ globals_done p old new cs i le f =
     sym (append_nil new) ∙ sym (g.by []) ∙ ap (λ l. old ++ globals_flow p l) (append_nil cs)
 
 pub procs_flow_next : (p : Program) (old new newer : List Inclusion) (ps : List Proc) (i : ℕ) (q : Proc) → i < length ps → q ≡ get_or ps i q → ProcsFlowSoFar p old new (take i ps) i
-    → newer ≡ new ++ code_flows p (into (result i)) (code_of q.body) → ProcsFlowSoFar p old newer (take (i + 1) ps) (i + 1)
+    → newer ≡ new ++ code_flows p (into_result i) (code_of q.body) → ProcsFlowSoFar p old newer (take (i + 1) ps) (i + 1)
 procs_flow_next p old new newer ps i q lt e f h =
     let n : suc i ≡ i + 1 = omega arith in
     rw (take_next ps i q lt e) (subst (ProcsFlowSoFar p old newer (take i ps ++ q ∷ [])) n (record {
       by = λ rest. ap (λ l. old ++ procs_flow p 0 l) (procs_snoc (take i ps) q rest) ∙ f.by (procedure_of q ∷ rest)
-          ∙ sym (append_assoc new (code_flows p (into (result i)) (code_of q.body)) (procs_flow p (suc i) rest)) ∙ ap (λ l. l ++ procs_flow p (suc i) rest) (sym h);
+          ∙ sym (append_assoc new (code_flows p (into_result i) (code_of q.body)) (procs_flow p (suc i) rest)) ∙ ap (λ l. l ++ procs_flow p (suc i) rest) (sym h);
     }))
 
 pub procs_flow_done : (p : Program) (old new : List Inclusion) (ps : List Proc) (i n : ℕ) → length ps ≤ i → ProcsFlowSoFar p old new (take i ps) n → new ≡ old ++ procs_flow p 0 (map procedure_of ps)

@@ -26,10 +26,11 @@ pub data Source : Type 0 where
   extended : Val → Word → Source
   arguments : Source → ℕ → List Word → Source
 
--- where it flows to: the variables of a target; a place; the cells of a word
+-- where it flows to: the variables of a target; the cells of a site; the result of a procedure; the cells of a word
 pub data Sink : Type 0 where
   to : Target → Sink
-  into : Place → Sink
+  into_site : ℕ → Sink
+  into_result : ℕ → Sink
   cells_at : Word → Sink
 
 pub data Inclusion : Type 0 where

@@ -12,7 +12,7 @@ use Rattle.grin_syntax.specs.declared.program.Val.TheVariants.{NodeVar, Node as 
 use Rattle.grin_syntax.specs.declared.program.Target.{Target}
 use Rattle.grin_syntax.specs.declared.program.Target.TheVariants.{Nothing, Node as NodeTarget, One as OneTarget, Vector as VectorTarget}
 use Rattle.grin_meaning.specs.Run.{is_part_kind, is_fun_kind, part_from}
-use Rattle.flow_system.specs.Inclusions.{AbstractWord, cell_of, tag, num, Place, site, var, result, Part, tags, field, word, Source, value, a_cell, a_number, held, nodes_at, word_at, evaluated, extended, arguments, Sink, to, into, cells_at, Inclusion, flows, forces, applies}
+use Rattle.flow_system.specs.Inclusions.{AbstractWord, cell_of, tag, num, Place, site, var, result, Part, tags, field, word, Source, value, a_cell, a_number, held, nodes_at, word_at, evaluated, extended, arguments, Sink, to, into_site, into_result, cells_at, Inclusion, flows, forces, applies}
 use Rattle.flow_system.specs.Tables.{Tables, fields_of, params_of}
 
 -- what may be at each place, part by part: finite sets, as lists
@@ -166,9 +166,8 @@ module _ (p : Tables) where
     -- what is given is at the sink; a result has nodes and words, each as given
     abbrev pub Reaches : AtMost → Sets → Sink → Type 0
     Reaches k X (to t) = ReachesTarget k X t
-    Reaches k X (into (site s)) = NodesTo k X (site s)
-    Reaches k X (into (var x)) = (part : Part) (u : AbstractWord) → X part u → At A (var x) part u
-    Reaches k X (into (result f)) = (part : Part) (u : AbstractWord) → X part u → At A (result f) part u
+    Reaches k X (into_site s) = NodesTo k X (site s)
+    Reaches k X (into_result f) = (part : Part) (u : AbstractWord) → X part u → At A (result f) part u
     Reaches k X (cells_at w) = (s : ℕ) → StandsFor w (cell_of s) → NodesTo k X (site s)
 
     abbrev pub FlowsTo : Source → Sink → Type 0
@@ -177,7 +176,7 @@ module _ (p : Tables) where
     abbrev pub Meets : Inclusion → Type 0
     Meets (flows s k) = FlowsTo s k
     Meets (forces s) = (t f : ℕ) → At A (site s) tags (tag t) → Delays t f
-        → FlowsTo (arguments (held (site s)) t []) (to (params_of p f)) × FlowsTo (evaluated (held (result f))) (into (site s))
+        → FlowsTo (arguments (held (site s)) t []) (to (params_of p f)) × FlowsTo (evaluated (held (result f))) (into_site s)
     Meets (applies v a k) = (t f : ℕ) → AsNodes (width (value v)) (ValueGives v) tags (tag t) → Waits t f 1
         → FlowsTo (arguments (value v) t (a ∷ [])) (to (params_of p f)) × FlowsTo (held (result f)) k
 

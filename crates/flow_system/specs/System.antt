@@ -10,7 +10,7 @@ use Rattle.grin_syntax.specs.declared.program.Cell.{Cell}
 use Rattle.grin_syntax.specs.declared.program.GlobalCell.{GlobalCell}
 use Rattle.grin_syntax.specs.Tree.{Code, end, store, bind, Act, unit, fetch, fetch_word, update, eval, apply, call, prim, read, write, case, nested, fail, Arms, no_arm, arm, Procedure, Program}
 use Rattle.flow_system.specs.Tables.{tables, params_of}
-use Rattle.flow_system.specs.Inclusions.{site, result, value, a_cell, a_number, held, nodes_at, word_at, evaluated, extended, arguments, Sink, to, into, cells_at, Inclusion, flows, forces, applies}
+use Rattle.flow_system.specs.Inclusions.{site, result, value, a_cell, a_number, held, nodes_at, word_at, evaluated, extended, arguments, Sink, to, into_site, into_result, cells_at, Inclusion, flows, forces, applies}
 
 -- whether a program has an eval
 unfoldable mutual
@@ -48,7 +48,7 @@ module _ (p : Program) where
 
   abbrev pub cells_flow : List Cell → List Inclusion
   cells_flow [] = []
-  cells_flow (c ∷ cs) = flows (a_cell c.site.0) (to (OneTarget c.var)) ∷ flows (value c.val) (into (site c.site.0)) ∷ site_flows c.site.0 ++ cells_flow cs
+  cells_flow (c ∷ cs) = flows (a_cell c.site.0) (to (OneTarget c.var)) ∷ flows (value c.val) (into_site c.site.0) ∷ site_flows c.site.0 ++ cells_flow cs
 
   unfoldable mutual
     -- an operation whose value goes to k
@@ -78,12 +78,12 @@ module _ (p : Program) where
 
   abbrev pub globals_flow : List GlobalCell → List Inclusion
   globals_flow [] = []
-  globals_flow (c ∷ cs) = flows (value (NodeVal c.tag [])) (into (site c.site.0)) ∷ site_flows c.site.0 ++ globals_flow cs
+  globals_flow (c ∷ cs) = flows (value (NodeVal c.tag [])) (into_site c.site.0) ∷ site_flows c.site.0 ++ globals_flow cs
 
   -- the procedures from number f on
   abbrev pub procs_flow : ℕ → List Procedure → List Inclusion
   procs_flow f [] = []
-  procs_flow f (q ∷ qs) = code_flows (into (result f)) q.body ++ procs_flow (suc f) qs
+  procs_flow f (q ∷ qs) = code_flows (into_result f) q.body ++ procs_flow (suc f) qs
 
   abbrev pub start_flows : Option ℕ → List Inclusion
   start_flows None = []

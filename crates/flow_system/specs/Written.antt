@@ -6,7 +6,7 @@ use Rattle.flow_system.specs.declared.inclusion.Sink as sink'
 use Rattle.flow_system.specs.declared.inclusion.Sink.TheVariants.{To, Result as IntoResult, Site as IntoSite, CellsAt}
 use Rattle.flow_system.specs.declared.inclusion.Inclusion as inclusion'
 use Rattle.flow_system.specs.declared.inclusion.Inclusion.TheVariants.{Flows, Forces, Applies}
-use Rattle.flow_system.specs.Inclusions.{site, result, Source, value, a_cell, a_number, held, nodes_at, word_at, evaluated, extended, arguments, Sink, to, into, cells_at, Inclusion, flows, forces, applies}
+use Rattle.flow_system.specs.Inclusions.{result, Source, value, a_cell, a_number, held, nodes_at, word_at, evaluated, extended, arguments, Sink, to, into_site, into_result, cells_at, Inclusion, flows, forces, applies}
 
 abbrev pub source_of : source'.Source → Source
 source_of (Value v) = value v
@@ -21,8 +21,8 @@ source_of (FieldsOf v t) = arguments (value v) t.0 []
 
 abbrev pub sink_of : sink'.Sink → Sink
 sink_of (To t) = to t
-sink_of (IntoResult f) = into (result f.0)
-sink_of (IntoSite s) = into (site s.0)
+sink_of (IntoResult f) = into_result f.0
+sink_of (IntoSite s) = into_site s.0
 sink_of (CellsAt a) = cells_at a
 
 abbrev pub inclusion_of : inclusion'.Inclusion → Inclusion

@@ -12,4 +12,4 @@ pub mod Narrow
 pub mod Stepped
 mod Staged
 pub mod Below
-pub mod Whole
+pub mod CompiledProgram

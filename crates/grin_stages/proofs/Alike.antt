@@ -30,7 +30,7 @@ use Rattle.grin_opt.specs.declared.pass.PassName.TheVariants.{Translate, Eval, A
 use Rattle.grin_opt.specs.Schedule.{shape_of}
 use Rattle.grin_stages.specs.Stage.{Analyses, OneExpandedSize, IsStage, translated, evaluations_inlined, both_inlined, by_pass, UpToInlining, OneStage}
 use Rattle.eval_inline.specs.Inlining.{those, some_of, cells_in, site_of, sites_of, tags_of, fields_at, call_body, eval_arm, eval_arms, evaluation, eval_bound, eval_ended, eval_act, eval_code, eval_all, eval_procs, act_room, code_room, all_room, arms_room, eval_inlined}
-use Rattle.apply_inline.specs.Inlining.{word_has, value_has, is_part_tag, parts_of, others_of, with_one_more, apply_body, part_body, apply_arm, apply_arms, else_fail, apply_act, apply_code, apply_all, apply_procs, apply_act_room, apply_code_room, apply_arms_room, parts_room, apply_inlined, inlined}
+use Rattle.apply_inline.specs.Inlining.{word_has, value_has, is_part_tag, part_tags_of, others_of, with_one_more, apply_body, part_body, apply_arm, apply_arms, else_fail, apply_act, apply_code, apply_all, apply_procs, apply_act_room, apply_code_room, apply_arms_room, parts_room, apply_inlined, inlined}
 
 nat_eq-refl : (x : ℕ) → nat_eq x x ≡ true
 nat_eq-refl x = grind (arith, nat_tests)
@@ -236,7 +236,7 @@ module _ (p : Program) (A B : Solution) (same : (q : Place) (part : Part) (u : A
   value_has_same (VectorVal (a ∷ ws)) t = ap (λ b. b && is_some_and (slice_get p.tags t) (λ i. nat_le i.fields (length ws))) (word_has_same t a)
   value_has_same (OneVal a) t = ap (λ b. b && is_some_and (slice_get p.tags t) (λ i. nat_eq i.fields 0)) (word_has_same t a)
 
-  parts_same : (v : V.Val) → parts_of p A v ≡ parts_of p B v
+  parts_same : (v : V.Val) → part_tags_of p A v ≡ part_tags_of p B v
   parts_same v = those_same _ _ (λ t. ap (λ b. b && is_part_tag p A t) (value_has_same v t)) 0 (length p.tags)
 
   others_same : (v : V.Val) → others_of p A v ≡ others_of p B v
@@ -250,7 +250,7 @@ module _ (p : Program) (A B : Solution) (same : (q : Place) (part : Part) (u : A
     unfolding apply_act_room
 
     apply_act_room_same : (o : Act) → apply_act_room p A o ≡ apply_act_room p B o
-    apply_act_room_same (apply v a) = ap (parts_room p A) (parts_same v) ∙ parts_room_same (parts_of p B v)
+    apply_act_room_same (apply v a) = ap (parts_room p A) (parts_same v) ∙ parts_room_same (part_tags_of p B v)
     apply_act_room_same (case v as') = apply_arms_room_same as'
     apply_act_room_same (nested b) = apply_code_room_same b
     apply_act_room_same (eval a) = refl
@@ -304,7 +304,7 @@ module _ (p : Program) (A B : Solution) (same : (q : Place) (part : Part) (u : A
     unfolding apply_act
 
     apply_act_same : (x : ℕ) (o : Act) → apply_act p A x o ≡ apply_act p B x o
-    apply_act_same x (apply v a) = ap (case v) ((λ i. apply_arms p A a x (parts_same v i) (else_fail p A (others_same v i))) ∙ (ap (apply_arms p A a x (parts_of p B v)) (else_same (others_of p B v)) ∙ apply_arms_same a x (parts_of p B v) (else_fail p B (others_of p B v))))
+    apply_act_same x (apply v a) = ap (case v) ((λ i. apply_arms p A a x (parts_same v i) (else_fail p A (others_same v i))) ∙ (ap (apply_arms p A a x (part_tags_of p B v)) (else_same (others_of p B v)) ∙ apply_arms_same a x (part_tags_of p B v) (else_fail p B (others_of p B v))))
     apply_act_same x (case v as') = ap (case v) (apply_all_same x as')
     apply_act_same x (nested b) = ap nested (apply_code_same x b)
     apply_act_same x (eval a) = refl

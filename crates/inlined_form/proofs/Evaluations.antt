@@ -15,7 +15,7 @@ use Rattle.grin_meaning.specs.Run.{is_fun_kind, is_some_and}
 use Rattle.flow_system.specs.Solution.{Solution}
 use Rattle.eval_inline.specs.Inlining.{call_body, eval_body, eval_arms, evaluation, eval_bound, eval_ended, eval_act, eval_code, eval_all, eval_procs, eval_inlined, act_room, code_room, tags_of}
 use Rattle.inlined_form.proofs.Sorts.{Sort, anything, a_node, evaluated, Sorts, nothing_known, sorted, vars_sorted, cells_sorted, target_sorted, sort_of, IsNode, TargetFits, ScrutineeFits, delayed, alternative_sorted, ActFits, CodeFits, ArmsFit, ProcedureFits, ProgramFits}
-use Rattle.inlined_form.proofs.Knows.{Knows, knows_self, knows_cells, knows_target, knows_alternative, kept_known, all_known, scrutinee_known, given_known, fresh_known, Unknown, unknown_vars, unknown_cells, unknown_target, unknown_alternative}
+use Rattle.inlined_form.proofs.MoreSorts.{KnowsNoMore, knows_self, knows_cells, knows_target, knows_alternative, kept_known, all_known, scrutinee_known, given_known, fresh_known, Unknown, unknown_vars, unknown_cells, unknown_target, unknown_alternative}
 
 itself : (x : ℕ) → nat_eq x x ≡ true
 itself x = grind (arith, nat_tests)
@@ -65,13 +65,13 @@ module _ (p : Program) (A : Solution) where
   unfolding ActFits
   case_fits a x Γ = (subst IsNode (sym (has_sort x a_node Γ)) tt, arms_fit a x (suc x) (tags_of p A a) (sorted x a_node Γ) (omega arith))
 
-  bound_fits : (x : ℕ) (t : Target) (o : Act) (b : Code) (Γ Γ' : Sorts) → Knows Γ Γ' → Γ x ≡ anything → TargetFits t (sort_of o) → (IsNotEval o → (Γ' : Sorts) → Knows Γ Γ' → ActFits p.tags ⊥ (Unit {0}) Γ' (eval_act p A x o))
-      → ((Γ' : Sorts) → Knows (target_sorted t (sort_of o) Γ) Γ' → CodeFits p.tags ⊥ (Unit {0}) Γ' b) → CodeFits p.tags ⊥ (Unit {0}) Γ' (eval_bound p A x t (eval_act p A x o) b)
+  bound_fits : (x : ℕ) (t : Target) (o : Act) (b : Code) (Γ Γ' : Sorts) → KnowsNoMore Γ Γ' → Γ x ≡ anything → TargetFits t (sort_of o) → (IsNotEval o → (Γ' : Sorts) → KnowsNoMore Γ Γ' → ActFits p.tags ⊥ (Unit {0}) Γ' (eval_act p A x o))
+      → ((Γ' : Sorts) → KnowsNoMore (target_sorted t (sort_of o) Γ) Γ' → CodeFits p.tags ⊥ (Unit {0}) Γ' b) → CodeFits p.tags ⊥ (Unit {0}) Γ' (eval_bound p A x t (eval_act p A x o) b)
   unfolding ActFits eval_act
   bound_fits x t (eval a) b Γ Γ' k new ht ho hb = (tt, tt, (ht, case_fits a x Γ', hb _ (knows_target t evaluated Γ (sorted x a_node Γ') (fresh_known Γ Γ' k x a_node new))))
   bound_fits x t o b Γ Γ' k new ht ho hb = (ht, ho tt Γ' k, hb _ (knows_target t (sort_of o) Γ Γ' k))
 
-  ended_fits : (x : ℕ) (o : Act) (Γ Γ' : Sorts) → Knows Γ Γ' → Γ x ≡ anything → sort_of o ≡ evaluated → (IsNotEval o → (Γ' : Sorts) → Knows Γ Γ' → ActFits p.tags ⊥ (Unit {0}) Γ' (eval_act p A x o))
+  ended_fits : (x : ℕ) (o : Act) (Γ Γ' : Sorts) → KnowsNoMore Γ Γ' → Γ x ≡ anything → sort_of o ≡ evaluated → (IsNotEval o → (Γ' : Sorts) → KnowsNoMore Γ Γ' → ActFits p.tags ⊥ (Unit {0}) Γ' (eval_act p A x o))
       → CodeFits p.tags ⊥ (Unit {0}) Γ' (eval_ended p A x (eval_act p A x o))
   unfolding ActFits eval_act
   ended_fits x (eval a) Γ Γ' k new hs ho = (tt, tt, (refl, case_fits a x Γ'))
@@ -82,7 +82,7 @@ module _ (p : Program) (A : Solution) where
     mutual
       unfolding ActFits eval_act past_act
 
-      act_fits : (o : Act) (x : ℕ) (Γ Γ' : Sorts) → x0 ≤ x → past_act o ≤ x0 → Unknown x0 Γ → Knows Γ Γ' → IsNotEval o → ActFits p.tags (Unit {0}) (Unit {0}) Γ o → ActFits p.tags ⊥ (Unit {0}) Γ' (eval_act p A x o)
+      act_fits : (o : Act) (x : ℕ) (Γ Γ' : Sorts) → x0 ≤ x → past_act o ≤ x0 → Unknown x0 Γ → KnowsNoMore Γ Γ' → IsNotEval o → ActFits p.tags (Unit {0}) (Unit {0}) Γ o → ActFits p.tags ⊥ (Unit {0}) Γ' (eval_act p A x o)
       act_fits (unit v) x Γ Γ' fresh past u k ne h = given_known Γ Γ' k p.tags v h
       act_fits (fetch a) x Γ Γ' fresh past u k ne h = tt
       act_fits (fetch_word a i) x Γ Γ' fresh past u k ne h = h
@@ -97,7 +97,7 @@ module _ (p : Program) (A : Solution) where
       act_fits (nested b) x Γ Γ' fresh past u k ne h = code_fits b x Γ Γ' fresh past u k h
       act_fits fail x Γ Γ' fresh past u k ne h = tt
 
-      code_fits : (b : Code) (x : ℕ) (Γ Γ' : Sorts) → x0 ≤ x → past_code b ≤ x0 → Unknown x0 Γ → Knows Γ Γ' → CodeFits p.tags (Unit {0}) (Unit {0}) Γ b → CodeFits p.tags ⊥ (Unit {0}) Γ' (eval_code p A x b)
+      code_fits : (b : Code) (x : ℕ) (Γ Γ' : Sorts) → x0 ≤ x → past_code b ≤ x0 → Unknown x0 Γ → KnowsNoMore Γ Γ' → CodeFits p.tags (Unit {0}) (Unit {0}) Γ b → CodeFits p.tags ⊥ (Unit {0}) Γ' (eval_code p A x b)
       code_fits (end o) x Γ Γ' fresh past u k h = ended_fits x o Γ Γ' k (u x fresh) h.0 (λ ne Γ' k. act_fits o x Γ Γ' fresh past u k ne h.1)
       code_fits (store cs b) x Γ Γ' fresh past u k h =
           let k' = knows_cells cs Γ Γ' k in
@@ -105,7 +105,7 @@ module _ (p : Program) (A : Solution) where
       code_fits (bind t o b) x Γ Γ' fresh past u k h = bound_fits x t o _ Γ Γ' k (u x fresh) h.0 (λ ne Γ' k. act_fits o x Γ Γ' fresh (omega arith) u k ne h.1)
           (λ Γ' k. code_fits b (x + act_room p A o) (target_sorted t (sort_of o) Γ) Γ' (omega arith) (omega arith) (unknown_target x0 t (sort_of o) Γ (omega arith) u) k h.2)
 
-      all_fit : (as' : Arms) (x : ℕ) (v : V.Val) (Γ Γ' : Sorts) → x0 ≤ x → past_arms as' ≤ x0 → Unknown x0 Γ → Knows Γ Γ' → ScrutineeFits Γ v → ArmsFit p.tags (Unit {0}) (Unit {0}) Γ v as' → ArmsFit p.tags ⊥ (Unit {0}) Γ' v (eval_all p A x as')
+      all_fit : (as' : Arms) (x : ℕ) (v : V.Val) (Γ Γ' : Sorts) → x0 ≤ x → past_arms as' ≤ x0 → Unknown x0 Γ → KnowsNoMore Γ Γ' → ScrutineeFits Γ v → ArmsFit p.tags (Unit {0}) (Unit {0}) Γ v as' → ArmsFit p.tags ⊥ (Unit {0}) Γ' v (eval_all p A x as')
       all_fit no_arm x v Γ Γ' fresh past u k hv h = tt
       all_fit (arm s b as') x v Γ Γ' fresh past u k hv h = (
         code_fits b x (alternative_sorted p.tags s v Γ) (alternative_sorted p.tags s v Γ') fresh (omega arith) (unknown_alternative p.tags x0 s v Γ (omega arith) hv u) (knows_alternative p.tags s v Γ Γ' k) h.0,

@@ -15,7 +15,7 @@ use Rattle.grin_meaning.specs.Ready.{most_fields}
 use Rattle.flow_system.specs.Solution.{Solution}
 use Rattle.apply_inline.specs.Size.{val_size, target_size, cells_size, shape_size, act_size, code_size, arms_size, procedure_size, total, size}
 use Rattle.eval_inline.specs.Inlining.{those, call_body, eval_body, eval_arms, evaluation, eval_bound, eval_ended, eval_act, eval_code, eval_all, eval_procs, eval_inlined, act_room, code_room, tags_of}
-use Rattle.apply_inline.specs.Inlining.{with_one_more, apply_body, part_body, apply_arms, parts_of, others_of, else_fail, apply_act, apply_code, apply_all, apply_procs, apply_act_room, apply_code_room, inlined}
+use Rattle.apply_inline.specs.Inlining.{with_one_more, apply_body, part_body, apply_arms, part_tags_of, others_of, else_fail, apply_act, apply_code, apply_all, apply_procs, apply_act_room, apply_code_room, inlined}
 
 -- ---- numbers
 
@@ -172,11 +172,11 @@ module _ (p : Program) (A : Solution) where
   last_size [] = omega arith
   last_size (k ∷ ks) = omega arith
 
-  applied_size : (v : Val) (a : Word) (x : ℕ) → act_size (case v (apply_arms p A a x (parts_of p A v) (else_fail p A (others_of p A v)))) ≤ G * act_size (apply v a)
+  applied_size : (v : Val) (a : Word) (x : ℕ) → act_size (case v (apply_arms p A a x (part_tags_of p A v) (else_fail p A (others_of p A v)))) ≤ G * act_size (apply v a)
   unfolding act_size
   applied_size v a x =
-      let few = more_times (length (parts_of p A v)) (length p.tags) M (those_few _ 0 (length p.tags)) in
-      omega (arith, apply_arms_size a x (parts_of p A v) (else_fail p A (others_of p A v)), last_size (others_of p A v), few, mul-add G 2 (val_size v), large (val_size v), more_times 1 2 G (omega arith))
+      let few = more_times (length (part_tags_of p A v)) (length p.tags) M (those_few _ 0 (length p.tags)) in
+      omega (arith, apply_arms_size a x (part_tags_of p A v) (else_fail p A (others_of p A v)), last_size (others_of p A v), few, mul-add G 2 (val_size v), large (val_size v), more_times 1 2 G (omega arith))
 
   mutual
     unfolding act_size apply_act

@@ -1,7 +1,7 @@
 pub mod Sorts
-pub mod Goes
+pub mod ResultsAreNodes
 pub mod RunsWell
-pub mod Knows
+pub mod MoreSorts
 pub mod Evaluations
 pub mod Applications
 pub mod Texts

@@ -19,7 +19,7 @@ use Rattle.grin_meaning.specs.Ready.{IsDelayed, NumberThenZeros, Given, ValFille
 use Rattle.flow_system.proofs.Lying.{from_some}
 use Rattle.grin_translate.proofs.Places.{all_append}
 use Rattle.inlined_form.proofs.Sorts.{Sort, evaluated, Sorts, nothing_known, vars_sorted, cells_sorted, target_sorted, sort_of, IsNode, KeptFits, delayed, GivenFits, alternative_sorted, ActFits, CodeFits, ArmsFit, ProcedureFits, ProgramFits}
-use Rattle.inlined_form.proofs.Goes.{all_get, OneNumber, PlainCell, HasSort, Fine, Fits, words_more, places_more, all_kept, Goes, target_more, IsOn, FitGoes, pattern_more, scrutinee, act_goes, calls_go, start_fine}
+use Rattle.inlined_form.proofs.ResultsAreNodes.{all_get, OneNumber, PlainCell, HasSort, Fine, Fits, words_more, places_more, all_kept, GivesSort, target_more, IsOn, FitGoes, pattern_more, scrutinee, act_goes, calls_go, start_fine}
 
 module _ (p : Program) (pf : ProgramFits ⊥ ⊥ p) (i : List ℕ) (n : ℕ) where
   -- a piece with the sorts that it fits, in a state that fits them
@@ -45,8 +45,8 @@ module _ (p : Program) (pf : ProgramFits ⊥ ⊥ p) (i : List ℕ) (n : ℕ) whe
     arms_fit : ArmsFit p.tags ⊥ ⊥ sorts val as'
     fine : Fine p w
 
-  goes_on : (s : Sort) (a : Answer) (v : Value) (w : World) → Goes p s a → a ≡ gives v w → Fine p w × HasSort p s v
-  goes_on s a v w g e = subst (Goes p s) e g
+  goes_on : (s : Sort) (a : Answer) (v : Value) (w : World) → GivesSort p s a → a ≡ gives v w → Fine p w × HasSort p s v
+  goes_on s a v w g e = subst (GivesSort p s) e g
 
   after_store : (env : Env) (cs : List Cell) (b : Code) (w : World) (hs : List HeapCell) → BlockHere env (store cs b) w → cells_of p (with_vars (places (length w.cells) cs) env) cs ≡ Some hs
       → BlockHere (with_vars (places (length w.cells) cs) env) b (passing (with_vars (places (length w.cells) cs) env) (with_cells hs w))

@@ -11,7 +11,7 @@ use Rattle.flow_system.specs.declared.fact.Place.{Place}
 use Rattle.flow_system.specs.declared.fact.Place.TheVariants.{Site as site, Var as var, Result as result}
 use Rattle.flow_system.specs.declared.fact.Part.{Part}
 use Rattle.flow_system.specs.declared.fact.Part.TheVariants.{Tags as tags, Field as field, Word as word}
-use Rattle.flow_system.specs.Inclusions.{Source, value, a_cell, a_number, held, nodes_at, word_at, evaluated, extended, arguments, Sink, to, into, cells_at, Inclusion, flows, forces, applies}
+use Rattle.flow_system.specs.Inclusions.{Source, value, a_cell, a_number, held, nodes_at, word_at, evaluated, extended, arguments, Sink, to, into_site, into_result, cells_at, Inclusion, flows, forces, applies}
 use Rattle.flow_system.specs.Tables.{Tables, fields_of, params_of}
 use Rattle.flow_system.specs.Solution.{width}
 use Rattle.points_to.specs.declared.facts.Item.{Item}
@@ -116,9 +116,8 @@ module _ (p : Tables) (H H' : Place → List Item) where
 
   same_asked : (k : Option ℕ) (X : List Item) (s : Sink) → Agree H H' (sink_reads s) → asked p H' k X s ≡ asked p H k X s
   same_asked k X (to t) g = refl
-  same_asked k X (into (site s)) g = refl
-  same_asked k X (into (var x)) g = refl
-  same_asked k X (into (result f)) g = refl
+  same_asked k X (into_site s) g = refl
+  same_asked k X (into_result f) g = refl
   same_asked k X (cells_at w) g = ap (flat_map (cell_facts (as_nodes p k X))) (same_elements w g)
 
   same_flow : (s : Source) (k : Sink) → Agree H H' (source_reads p H s) → Agree H H' (sink_reads k) → flow_facts p H' s k ≡ flow_facts p H s k
@@ -144,8 +143,8 @@ module _ (p : Tables) (H H' : Place → List Item) where
       go : (f : Option ℕ) → Agree H H' (result_reads f) → delayed_facts p H' s t f ≡ delayed_facts p H s t f
       go None h = refl
       go (Some f) h =
-          ap (λ l. l ++ flow_facts p H' (evaluated (held (result f))) (into (site s))) (same_flow (arguments (held (site s)) t []) (to (params_of p f)) (and_none (site s ∷ []) g) none)
-          ∙ ap (λ l. flow_facts p H (arguments (held (site s)) t []) (to (params_of p f)) ++ l) (same_flow (evaluated (held (result f))) (into (site s)) h none)
+          ap (λ l. l ++ flow_facts p H' (evaluated (held (result f))) (into_site s)) (same_flow (arguments (held (site s)) t []) (to (params_of p f)) (and_none (site s ∷ []) g) none)
+          ∙ ap (λ l. flow_facts p H (arguments (held (site s)) t []) (to (params_of p f)) ++ l) (same_flow (evaluated (held (result f))) (into_site s) h none)
 
   same_applied : (v : Val) (a : Word) (k : Sink) (u : AbstractWord) → Agree H H' (value_reads v ++ (word_reads a ++ sink_reads k)) → Agree H H' (applied_reads p u) → applied p H' v a k u ≡ applied p H v a k u
   same_applied v a k (cell_of s) g h = refl

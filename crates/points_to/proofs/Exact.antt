@@ -9,10 +9,10 @@ use Rattle.flow_system.specs.declared.fact.Place.{Place}
 use Rattle.flow_system.specs.declared.fact.Place.TheVariants.{Site as site, Var as var, Result as result}
 use Rattle.flow_system.specs.declared.fact.Part.{Part}
 use Rattle.flow_system.specs.declared.fact.Part.TheVariants.{Tags as tags, Word as word}
-use Rattle.flow_system.specs.Inclusions.{Source, value, held, evaluated, arguments, Sink, to, into, cells_at, Inclusion, flows, forces, applies}
+use Rattle.flow_system.specs.Inclusions.{Source, value, held, evaluated, arguments, Sink, to, into_site, into_result, cells_at, Inclusion, flows, forces, applies}
 use Rattle.flow_system.specs.Tables.{Tables, params_of}
 use Rattle.flow_system.specs.Solution.{Solution, Sets, At, AsNodes, StandsFor, ValueGives, width, Gives}
-use Rattle.flow_system.specs.Demands.{Asks, of_node_variable, of_variable, of_vector, of_site, of_place, of_result, of_cells, AsksFlow, Demands, by_flow, by_delayed, by_evaluated, by_argument, by_applied}
+use Rattle.flow_system.specs.Demands.{Asks, of_node_variable, of_variable, of_vector, of_site, of_result, of_cells, AsksFlow, Demands, by_flow, by_delayed, by_evaluated, by_argument, by_applied}
 use Rattle.points_to.specs.declared.facts.Item.{Item}
 use Rattle.points_to.specs.declared.facts.Fact.{Fact}
 use Rattle.points_to.specs.Held.{In, item, in_part, picked, elements, value_items, as_word, as_nodes, items, delayed, called}
@@ -54,9 +54,8 @@ module _ (p : Tables) (H : Place → List Item) (A : Solution) where
 
       asked_means : (s : Sink) (f : Fact) → In f (asked p H k X s) → Asks p A k S s f.place f.item.part f.item.word
       asked_means (to t) f h = target_means t f h
-      asked_means (into (site s)) f h = at_mean (site s) (as_nodes p k X) (Asks p A k S (into (site s))) (λ part u y. of_site (nodes_mean p X S o k part u y)) f h
-      asked_means (into (var x)) f h = at_mean (var x) X (Asks p A k S (into (var x))) (λ part u y. of_place (o part u y)) f h
-      asked_means (into (result g)) f h = at_mean (result g) X (Asks p A k S (into (result g))) (λ part u y. of_result (o part u y)) f h
+      asked_means (into_site s) f h = at_mean (site s) (as_nodes p k X) (Asks p A k S (into_site s)) (λ part u y. of_site (nodes_mean p X S o k part u y)) f h
+      asked_means (into_result g) f h = at_mean (result g) X (Asks p A k S (into_result g)) (λ part u y. of_result (o part u y)) f h
       asked_means (cells_at w) f h = let r = flat_in (cell_facts (as_nodes p k X)) (elements p H w) h in by r.0 (elements_mean p H A only w r.0 r.1) r.2
         where
           by : (x : AbstractWord) → StandsFor p A w x → In f (cell_facts (as_nodes p k X) x) → Asks p A k S (cells_at w) f.place f.item.part f.item.word
@@ -80,7 +79,7 @@ module _ (p : Tables) (H : Place → List Item) (A : Solution) where
             go None e y = none_in y
             go (Some g) e y = ⊎_elim
                 (λ z. by_delayed x (delayed_is p t g e) (flow_means (arguments (held (site s)) t []) (to (params_of p g)) f z))
-                (λ z. by_evaluated x (delayed_is p t g e) (flow_means (evaluated (held (result g))) (into (site s)) f z))
+                (λ z. by_evaluated x (delayed_is p t g e) (flow_means (evaluated (held (result g))) (into_site s) f z))
                 (in_split (flow_facts p H (arguments (held (site s)) t []) (to (params_of p g))) _ y)
     demands_mean (applies v a k) f h = let r = flat_in (applied p H v a k) (picked tags Y) h in by r.0 (nodes_mean p (value_items p H v) (ValueGives p A v) (value_means p H A only v) (width (value v)) tags r.0 (picked_in tags Y r.1)) r.2
       where
@@ -120,7 +119,6 @@ module _ (p : Tables) (H : Place → List Item) (A : Solution) where
       in_asked s q part u (of_variable {x = x} y) = in_words x (picked (word 0) X) u (in_picked (word 0) X (o (word 0) u y))
       in_asked s q part u (of_vector {xs = xs} {x = x} {j = j} e y) = in_vector xs 0 j j x u (omega arith) e (in_as_word p X S o j u y)
       in_asked s q part u (of_site {s = s'} y) = in_at (site s') (as_nodes p k X) part u (in_nodes p X S o k part u y)
-      in_asked s q part u (of_place {x = x} y) = in_at (var x) X part u (o part u y)
       in_asked s q part u (of_result {f = g} y) = in_at (result g) X part u (o part u y)
       in_asked s q part u (of_cells {a = w} {s = s'} st y) = in_flat (cell_facts (as_nodes p k X)) (elements p H w) (in_elements p H A all w (cell_of s') st) (in_at (site s') (as_nodes p k X) part u (in_nodes p X S o k part u y))
 
@@ -132,7 +130,7 @@ module _ (p : Tables) (H : Place → List Item) (A : Solution) where
     in_demands c q part u (by_delayed {s = s} {t = t} {f = g} x d y) = in_flat (forced p H s) (picked tags (H (site s))) (in_picked tags (H (site s)) (all (site s) tags (tag t) x))
         (subst (λ o. In (fact q (item part u)) (delayed_facts p H s t o)) (sym (is_delayed p t g d)) (in_left _ _ (in_flow (arguments (held (site s)) t []) (to (params_of p g)) q part u y)))
     in_demands c q part u (by_evaluated {s = s} {t = t} {f = g} x d y) = in_flat (forced p H s) (picked tags (H (site s))) (in_picked tags (H (site s)) (all (site s) tags (tag t) x))
-        (subst (λ o. In (fact q (item part u)) (delayed_facts p H s t o)) (sym (is_delayed p t g d)) (in_right (flow_facts p H (arguments (held (site s)) t []) (to (params_of p g))) _ (in_flow (evaluated (held (result g))) (into (site s)) q part u y)))
+        (subst (λ o. In (fact q (item part u)) (delayed_facts p H s t o)) (sym (is_delayed p t g d)) (in_right (flow_facts p H (arguments (held (site s)) t []) (to (params_of p g))) _ (in_flow (evaluated (held (result g))) (into_site s) q part u y)))
     in_demands c q part u (by_argument {v = v} {a = a} {k = k} {t = t} {f = g} x d y) = in_flat (applied p H v a k) (picked tags (as_nodes p (width (value v)) (value_items p H v)))
         (in_picked tags (as_nodes p (width (value v)) (value_items p H v)) (in_nodes p (value_items p H v) (ValueGives p A v) (in_value p H A all v) (width (value v)) tags (tag t) x))
         (subst (λ o. In (fact q (item part u)) (called_facts p H v a k t o)) (sym (is_called p t g d)) (in_left _ _ (in_flow (arguments (value v) t (a ∷ [])) (to (params_of p g)) q part u y)))

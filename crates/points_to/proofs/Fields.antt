@@ -3,7 +3,7 @@ use Rattle.std.proofs.Common.{◌≡◌, ℕ, Bool, true, false, cond, nat_eq, L
 use Rattle.std.specs.List.{flat_map}
 use Rattle.grin_syntax.specs.declared.program.Word.{Word}
 use Rattle.grin_syntax.specs.declared.program.Val.{Val}
-use Rattle.flow_system.specs.Inclusions.{value, held, evaluated, into, Sink, applies}
+use Rattle.flow_system.specs.Inclusions.{value, held, evaluated, into_site, Sink, applies}
 use Rattle.flow_system.specs.Solution.{width}
 use Rattle.flow_system.specs.Tables.{Tables, fields_of, params_of}
 use Rattle.flow_system.specs.declared.fact.Place.{Place}
@@ -79,8 +79,8 @@ longer_from p H a X fields t t' m out one two new e q first second third =
 
 -- a delayed call: its arguments at the parameters, and the evaluated results at the site
 pub delayed_from : (p : Tables) (H : Place → List Item) (X : List Item) (s t f : ℕ) (out one new : List Fact) → X ≡ as_nodes p None (H (Site s)) → one ≡ out ++ target_facts p (Some 1) (call_arguments p H X t []) (params_of p f)
-    → new ≡ one ++ flow_facts p H (evaluated (held (Result f))) (into (Site s)) → new ≡ out ++ delayed_facts p H s t (Some f)
+    → new ≡ one ++ flow_facts p H (evaluated (held (Result f))) (into_site s) → new ≡ out ++ delayed_facts p H s t (Some f)
 delayed_from p H X s t f out one new e first second =
-    let results = flow_facts p H (evaluated (held (Result f))) (into (Site s)) in
+    let results = flow_facts p H (evaluated (held (Result f))) (into_site s) in
     let calls = target_facts p (Some 1) (call_arguments p H (as_nodes p None (H (Site s))) t []) (params_of p f) in
     second ∙ ap (λ l. l ++ results) (first ∙ ap (λ Y. out ++ target_facts p (Some 1) (call_arguments p H Y t []) (params_of p f)) e) ∙ append_assoc out calls results

@@ -14,5 +14,5 @@ pub mod Read
 pub mod TagsInCells
 pub mod Agree
 pub mod Waiting
-pub mod Turns
+pub mod UntilNoneWaits
 pub mod Elsewhere

@@ -11,7 +11,7 @@ use Rattle.flow_system.specs.declared.fact.Element.TheVariants.{Cell as cell_of,
 use Rattle.flow_system.specs.declared.fact.Place.{Place}
 use Rattle.flow_system.specs.declared.fact.Place.TheVariants.{Site as site, Var as var, Result as result}
 use Rattle.flow_system.specs.declared.fact.Part.TheVariants.{Tags as tags, Word as word}
-use Rattle.flow_system.specs.Inclusions.{Source, value, held, evaluated, arguments, Sink, to, into, cells_at, Inclusion, flows, forces, applies}
+use Rattle.flow_system.specs.Inclusions.{Source, value, held, evaluated, arguments, Sink, to, into_site, into_result, cells_at, Inclusion, flows, forces, applies}
 use Rattle.flow_system.specs.Tables.{Tables, params_of}
 use Rattle.flow_system.specs.Solution.{width}
 use Rattle.points_to.specs.declared.facts.Item.{Item}
@@ -46,9 +46,8 @@ module _ (p : Tables) (H : Place → List Item) where
   -- so that the items reach the sink
   abbrev pub asked : Option ℕ → List Item → Sink → List Fact
   asked k X (to t) = target_facts p k X t
-  asked k X (into (site s)) = facts_at (site s) (as_nodes p k X)
-  asked k X (into (var x)) = facts_at (var x) X
-  asked k X (into (result f)) = facts_at (result f) X
+  asked k X (into_site s) = facts_at (site s) (as_nodes p k X)
+  asked k X (into_result f) = facts_at (result f) X
   asked k X (cells_at w) = flat_map (cell_facts (as_nodes p k X)) (elements p H w)
 
   abbrev pub flow_facts : Source → Sink → List Fact
@@ -56,7 +55,7 @@ module _ (p : Tables) (H : Place → List Item) where
 
   abbrev pub delayed_facts : ℕ → ℕ → Option ℕ → List Fact
   delayed_facts s t None = []
-  delayed_facts s t (Some f) = flow_facts (arguments (held (site s)) t []) (to (params_of p f)) ++ flow_facts (evaluated (held (result f))) (into (site s))
+  delayed_facts s t (Some f) = flow_facts (arguments (held (site s)) t []) (to (params_of p f)) ++ flow_facts (evaluated (held (result f))) (into_site s)
 
   abbrev pub forced : ℕ → AbstractWord → List Fact
   forced s (cell_of s') = []

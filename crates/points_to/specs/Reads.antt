@@ -10,7 +10,7 @@ use Rattle.flow_system.specs.declared.fact.Element.TheVariants.{Cell as cell_of,
 use Rattle.flow_system.specs.declared.fact.Place.{Place}
 use Rattle.flow_system.specs.declared.fact.Place.TheVariants.{Site as site, Var as var, Result as result}
 use Rattle.flow_system.specs.declared.fact.Part.TheVariants.{Tags as tags}
-use Rattle.flow_system.specs.Inclusions.{Source, value, a_cell, a_number, held, nodes_at, word_at, evaluated, extended, arguments, Sink, to, into, cells_at, Inclusion, flows, forces, applies}
+use Rattle.flow_system.specs.Inclusions.{Source, value, a_cell, a_number, held, nodes_at, word_at, evaluated, extended, arguments, Sink, to, into_site, into_result, cells_at, Inclusion, flows, forces, applies}
 use Rattle.flow_system.specs.Tables.{Tables}
 use Rattle.flow_system.specs.Solution.{width}
 use Rattle.points_to.specs.declared.facts.Item.{Item}
@@ -30,7 +30,8 @@ value_reads (OneVal w) = word_reads w
 
 abbrev pub sink_reads : Sink → List Place
 sink_reads (to t) = []
-sink_reads (into q) = []
+sink_reads (into_site s) = []
+sink_reads (into_result f) = []
 sink_reads (cells_at w) = word_reads w
 
 abbrev pub cell_reads : AbstractWord → List Place

@@ -2,7 +2,7 @@
 
 ghost use Rattle.std.specs.Prelude.{◌≡◌, ◌++◌, None, Some, OnOk};
 ghost use Rattle.std.specs.List.{flat_map};
-ghost use Rattle.flow_system.specs.Inclusions.{held as held', evaluated, into, forces, applies};
+ghost use Rattle.flow_system.specs.Inclusions.{held as held', evaluated, into_site, forces, applies};
 ghost use Rattle.flow_system.specs.Shown.{tables_of, source_of, sink_of, inclusion_of};
 ghost use Rattle.flow_system.specs.Tables.{params_of};
 ghost use Rattle.points_to.specs.Held.{in_part, as_word, as_nodes, elements, items};
@@ -275,7 +275,7 @@ fn evaluated_results(
 ) -> Result<(), AllocError>
     ensures { OnOk result (out.new ≡ out.old
         ++ flow_facts (tables_of system.now) (held facts.now) (evaluated (held' (Place.Result f)))
-        (into (Place.Site s))) }
+        (into_site s)) }
 {
     let mut given = Seq::new(alloc);
     evaluated_result(alloc, system, facts, f, &mut given)?;

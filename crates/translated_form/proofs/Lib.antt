@@ -8,7 +8,7 @@ pub mod Blocks
 pub mod Bodies
 pub mod Parts
 pub mod Tables
-pub mod Whole
+pub mod TranslationFormed
 pub mod UniqueNumbers
 pub mod UniqueBlocks
 pub mod UniqueTerms

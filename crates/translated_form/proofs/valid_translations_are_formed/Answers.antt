@@ -1,4 +1,4 @@
-use Rattle.translated_form.proofs.Whole.{valid_is_formed, valid_is_started}
+use Rattle.translated_form.proofs.TranslationFormed.{valid_is_formed, valid_is_started}
 use Rattle.translated_form.proofs.valid_translations_are_formed.Goals as goal
 
 pub returns : goal.returns

@@ -1,5 +1,5 @@
 use Rattle.std.proofs.Common.{take}
-use Rattle.arity_raise.specs.Turns.{NoneRaised}
+use Rattle.arity_raise.specs.Deciding.{NoneRaised}
 use Rattle.arity_raise.proofs.decide.all_stay.Given as goal
 
 abbrev pub invariant-loop-at : goal.invariant-loop-at

@@ -6,7 +6,7 @@ use Rattle.elf32.specs.Rules.{Loads}
 use Rattle.low_code.specs.Tree as low
 use Rattle.grin_compile.specs.Limits.{whole_words}
 use Rattle.grin_compile.specs.Parts.{HasLayers}
-use Rattle.grin_compile.proofs.Whole.{compilation, made_by}
+use Rattle.grin_compile.proofs.CompiledProgram.{compilation, made_by}
 use Rattle.grin_compile.proofs.compilation.compile.Goals as goal
 
 pub returns-clause-parts : goal.returns-clause-parts

@@ -1,5 +1,5 @@
 use Rattle.flow_system.specs.Shown.{tables_of, inclusions_of}
-use Rattle.points_to.proofs.Turns.{least_when_none_waits}
+use Rattle.points_to.proofs.UntilNoneWaits.{least_when_none_waits}
 use Rattle.points_to.proofs.worklist.least_facts.Goals as goal
 
 pub returns : goal.returns

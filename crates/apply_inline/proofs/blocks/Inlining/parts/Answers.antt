@@ -1,7 +1,7 @@
 use Rattle.std.proofs.Common.{◌≡◌, ◌+◌, map, take, sym, ap, ◌∙◌}
 use Rattle.std.specs.List.{filter}
 use Rattle.grin_syntax.specs.Tree.{program_of}
-use Rattle.apply_inline.specs.Inlining.{apply_arms, parts_of, parts_room}
+use Rattle.apply_inline.specs.Inlining.{apply_arms, part_tags_of, parts_room}
 use Rattle.points_to.specs.Found.{found}
 use Rattle.apply_inline.specs.Applied.{meets_part}
 use Rattle.apply_inline.proofs.Filtered.{parts_filtered}
@@ -29,7 +29,7 @@ returns-clause-are c =
     let A = found c.args.self.now.known.flow.now in
     let v = c.args.v.now in
     let ts = c.candidates-t-items.result.now in
-    let e : filter (meets_part p A v) (map (λ t. t.0) (take c.loop-t.t-index ts)) ≡ parts_of p A v
+    let e : filter (meets_part p A v) (map (λ t. t.0) (take c.loop-t.t-index ts)) ≡ part_tags_of p A v
     = ap (filter (meets_part p A v)) (map_all (λ t. t.0) ts c.loop-t.t-index c.loop-t-test.false) ∙ sym (parts_filtered p A v (map (λ t. t.0) ts) c.candidates-t-items.ensures) in
     λ last. c.loop-t.invariant.by last ∙ ap (λ l. apply_arms p A c.args.a c.args.fresh.now.next l last) e
 
@@ -39,6 +39,6 @@ returns-clause-next c =
     let A = found c.args.self.now.known.flow.now in
     let v = c.args.v.now in
     let ts = c.candidates-t-items.result.now in
-    let e : filter (meets_part p A v) (map (λ t. t.0) (take c.loop-t.t-index ts)) ≡ parts_of p A v
+    let e : filter (meets_part p A v) (map (λ t. t.0) (take c.loop-t.t-index ts)) ≡ part_tags_of p A v
     = ap (filter (meets_part p A v)) (map_all (λ t. t.0) ts c.loop-t.t-index c.loop-t-test.false) ∙ sym (parts_filtered p A v (map (λ t. t.0) ts) c.candidates-t-items.ensures) in
     c.loop-t.invariant.room ∙ ap (λ l. c.args.fresh.now.next + parts_room p A l) e

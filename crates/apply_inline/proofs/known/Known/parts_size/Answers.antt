@@ -1,7 +1,7 @@
 use Rattle.std.proofs.Common.{◌≡◌, map, take, sym, ap, ◌∙◌, arith}
 use Rattle.std.specs.List.{filter}
 use Rattle.grin_syntax.specs.Tree.{program_of}
-use Rattle.apply_inline.specs.Inlining.{parts_of}
+use Rattle.apply_inline.specs.Inlining.{part_tags_of}
 use Rattle.points_to.specs.Found.{found}
 use Rattle.apply_inline.specs.Applied.{meets_part}
 use Rattle.apply_inline.specs.Expanded.{capped, parts_size}
@@ -29,6 +29,6 @@ returns c =
     let A = found c.args.self.now.flow.now in
     let v = c.args.v.now in
     let ts = c.candidates-t-items.result.now in
-    let e : filter (meets_part p A v) (map (λ t. t.0) (take c.loop-t.t-index ts)) ≡ parts_of p A v
+    let e : filter (meets_part p A v) (map (λ t. t.0) (take c.loop-t.t-index ts)) ≡ part_tags_of p A v
     = ap (filter (meets_part p A v)) (map_all (λ t. t.0) ts c.loop-t.t-index c.loop-t-test.false) ∙ sym (parts_filtered p A v (map (λ t. t.0) ts) c.candidates-t-items.ensures) in
     c.loop-t.invariant ∙ ap (λ l. capped (parts_size p A l)) e

@@ -1,4 +1,4 @@
-use Rattle.points_to.proofs.Turns.{none_added_to, more_added_to, all_added_to}
+use Rattle.points_to.proofs.UntilNoneWaits.{none_added_to, more_added_to, all_added_to}
 use Rattle.points_to.proofs.worklist.Worklist.add_all.Goals as goal
 
 pub loop-fact-init : goal.loop-fact-init

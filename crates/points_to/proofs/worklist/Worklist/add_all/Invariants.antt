@@ -1,5 +1,5 @@
 use Rattle.std.proofs.Common.{take}
-use Rattle.points_to.proofs.Turns.{AddedTo}
+use Rattle.points_to.proofs.UntilNoneWaits.{AddedTo}
 use Rattle.points_to.proofs.worklist.Worklist.add_all.Given as goal
 
 abbrev pub invariant-loop-fact : goal.invariant-loop-fact

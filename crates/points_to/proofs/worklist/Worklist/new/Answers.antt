@@ -1,6 +1,6 @@
 use Rattle.std.proofs.Common.{arith}
 use Rattle.flow_system.specs.Shown.{tables_of, inclusions_of}
-use Rattle.points_to.proofs.Turns.{stands_at_first, shown_within}
+use Rattle.points_to.proofs.UntilNoneWaits.{stands_at_first, shown_within}
 use Rattle.points_to.proofs.worklist.Worklist.new.Goals as goal
 
 pub returns : goal.returns

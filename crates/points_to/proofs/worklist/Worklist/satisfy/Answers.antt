@@ -1,5 +1,5 @@
 use Rattle.flow_system.specs.Shown.{tables_of, inclusion_of}
-use Rattle.points_to.proofs.Turns.{satisfies}
+use Rattle.points_to.proofs.UntilNoneWaits.{satisfies}
 use Rattle.points_to.proofs.worklist.Worklist.satisfy.Goals as goal
 
 pub returns : goal.returns

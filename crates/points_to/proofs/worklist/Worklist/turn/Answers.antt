@@ -1,6 +1,6 @@
 use Rattle.std.proofs.Common.{refl, sym}
 use Rattle.flow_system.specs.Shown.{tables_of, inclusions_of, inclusion_of}
-use Rattle.points_to.proofs.Turns.{stands_on, stands_past, stands_still, shown_some, shown_none}
+use Rattle.points_to.proofs.UntilNoneWaits.{stands_on, stands_past, stands_still, shown_some, shown_none}
 use Rattle.points_to.proofs.worklist.Worklist.turn.Goals as goal
 
 pub returns-in-None-get-clause-stands : goal.returns-in-None-get-clause-stands

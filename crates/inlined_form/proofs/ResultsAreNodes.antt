@@ -164,22 +164,23 @@ module _ (p : Program) where
 
   -- ---- answers
 
-  abbrev pub Goes : Sort → Answer → Type 0
-  Goes s (gives v w) = Fine w × HasSort p s v
-  Goes s (stops r w) = Unit {0}
+  -- a value that is given has the sort, and the world is fine
+  abbrev pub GivesSort : Sort → Answer → Type 0
+  GivesSort s (gives v w) = Fine w × HasSort p s v
+  GivesSort s (stops r w) = Unit {0}
 
-  need_goes : {B : Type 0} (P : B → Type 0) (s : Sort) (w : World) (o : Option B) (k : B → Answer) → IfSome o P → ((x : B) → P x → Goes s (k x)) → Goes s (need o w k)
+  need_goes : {B : Type 0} (P : B → Type 0) (s : Sort) (w : World) (o : Option B) (k : B → Answer) → IfSome o P → ((x : B) → P x → GivesSort s (k x)) → GivesSort s (need o w k)
   need_goes P s w None k h f = tt
   need_goes P s w (Some x) k h f = f x h
 
-  need_is : {B : Type 0} (s : Sort) (w : World) (o : Option B) (k : B → Answer) → ((x : B) → o ≡ Some x → Goes s (k x)) → Goes s (need o w k)
+  need_is : {B : Type 0} (s : Sort) (w : World) (o : Option B) (k : B → Answer) → ((x : B) → o ≡ Some x → GivesSort s (k x)) → GivesSort s (need o w k)
   need_is s w o k f = need_goes (λ x. o ≡ Some x) s w o k (if_is (λ x. o ≡ Some x) o (λ a e. e)) f
 
-  then_goes : (s s' : Sort) (a : Answer) (k : Value → World → Answer) → Goes s a → ((v : Value) (w : World) → Fine w → HasSort p s v → Goes s' (k v w)) → Goes s' (then_do a k)
+  then_goes : (s s' : Sort) (a : Answer) (k : Value → World → Answer) → GivesSort s a → ((v : Value) (w : World) → Fine w → HasSort p s v → GivesSort s' (k v w)) → GivesSort s' (then_do a k)
   then_goes s s' (gives v w) k g f = f v w g.0 g.1
   then_goes s s' (stops r w) k g f = tt
 
-  spend_goes : (s : Sort) (left : ℕ) (w : World) (k : ℕ → Answer) → ((m : ℕ) → Goes s (k m)) → Goes s (spend left w k)
+  spend_goes : (s : Sort) (left : ℕ) (w : World) (k : ℕ → Answer) → ((m : ℕ) → GivesSort s (k m)) → GivesSort s (spend left w k)
   spend_goes s zero w k f = tt
   spend_goes s (suc m) w k f = f m
 
@@ -250,7 +251,7 @@ module _ (p : Program) where
       by_tag true e = fields_goes Γ' env (known (delayed p.tags t.0) refl (grind (arith, nat_tests))) xs n.fields
       by_tag false e = tt
 
-  choose_goes : (s : Sort) (Γ : Sorts) (env : Env) (f : Fit) (w : World) (k : List Binding → Answer) (other : Answer) → FitGoes Γ env f → ((bs : List Binding) → Fits Γ (with_vars bs env) → Goes s (k bs)) → Goes s other → Goes s (choose f w k other)
+  choose_goes : (s : Sort) (Γ : Sorts) (env : Env) (f : Fit) (w : World) (k : List Binding → Answer) (other : Answer) → FitGoes Γ env f → ((bs : List Binding) → Fits Γ (with_vars bs env) → GivesSort s (k bs)) → GivesSort s other → GivesSort s (choose f w k other)
   choose_goes s Γ env (fits bs) w k other h f o = f bs h
   choose_goes s Γ env fits_not w k other h f o = o
   choose_goes s Γ env unclear w k other h f o = tt
@@ -271,20 +272,20 @@ module _ (p : Program) where
   calculated f (tag t) y = tt
   calculated f (cell a) y = tt
 
-  reading_goes : (bs : List ℕ) (w : World) → Fine w → Goes a_number (gives (words (number (byte_or_end bs) ∷ [])) (after_read bs w))
+  reading_goes : (bs : List ℕ) (w : World) → Fine w → GivesSort a_number (gives (words (number (byte_or_end bs) ∷ [])) (after_read bs w))
   reading_goes [] w g = (g, tt)
   reading_goes (b ∷ bs) w g = (record { plain = g.plain }, tt)
 
   -- ---- operations, blocks and alternatives
 
   pub record CallsGo (c : Calls) : Type 0 where
-    pub by : (f : ℕ) (xs : List Datum) (d : ℕ) (w : World) → Fine w → Goes evaluated (c f xs d w)
+    pub by : (f : ℕ) (xs : List Datum) (d : ℕ) (w : World) → Fine w → GivesSort evaluated (c f xs d w)
 
   module _ (c : Calls) (cg : CallsGo c) where
     mutual
       unfolding act ActFits
 
-      pub act_goes : (o : Act) (Γ : Sorts) (env : Env) (d : ℕ) (w : World) → Fine w → Fits Γ env → ActFits p.tags ⊥ ⊥ Γ o → Goes (sort_of o) (act p c env d o w)
+      pub act_goes : (o : Act) (Γ : Sorts) (env : Env) (d : ℕ) (w : World) → Fine w → Fits Γ env → ActFits p.tags ⊥ ⊥ Γ o → GivesSort (sort_of o) (act p c env d o w)
       act_goes (unit v) Γ env d w g f h = need_goes (HasSort p evaluated) evaluated w (value_of p env v) _ (given_there Γ env f v h) (λ x l. (g, l))
       act_goes (fetch a) Γ env d w g f h = need_is a_node w (and_then (word_of p env a) place_of) _ (λ i _. need_goes PlainCell a_node w (slice_get w.cells i) _ (all_get PlainCell w.cells g.plain i) (λ x l. (g, l)))
       act_goes (fetch_word a j) Γ env d w g f h = absurd h
@@ -297,12 +298,12 @@ module _ (p : Program) where
       act_goes read Γ env d w g f h = reading_goes w.input w g
       act_goes (write a) Γ env d w g f h = need_is anything w (and_then (word_of p env a) number_of) _ (λ k _. (record { plain = g.plain }, tt))
       act_goes (case v as') Γ env d w g f h = need_goes (λ x. (n : Node) × (x ≡ node n) × IsOn env v n) evaluated w (value_of p env v) _ (scrutinee Γ env f v h.0)
-          (λ x q. subst (λ x. Goes evaluated (arms p c env d x as' w)) (sym q.1) (arms_go as' Γ env v q.0 d w q.2 g f h.1))
+          (λ x q. subst (λ x. GivesSort evaluated (arms p c env d x as' w)) (sym q.1) (arms_go as' Γ env v q.0 d w q.2 g f h.1))
       act_goes (nested b) Γ env d w g f h = code_goes b Γ env d w g f h
       act_goes fail Γ env d w g f h = tt
 
-      pub code_goes : (b : Code) (Γ : Sorts) (env : Env) (d : ℕ) (w : World) → Fine w → Fits Γ env → CodeFits p.tags ⊥ ⊥ Γ b → Goes evaluated (code p c env d b w)
-      code_goes (end o) Γ env d w g f h = subst (λ s. Goes s (act p c env d o w)) h.0 (act_goes o Γ env d w g f h.1)
+      pub code_goes : (b : Code) (Γ : Sorts) (env : Env) (d : ℕ) (w : World) → Fine w → Fits Γ env → CodeFits p.tags ⊥ ⊥ Γ b → GivesSort evaluated (code p c env d b w)
+      code_goes (end o) Γ env d w g f h = subst (λ s. GivesSort s (act p c env d o w)) h.0 (act_goes o Γ env d w g f h.1)
       code_goes (store cs b) Γ env d w g f h =
           let env' = with_vars (places (length w.cells) cs) env in
           let f' : Fits (cells_sorted cs Γ) env' = places_more cs (length w.cells) Γ env f in
@@ -312,7 +313,7 @@ module _ (p : Program) where
           (λ v w' g' hv. need_goes (λ bs. Fits (target_sorted t (sort_of o) Γ) (with_vars bs env)) evaluated w' (bindings_of p t v) _ (target_more t (sort_of o) Γ env v h.0 f hv)
           (λ bs f'. code_goes b (target_sorted t (sort_of o) Γ) (with_vars bs env) d (passing (with_vars bs env) w') (record { plain = g'.plain }) f' h.2))
 
-      pub arms_go : (as' : Arms) (Γ : Sorts) (env : Env) (v : V.Val) (n : Node) (d : ℕ) (w : World) → IsOn env v n → Fine w → Fits Γ env → ArmsFit p.tags ⊥ ⊥ Γ v as' → Goes evaluated (arms p c env d (node n) as' w)
+      pub arms_go : (as' : Arms) (Γ : Sorts) (env : Env) (v : V.Val) (n : Node) (d : ℕ) (w : World) → IsOn env v n → Fine w → Fits Γ env → ArmsFit p.tags ⊥ ⊥ Γ v as' → GivesSort evaluated (arms p c env d (node n) as' w)
       arms_go no_arm Γ env v n d w on g f h = tt
       arms_go (arm s b as') Γ env v n d w on g f h = choose_goes evaluated (alternative_sorted p.tags s v Γ) env (fit_of p s (node n)) w _ _ (pattern_more s v Γ env n on f)
           (λ bs f'. code_goes b (alternative_sorted p.tags s v Γ) (with_vars bs env) d (passing (with_vars bs env) w) (record { plain = g.plain }) f' h.0)

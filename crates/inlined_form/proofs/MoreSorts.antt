@@ -48,46 +48,47 @@ less_node a_number r h e = absurd e
 less_node a_node r h e = rw h tt
 less_node evaluated r h e = rw h tt
 
-abbrev pub Knows : Sorts → Sorts → Type 0
-Knows Γ Γ' = (y : ℕ) → Less (Γ y) (Γ' y)
+-- of no variable does the first know more than the second
+abbrev pub KnowsNoMore : Sorts → Sorts → Type 0
+KnowsNoMore Γ Γ' = (y : ℕ) → Less (Γ y) (Γ' y)
 
-pub knows_self : (Γ : Sorts) → Knows Γ Γ
+pub knows_self : (Γ : Sorts) → KnowsNoMore Γ Γ
 knows_self Γ y = less_self (Γ y)
 
-knows_sorted : (x : ℕ) (s : Sort) (Γ Γ' : Sorts) → Knows Γ Γ' → Knows (sorted x s Γ) (sorted x s Γ')
+knows_sorted : (x : ℕ) (s : Sort) (Γ Γ' : Sorts) → KnowsNoMore Γ Γ' → KnowsNoMore (sorted x s Γ) (sorted x s Γ')
 knows_sorted x s Γ Γ' k y = on (nat_eq y x)
   where
     on : (b : Bool) → Less (cond b s (Γ y)) (cond b s (Γ' y))
     on true = less_self s
     on false = k y
 
-pub knows_vars : (xs : List VarId) (Γ Γ' : Sorts) → Knows Γ Γ' → Knows (vars_sorted xs Γ) (vars_sorted xs Γ')
+pub knows_vars : (xs : List VarId) (Γ Γ' : Sorts) → KnowsNoMore Γ Γ' → KnowsNoMore (vars_sorted xs Γ) (vars_sorted xs Γ')
 knows_vars [] Γ Γ' k = k
 knows_vars (x ∷ xs) Γ Γ' k = knows_vars xs (sorted x.0 anything Γ) (sorted x.0 anything Γ') (knows_sorted x.0 anything Γ Γ' k)
 
-pub knows_cells : (cs : List Cell) (Γ Γ' : Sorts) → Knows Γ Γ' → Knows (cells_sorted cs Γ) (cells_sorted cs Γ')
+pub knows_cells : (cs : List Cell) (Γ Γ' : Sorts) → KnowsNoMore Γ Γ' → KnowsNoMore (cells_sorted cs Γ) (cells_sorted cs Γ')
 knows_cells [] Γ Γ' k = k
 knows_cells (c ∷ cs) Γ Γ' k = knows_cells cs (sorted c.var.0 anything Γ) (sorted c.var.0 anything Γ') (knows_sorted c.var.0 anything Γ Γ' k)
 
-pub knows_target : (t : Target) (s : Sort) (Γ Γ' : Sorts) → Knows Γ Γ' → Knows (target_sorted t s Γ) (target_sorted t s Γ')
+pub knows_target : (t : Target) (s : Sort) (Γ Γ' : Sorts) → KnowsNoMore Γ Γ' → KnowsNoMore (target_sorted t s Γ) (target_sorted t s Γ')
 knows_target to.Nothing s Γ Γ' k = k
 knows_target (to.Node x) s Γ Γ' k = knows_sorted x.0 s Γ Γ' k
 knows_target (to.One x) s Γ Γ' k = knows_sorted x.0 s Γ Γ' k
 knows_target (to.Vector xs) s Γ Γ' k = k
 
-pub knows_alternative : (ts : List Tag) (s : Shape) (v : Val) (Γ Γ' : Sorts) → Knows Γ Γ' → Knows (alternative_sorted ts s v Γ) (alternative_sorted ts s v Γ')
+pub knows_alternative : (ts : List Tag) (s : Shape) (v : Val) (Γ Γ' : Sorts) → KnowsNoMore Γ Γ' → KnowsNoMore (alternative_sorted ts s v Γ) (alternative_sorted ts s v Γ')
 knows_alternative ts shape.Else v Γ Γ' k = k
 knows_alternative ts (shape.Int i) v Γ Γ' k = k
 knows_alternative ts (shape.Node t xs) (NodeVar x) Γ Γ' k = on (delayed ts t.0)
   where
-    on : (b : Bool) → Knows (vars_sorted xs (cond b Γ (sorted x.0 evaluated Γ))) (vars_sorted xs (cond b Γ' (sorted x.0 evaluated Γ')))
+    on : (b : Bool) → KnowsNoMore (vars_sorted xs (cond b Γ (sorted x.0 evaluated Γ))) (vars_sorted xs (cond b Γ' (sorted x.0 evaluated Γ')))
     on true = knows_vars xs Γ Γ' k
     on false = knows_vars xs (sorted x.0 evaluated Γ) (sorted x.0 evaluated Γ') (knows_sorted x.0 evaluated Γ Γ' k)
 knows_alternative ts (shape.Node t xs) (Node t' ws) Γ Γ' k = knows_vars xs Γ Γ' k
 knows_alternative ts (shape.Node t xs) (Vector ws) Γ Γ' k = knows_vars xs Γ Γ' k
 knows_alternative ts (shape.Node t xs) (One a) Γ Γ' k = knows_vars xs Γ Γ' k
 
-module _ (Γ Γ' : Sorts) (k : Knows Γ Γ') where
+module _ (Γ Γ' : Sorts) (k : KnowsNoMore Γ Γ') where
   number_known : (a : Word) → IsNumber Γ a → IsNumber Γ' a
   number_known (Lit i) h = h
   number_known (Var x) h = less_number (Γ x.0) (Γ' x.0) (k x.0) h
@@ -123,7 +124,7 @@ module _ (Γ Γ' : Sorts) (k : Knows Γ Γ') where
   given_known ts (One a) h = h
 
   -- of a variable of which nothing is known more may be
-  pub fresh_known : (x : ℕ) (s : Sort) → Γ x ≡ anything → Knows Γ (sorted x s Γ')
+  pub fresh_known : (x : ℕ) (s : Sort) → Γ x ≡ anything → KnowsNoMore Γ (sorted x s Γ')
   fresh_known x s e y = on (nat_eq y x) refl
     where
       on : (b : Bool) → nat_eq y x ≡ b → Less (Γ y) (cond b s (Γ' y))

@@ -1,4 +1,4 @@
--- What is decided at a turn, and the new parameters in a row.
+-- What is decided of a parameter in its turn, and the new parameters in a row.
 use Rattle.std.specs.Prelude.{ℕ, ◌≡◌, ◌+◌, ◌-◌, List, [], Option, Some, None}
 use Rattle.grin_syntax.specs.declared.program.VarId.{VarId}
 use Rattle.grin_syntax.specs.Fresh.{variables}
@@ -15,9 +15,9 @@ count_after count (Some r) = count + r.fields - 1
 
 module _ (A : Solution) (g : Program) where
   -- what is decided of the parameter x of q, where it has so many at its turn
-  abbrev pub Turn : Procedure → VarId → ℕ → Option Raising → Type 0
-  Turn q x count None = Stays A g q x count
-  Turn q x count (Some r) = Raisable A g q x.0 r.tag.0 r.fields × IsRoom count r.fields
+  abbrev pub DecidedOf : Procedure → VarId → ℕ → Option Raising → Type 0
+  DecidedOf q x count None = Stays A g q x count
+  DecidedOf q x count (Some r) = Raisable A g q x.0 r.tag.0 r.fields × IsRoom count r.fields
 
 -- these are the variables from one up to another
 pub record InRow (xs : List VarId) (from to : ℕ) : Type 0 where
