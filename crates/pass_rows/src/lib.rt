@@ -1,8 +1,12 @@
-//! Rows for the passes: listings that were worked by hand.
+//! Rows for the inlinings and the passes: listings that were worked by hand.
 #![tactic(auto)]
 
 #[cfg(test)]
+mod applications;
+#[cfg(test)]
 mod copies;
+#[cfg(test)]
+mod evaluations;
 #[cfg(test)]
 mod fetches;
 #[cfg(test)]

@@ -11,7 +11,7 @@ use std::test::Fail;
 //     data Nil 0; data Cons 2;
 //     take xs = case xs of { Nil -> Nil; Cons h t -> Cons h (take t) };
 //     main = take (take (Cons 65 Nil));
-const TAKES: &str = "\
+pub(crate) const TAKES: &str = "\
 tags CInt/1 CNil/0 CCons/2 Ftake/1 Fmain/0
 global main = (Fmain)
 

@@ -1,5 +1,6 @@
 // Listings of programs, what becomes of them once their evaluations and applications are inlined, and their sizes then.
 
+use crate::evaluations::TAKES;
 use apply_inline::{expanded_size, inline};
 use flow_system::system::system;
 use grin_syntax::list;
@@ -73,50 +74,6 @@ global main = (Fmain)
 
 main =
   unit (CNil)
-
-@print v0 =
-  v1 <- eval v0
-  case v1 of
-    (CNil) ->
-      unit (CNil)
-    (CCons v2 v3) ->
-      v4 <- eval v2
-      case v4 of
-        (CInt v5) ->
-          write v5
-          call @print v3
-        else ->
-          fail
-    else ->
-      fail
-";
-
-//     data Nil 0; data Cons 2;
-//     take xs = case xs of { Nil -> Nil; Cons h t -> Cons h (take t) };
-//     main = take (take (Cons 65 Nil));
-const TAKES: &str = "\
-tags CInt/1 CNil/0 CCons/2 Ftake/1 Fmain/0
-global main = (Fmain)
-
-take v0 =
-  v1 <- eval v0
-  case v1 of
-    (CNil) ->
-      unit (CNil)
-    (CCons v2 v3) ->
-      store
-        v4 = (Ftake v3)
-      unit (CCons v2 v4)
-    else ->
-      fail
-
-main =
-  store
-    v0 = (CInt 65)
-    v1 = (CNil)
-    v2 = (CCons v0 v1)
-    v3 = (Ftake v2)
-  call take v3
 
 @print v0 =
   v1 <- eval v0
