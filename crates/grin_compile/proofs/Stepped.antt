@@ -10,9 +10,9 @@ use Rattle.grin_translate.specs.Translation.{tr}
 use Rattle.pass_ground.specs.Vectors.{OfVectors, NarrowTargets, StaysOfVectors}
 use Rattle.grin_opt.specs.declared.pass.PassName.{PassName}
 use Rattle.grin_opt.specs.declared.pass.PassName.TheVariants.{Translate, Eval, Apply, Vectorise, Simplify, Fetch, Copy, Update, Unbox, Raise}
-use Rattle.grin_opt.specs.Schedule.{IsTaken, shape_of}
+use Rattle.grin_opt.specs.Schedule.{IsTaken}
 use Rattle.grin_compile.specs.declared.later.Later.{Later}
-use Rattle.grin_compile.specs.Passed.{IsPassedBy, ArePassed, later_after, programs_of}
+use Rattle.grin_compile.specs.Passed.{ArePassed, later_after, programs_of}
 use Rattle.grin_compile.specs.Stages.{passes, AreStages, IsLastOf}
 use Rattle.grin_compile.proofs.Narrow.{narrow}
 use Rattle.grin_compile.proofs.Sizes.{outside_both}

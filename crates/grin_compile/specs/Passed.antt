@@ -1,18 +1,12 @@
 -- What the passes after the inlining make of a program.
 use Rattle.std.specs.Prelude.{ℕ, List, [], ◌∷◌}
 use Rattle.grin_syntax.specs.Tree.{Program, program_of}
-use Rattle.grin_meaning.specs.Keeps.{Keeps}
 use Rattle.grin_meaning.specs.Slim.{Slim}
 use Rattle.grin_measure.specs.declared.measure.Sizes.{Sizes}
 use Rattle.grin_opt.specs.declared.pass.PassName.{PassName}
-use Rattle.grin_opt.specs.declared.pass.PassName.TheVariants.{Translate, Eval, Apply, Vectorise, Simplify, Fetch, Copy, Update, Unbox, Raise}
-use Rattle.grin_opt.specs.Schedule.{shape_of}
+use Rattle.grin_opt.specs.declared.pass.PassName.TheVariants.{Simplify, Fetch, Copy, Update, Unbox, Raise}
+use Rattle.grin_opt.specs.Schedule.{IsPassedBy}
 use Rattle.grin_compile.specs.declared.later.Later.{Later}
-
--- what one pass makes of g: it has the pass's shape, and keeps what g does
-pub record IsPassedBy (k : PassName) (g h : Program) : Type 0 where
-  pub shape : shape_of k g h
-  pub keeps : Keeps g h
 
 -- what passes make of g, one after another
 abbrev pub ArePassed : List PassName → Program → List Program → Type 0

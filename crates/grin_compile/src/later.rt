@@ -2,25 +2,14 @@
 
 ghost use Rattle.std.specs.Prelude.{◌≡◌, ◌≤◌, IfOk};
 ghost use Rattle.grin_syntax.specs.Tree.{program_of};
-ghost use Rattle.grin_meaning.specs.Ready.{IsFetchedByWords};
-ghost use Rattle.pass_ground.specs.Vectors.{OfVectors};
-ghost use Rattle.grin_opt.specs.declared.pass.PassName.TheVariants as stage;
-ghost use Rattle.grin_opt.specs.Schedule.{IsTaken};
+ghost use Rattle.grin_opt.specs.Schedule.{IsTaken, IsOfStage, Takes, IsPassedBy};
 ghost use Rattle.grin_compile.specs.Stages.{passes, IsLastOf};
-ghost use Rattle.grin_compile.specs.Passed.{IsPassedBy, ArePassed, later_after, programs_of, SlimBeside};
+ghost use Rattle.grin_compile.specs.Passed.{ArePassed, later_after, programs_of, SlimBeside};
 
-use arity_raise::Raise;
-use case_simplify::Simplify;
-use copy_prop::Copies;
-use fetch_passes::Fetches;
-use grin_meaning::Pass;
 use grin_measure::{Sizes, is_slim};
-use grin_opt::PassName;
+use grin_opt::{PassName, passed};
 use grin_syntax::{Grin, copy};
 use std::alloc::{AllocError, Global};
-use unbox::Unbox;
-use update_special::Updates;
-use vectorise::Vectorise;
 
 /// The program after each pass that comes after the inlining.
 #[derive(Drop)]
@@ -77,68 +66,14 @@ impl Later {
     }
 }
 
-fn vectorised(alloc: Global, g: &Grin) -> Result<Grin, AllocError>
-    requires { IsTaken (program_of g.now) }
-    ensures { IfOk result (λ h. IsPassedBy stage.Vectorise (program_of g.now) (program_of h)) }
+// The program that a pass makes of this one, which stays.
+fn passed_copy(alloc: Global, pass: PassName, g: &Grin) -> Result<Grin, AllocError>
+    requires { Takes pass (program_of g.now) }
+    ensures made { IfOk result (λ h. IsPassedBy pass (program_of g.now) (program_of h)) }
+    ensures stage { IfOk result (λ h. IsOfStage pass (program_of h)) }
 {
     let before = copy(alloc, g)?;
-    let after = Vectorise.apply(alloc, before)?;
-    Ok(after)
-}
-
-fn simplified(alloc: Global, g: &Grin) -> Result<Grin, AllocError>
-    requires { OfVectors (program_of g.now) }
-    ensures { IfOk result (λ h. IsPassedBy stage.Simplify (program_of g.now) (program_of h)) }
-{
-    let before = copy(alloc, g)?;
-    let after = Simplify.apply(alloc, before)?;
-    Ok(after)
-}
-
-fn fetched(alloc: Global, g: &Grin) -> Result<Grin, AllocError>
-    requires { OfVectors (program_of g.now) }
-    ensures { IfOk result (λ h. IsPassedBy stage.Fetch (program_of g.now) (program_of h)) }
-{
-    let before = copy(alloc, g)?;
-    let after = Fetches.apply(alloc, before)?;
-    Ok(after)
-}
-
-fn copied(alloc: Global, g: &Grin) -> Result<Grin, AllocError>
-    requires { OfVectors (program_of g.now) }
-    ensures { IfOk result (λ h. IsPassedBy stage.Copy (program_of g.now) (program_of h)) }
-{
-    let before = copy(alloc, g)?;
-    let after = Copies.apply(alloc, before)?;
-    Ok(after)
-}
-
-fn updated(alloc: Global, g: &Grin) -> Result<Grin, AllocError>
-    requires { OfVectors (program_of g.now) }
-    ensures { IfOk result (λ h. IsPassedBy stage.Update (program_of g.now) (program_of h)) }
-{
-    let before = copy(alloc, g)?;
-    let after = Updates.apply(alloc, before)?;
-    Ok(after)
-}
-
-fn unboxed(alloc: Global, g: &Grin) -> Result<Grin, AllocError>
-    requires vectors { OfVectors (program_of g.now) }
-    requires by_words { IsFetchedByWords (program_of g.now) }
-    ensures { IfOk result (λ h. IsPassedBy stage.Unbox (program_of g.now) (program_of h)) }
-{
-    let before = copy(alloc, g)?;
-    let after = Unbox.apply(alloc, before)?;
-    Ok(after)
-}
-
-fn raised(alloc: Global, g: &Grin) -> Result<Grin, AllocError>
-    requires vectors { OfVectors (program_of g.now) }
-    requires by_words { IsFetchedByWords (program_of g.now) }
-    ensures { IfOk result (λ h. IsPassedBy stage.Raise (program_of g.now) (program_of h)) }
-{
-    let before = copy(alloc, g)?;
-    let after = Raise.apply(alloc, before)?;
+    let after = passed(alloc, pass, before)?;
     Ok(after)
 }
 
@@ -147,13 +82,13 @@ pub(crate) fn later_stages(alloc: Global, g: &Grin) -> Result<Later, AllocError>
     requires { IsTaken (program_of g.now) }
     ensures { IfOk result (λ l. ArePassed passes (program_of g.now) (programs_of l)) }
 {
-    let vectorised = vectorised(alloc, g)?;
-    let simplified = simplified(alloc, &vectorised)?;
-    let fetched = fetched(alloc, &simplified)?;
-    let copied = copied(alloc, &fetched)?;
-    let updated = updated(alloc, &copied)?;
-    let unboxed = unboxed(alloc, &updated)?;
-    let raised = raised(alloc, &unboxed)?;
+    let vectorised = passed_copy(alloc, PassName::Vectorise, g)?;
+    let simplified = passed_copy(alloc, PassName::Simplify, &vectorised)?;
+    let fetched = passed_copy(alloc, PassName::Fetch, &simplified)?;
+    let copied = passed_copy(alloc, PassName::Copy, &fetched)?;
+    let updated = passed_copy(alloc, PassName::Update, &copied)?;
+    let unboxed = passed_copy(alloc, PassName::Unbox, &updated)?;
+    let raised = passed_copy(alloc, PassName::Raise, &unboxed)?;
     Ok(Later {
         vectorised,
         simplified,

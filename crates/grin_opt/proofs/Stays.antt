@@ -5,12 +5,12 @@ use Rattle.grin_meaning.specs.Ready.{IsInlined}
 use Rattle.pass_ground.specs.OpenUpdates.{open_updates}
 use Rattle.grin_opt.specs.declared.pass.PassName.{PassName}
 use Rattle.grin_opt.specs.declared.pass.PassName.TheVariants.{Translate, Eval, Apply, Vectorise, Simplify, Fetch, Copy, Update, Unbox, Raise}
-use Rattle.grin_opt.specs.Schedule.{IsTaken, before, shape_of, IsOptimised, itself, by_pass}
+use Rattle.grin_opt.specs.Schedule.{IsPass, IsTaken, before, shape_of, IsOptimised, itself, by_pass}
 use Rattle.grin_opt.specs.Staying.{place, IsFrom, ComesOf, the_same, by_one_more, FromUpdates, WhatIsOutStaysOut}
-use Rattle.grin_opt.proofs.Steps.{HasVectors, shaped_of_vectors, of_vectors, FetchesWords, by_words}
+use Rattle.grin_opt.proofs.Steps.{shaped_of_vectors, of_vectors, FetchesWords, by_words}
 use Rattle.grin_opt.proofs.Updates.{same_open_updates}
 
-from_vectors : (k : PassName) → IsFrom Vectorise k → HasVectors k
+from_vectors : (k : PassName) → IsFrom Vectorise k → IsPass k
 from_vectors Translate from = omega (arith, from)
 from_vectors Eval from = omega (arith, from)
 from_vectors Apply from = omega (arith, from)

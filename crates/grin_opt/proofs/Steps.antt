@@ -6,14 +6,7 @@ use Rattle.grin_meaning.proofs.Kept.{keeps_again}
 use Rattle.pass_ground.specs.Vectors.{OfVectors}
 use Rattle.grin_opt.specs.declared.pass.PassName.{PassName}
 use Rattle.grin_opt.specs.declared.pass.PassName.TheVariants.{Translate, Eval, Apply, Vectorise, Simplify, Fetch, Copy, Update, Unbox, Raise}
-use Rattle.grin_opt.specs.Schedule.{before, shape_of, IsOptimised, itself, by_pass}
-
--- the stages of programs of vectors
-abbrev pub HasVectors : PassName → Type 0
-HasVectors Translate = ⊥
-HasVectors Eval = ⊥
-HasVectors Apply = ⊥
-HasVectors _ = Unit {0}
+use Rattle.grin_opt.specs.Schedule.{IsPass, IsTaken, shape_of, before, IsOfStage, IsPassedBy, IsOptimised, itself, by_pass}
 
 pub shaped_of_vectors : (k : PassName) (g h : Program) → shape_of k g h → OfVectors h
 shaped_of_vectors Translate g h s = absurd s
@@ -27,7 +20,7 @@ shaped_of_vectors Update g h s = s.stays.of_vectors
 shaped_of_vectors Unbox g h s = s.stays.of_vectors
 shaped_of_vectors Raise g h s = s.of_vectors
 
-pub of_vectors : (g h : Program) (k : PassName) → HasVectors k → IsOptimised g k h → OfVectors h
+pub of_vectors : (g h : Program) (k : PassName) → IsPass k → IsOptimised g k h → OfVectors h
 of_vectors g h k has itself = absurd has
 of_vectors g h k has (by_pass {h = b} o s keeps) = shaped_of_vectors k b h s
 
@@ -56,10 +49,29 @@ pub by_words : (g h : Program) (k : PassName) → FetchesWords k → IsOptimised
 by_words g h k has itself = absurd has
 by_words g h k has (by_pass {h = b} o s keeps) = shaped_by_words k b h has (λ has. by_words g b (before k) has o) s
 
-kept_so_far : (g h : Program) (k : PassName) → HasVectors k → IsOptimised g k h → Keeps g h
-kept_so_far g h k has itself = absurd has
-kept_so_far g h k has (by_pass o s keeps) = keeps
+-- ---- one pass more
 
--- one pass more
-pub further : (g h h' : Program) (k : PassName) → HasVectors (before k) → IsOptimised g (before k) h → shape_of k h h' → Keeps h h' → IsOptimised g k h'
-further g h h' k has o s keeps = by_pass o s (keeps_again g h h' (kept_so_far g h (before k) has o) keeps)
+-- what a pass gives is of its stage, and so taken by the pass after it
+pub of_stage : (k : PassName) (g h : Program) → IsOfStage (before k) g → shape_of k g h → IsOfStage k h
+of_stage Translate g h of s = absurd s
+of_stage Eval g h of s = absurd s
+of_stage Apply g h of s = absurd s
+of_stage Vectorise g h of s = shaped_of_vectors Vectorise g h s
+of_stage Simplify g h of s = shaped_of_vectors Simplify g h s
+of_stage Fetch g h of s = (shaped_of_vectors Fetch g h s, s.by_words)
+of_stage Copy g h of s = (shaped_of_vectors Copy g h s, s.stays.by_words of.1)
+of_stage Update g h of s = (shaped_of_vectors Update g h s, s.stays.by_words of.1)
+of_stage Unbox g h of s = (shaped_of_vectors Unbox g h s, s.stays.by_words of.1)
+of_stage Raise g h of s = (shaped_of_vectors Raise g h s, s.by_words)
+
+-- the programs of the schedule are of their stages
+pub stage_of : (g h : Program) (k : PassName) → IsTaken g → IsOptimised g k h → IsOfStage k h
+stage_of g h k taken itself = taken
+stage_of g h k taken (by_pass {h = b} o s keeps) = of_stage k b h (stage_of g b (before k) taken o) s
+
+kept : (g h h' : Program) (k : PassName) → IsOptimised g k h → Keeps h h' → Keeps g h'
+kept g h h' k itself keeps = keeps
+kept g h h' k (by_pass o s so_far) keeps = keeps_again g h h' so_far keeps
+
+pub further : (g h h' : Program) (k : PassName) → IsOptimised g (before k) h → IsPassedBy k h h' → IsOptimised g k h'
+further g h h' k o by = by_pass o by.shape (kept g h h' (before k) o by.keeps)

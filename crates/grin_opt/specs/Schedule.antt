@@ -2,7 +2,8 @@
 use Rattle.grin_syntax.specs.Tree.{Program}
 use Rattle.grin_syntax.specs.Formed.{Formed}
 use Rattle.grin_meaning.specs.Keeps.{Keeps}
-use Rattle.grin_meaning.specs.Ready.{Ready}
+use Rattle.grin_meaning.specs.Ready.{Ready, IsFetchedByWords}
+use Rattle.pass_ground.specs.Vectors.{OfVectors}
 use Rattle.vectorise.specs.Whole.{IsWhole}
 use Rattle.vectorise.specs.Widened.{Widened}
 use Rattle.case_simplify.specs.Simplified.{Simplified}
@@ -19,6 +20,11 @@ abbrev pub IsAfterInlining : PassName → Type 0
 IsAfterInlining Translate = ⊥
 IsAfterInlining Eval = ⊥
 IsAfterInlining _ = Unit {0}
+
+-- the stages that one of these passes makes: all of them but the inlining itself
+abbrev pub IsPass : PassName → Type 0
+IsPass Apply = ⊥
+IsPass k = IsAfterInlining k
 
 -- what the first pass takes: well-formed programs without eval and apply in which no part of a node
 -- stands by itself
@@ -46,6 +52,25 @@ before Update = Copy
 before Unbox = Update
 before Raise = Unbox
 before k = k
+
+-- what the programs of such a stage are: of vectors, from the first pass on, and without a fetch of a
+-- whole node, from the pass on that splits these
+abbrev pub IsOfStage : PassName → Program → Type 0
+IsOfStage Translate g = ⊥
+IsOfStage Eval g = ⊥
+IsOfStage Apply g = IsTaken g
+IsOfStage Vectorise g = OfVectors g
+IsOfStage Simplify g = OfVectors g
+IsOfStage _ g = OfVectors g × IsFetchedByWords g
+
+-- what a pass takes: the programs of the stage before it
+abbrev pub Takes : PassName → Program → Type 0
+Takes k g = IsPass k × IsOfStage (before k) g
+
+-- what one pass makes of g: it has the pass's shape, and keeps what g does
+pub record IsPassedBy (k : PassName) (g h : Program) : Type 0 where
+  pub shape : shape_of k g h
+  pub keeps : Keeps g h
 
 -- The program after the passes up to this one: itself; or it has the pass's shape beside the program
 -- before, and keeps what g does.

@@ -6,4 +6,4 @@ mod pass;
 mod schedule;
 
 pub use pass::PassName;
-pub use schedule::optimise;
+pub use schedule::{optimise, passed};

@@ -1,9 +1,8 @@
 // The schedule of the passes after the inlining.
 
-ghost use Rattle.std.specs.Prelude.{IfOk};
+ghost use Rattle.std.specs.Prelude.{◌≡◌, IfOk};
 ghost use Rattle.grin_syntax.specs.Tree.{program_of};
-ghost use Rattle.grin_opt.specs.declared.pass.PassName.TheVariants as stage;
-ghost use Rattle.grin_opt.specs.Schedule.{IsAfterInlining, IsTaken, IsOptimised};
+ghost use Rattle.grin_opt.specs.Schedule.{IsAfterInlining, IsTaken, IsOfStage, Takes, before, IsPassedBy, IsOptimised};
 
 use crate::pass::PassName;
 use arity_raise::Raise;
@@ -17,66 +16,38 @@ use unbox::Unbox;
 use update_special::Updates;
 use vectorise::Vectorise;
 
-fn vectorised(alloc: Global, g: Grin) -> Result<Grin, AllocError>
-    requires { IsTaken (program_of g) }
-    ensures { IfOk result (λ h. IsOptimised (program_of g) stage.Vectorise (program_of h)) }
+/// The program after one pass. `AllocError` where memory is wanting.
+pub fn passed(alloc: Global, pass: PassName, g: Grin) -> Result<Grin, AllocError>
+    requires { Takes pass (program_of g) }
+    ensures made { IfOk result (λ h. IsPassedBy pass (program_of g) (program_of h)) }
+    ensures stage { IfOk result (λ h. IsOfStage pass (program_of h)) }
 {
-    let h = Vectorise.apply(alloc, g)?;
-    Ok(h)
+    match pass {
+        PassName::Translate | PassName::Eval | PassName::Apply => unreachable!(),
+        PassName::Vectorise => Vectorise.apply(alloc, g),
+        PassName::Simplify => Simplify.apply(alloc, g),
+        PassName::Fetch => Fetches.apply(alloc, g),
+        PassName::Copy => Copies.apply(alloc, g),
+        PassName::Update => Updates.apply(alloc, g),
+        PassName::Unbox => Unbox.apply(alloc, g),
+        PassName::Raise => Raise.apply(alloc, g),
+    }
 }
 
-fn simplified(alloc: Global, g: Grin) -> Result<Grin, AllocError>
-    requires { IsTaken (program_of g) }
-    ensures { IfOk result (λ h. IsOptimised (program_of g) stage.Simplify (program_of h)) }
+// The stage before, of which a pass takes the programs.
+fn stage_before(pass: PassName) -> PassName
+    ensures { result ≡ before pass }
 {
-    let before = vectorised(alloc, g)?;
-    let h = Simplify.apply(alloc, before)?;
-    Ok(h)
-}
-
-fn fetched(alloc: Global, g: Grin) -> Result<Grin, AllocError>
-    requires { IsTaken (program_of g) }
-    ensures { IfOk result (λ h. IsOptimised (program_of g) stage.Fetch (program_of h)) }
-{
-    let before = simplified(alloc, g)?;
-    let h = Fetches.apply(alloc, before)?;
-    Ok(h)
-}
-
-fn copied(alloc: Global, g: Grin) -> Result<Grin, AllocError>
-    requires { IsTaken (program_of g) }
-    ensures { IfOk result (λ h. IsOptimised (program_of g) stage.Copy (program_of h)) }
-{
-    let before = fetched(alloc, g)?;
-    let h = Copies.apply(alloc, before)?;
-    Ok(h)
-}
-
-fn updated(alloc: Global, g: Grin) -> Result<Grin, AllocError>
-    requires { IsTaken (program_of g) }
-    ensures { IfOk result (λ h. IsOptimised (program_of g) stage.Update (program_of h)) }
-{
-    let before = copied(alloc, g)?;
-    let h = Updates.apply(alloc, before)?;
-    Ok(h)
-}
-
-fn unboxed(alloc: Global, g: Grin) -> Result<Grin, AllocError>
-    requires { IsTaken (program_of g) }
-    ensures { IfOk result (λ h. IsOptimised (program_of g) stage.Unbox (program_of h)) }
-{
-    let before = updated(alloc, g)?;
-    let h = Unbox.apply(alloc, before)?;
-    Ok(h)
-}
-
-fn raised(alloc: Global, g: Grin) -> Result<Grin, AllocError>
-    requires { IsTaken (program_of g) }
-    ensures { IfOk result (λ h. IsOptimised (program_of g) stage.Raise (program_of h)) }
-{
-    let before = unboxed(alloc, g)?;
-    let h = Raise.apply(alloc, before)?;
-    Ok(h)
+    match pass {
+        PassName::Translate | PassName::Eval | PassName::Apply => pass,
+        PassName::Vectorise => PassName::Apply,
+        PassName::Simplify => PassName::Vectorise,
+        PassName::Fetch => PassName::Simplify,
+        PassName::Copy => PassName::Fetch,
+        PassName::Update => PassName::Copy,
+        PassName::Unbox => PassName::Update,
+        PassName::Raise => PassName::Unbox,
+    }
 }
 
 /// The program after the passes after the inlining, up to and with `upto`. `AllocError` where memory is wanting.
@@ -85,15 +56,10 @@ pub fn optimise(alloc: Global, g: Grin, upto: PassName) -> Result<Grin, AllocErr
     requires after { IsAfterInlining upto }
     ensures { IfOk result (λ h. IsOptimised (program_of g) upto (program_of h)) }
 {
-    match upto {
-        PassName::Translate | PassName::Eval => unreachable!(),
-        PassName::Apply => Ok(g),
-        PassName::Vectorise => vectorised(alloc, g),
-        PassName::Simplify => simplified(alloc, g),
-        PassName::Fetch => fetched(alloc, g),
-        PassName::Copy => copied(alloc, g),
-        PassName::Update => updated(alloc, g),
-        PassName::Unbox => unboxed(alloc, g),
-        PassName::Raise => raised(alloc, g),
+    if upto == PassName::Apply {
+        return Ok(g);
     }
+    let given = optimise(alloc, g, stage_before(upto))?;
+    let made = passed(alloc, upto, given)?;
+    Ok(made)
 }

@@ -23,8 +23,8 @@ use Rattle.vectorise.specs.Widened.{Widened}
 use Rattle.vectorised_form.specs.Laws.{VectoriseTakesInlined}
 use Rattle.grin_opt.specs.declared.pass.PassName.{PassName}
 use Rattle.grin_opt.specs.declared.pass.PassName.TheVariants.{Translate, Eval, Apply}
-use Rattle.grin_opt.specs.Schedule.{IsTaken, shape_of, before, IsOptimised, itself, by_pass}
-use Rattle.grin_opt.proofs.Steps.{HasVectors, shaped_of_vectors}
+use Rattle.grin_opt.specs.Schedule.{IsPass, IsTaken, shape_of, before, IsOptimised, itself, by_pass}
+use Rattle.grin_opt.proofs.Steps.{shaped_of_vectors}
 use Rattle.grin_stages.specs.Stage.{Analyses, IsStage, translated, evaluations_inlined, both_inlined, by_pass as next_stage, HasExpandedSize, Fits}
 use Rattle.grin_stages.specs.Analysed.{IsMade}
 
@@ -106,7 +106,7 @@ pub record FromPass (p : Program) (k : PassName) (h : grin.Program) : Type 0 whe
   pub shape : shape_of k g h
   pub keeps : Keeps (tr p) h
 
-pub from_pass : (p : Program) (k : PassName) (h : grin.Program) → HasVectors k → IsStage p k h → FromPass p k h
+pub from_pass : (p : Program) (k : PassName) (h : grin.Program) → IsPass k → IsStage p k h → FromPass p k h
 from_pass p k h has (next_stage {g = g} stage shape keeps) = record { g = g; stage = stage; shape = shape; keeps = keeps }
 from_pass p k h has translated = absurd has
 from_pass p k h has (evaluations_inlined least) = absurd has

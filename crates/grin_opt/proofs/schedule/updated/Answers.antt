@@ -1,9 +1,0 @@
-use Rattle.grin_opt.specs.declared.pass.PassName.TheVariants.{Copy, Update}
-use Rattle.grin_opt.proofs.Steps.{of_vectors, further}
-use Rattle.grin_opt.proofs.schedule.updated.Goals as goal
-
-pub apply-requires : goal.apply-requires
-apply-requires c = of_vectors _ _ Copy tt c.in_ok-before.ensures
-
-pub returns : goal.returns
-returns c = further _ _ _ Update tt c.in_ok-before.ensures c.in_ok-h.ensures.shape c.in_ok-h.ensures.meaning
