@@ -1,6 +1,8 @@
 pub mod Member
 pub mod GivenItems
 pub mod Exact
+pub mod Gets
+pub mod Blocks
 pub mod Numbers
 pub mod Rows
 pub mod Done
@@ -8,6 +10,7 @@ pub mod Fields
 pub mod OneTag
 pub mod Sets
 pub mod Loops
+pub mod Direct
 pub mod Search
 pub mod Solved
 pub mod Read

@@ -1,19 +1,18 @@
 -- The numbers of the bits that are 1, and sets of them.
-use Rattle.std.proofs.Common.{◌≡◌, ◌≢◌, ℕ, zero, suc, ◌+◌, ◌*◌, ◌/◌, ◌%◌, ◌<◌, Bool, true, false, cond, nat_eq, List, [], ◌∷◌, ◌++◌, Option, Some, None, slice_get, refl, sym, ap, ◌∙◌, subst, inl, inr, ⊎_elim, arith}
-use Rattle.std.specs.Prelude.{IsTrue, unwrap_or}
+use Rattle.std.proofs.Common.{◌≡◌, ◌≢◌, ℕ, zero, suc, ◌+◌, ◌*◌, ◌/◌, ◌%◌, ◌<◌, Bool, true, cond, nat_eq, List, [], ◌∷◌, ◌++◌, get_or, slice_set, take, drop, refl, sym, ap, ◌∙◌, subst, inl, inr, ⊎_elim, arith}
+use Rattle.std.specs.Prelude.{IsTrue}
 use Rattle.std.specs.Int.{bit_at}
-use Rattle.std.specs.List.{flat_map}
-use Rattle.std.specs.Ordering.{nat_cmp}
-use Rattle.std.specs.Cmp.{nat_cmp_total}
-use Rattle.std.specs.BTreeMap.{BTreeMap, get, is_at, IsOrdered, Updates}
+use Rattle.std.specs.List.{flat_map, insert}
 use Rattle.std.proofs.lemmas.Bool.{cases_eq}
 use Rattle.std.proofs.lemmas.Bool.Decides.{nat_tests}
+use Rattle.std.proofs.lemmas.List.{take-append-drop}
 use Rattle.std.proofs.lemmas.Nat.Bits.{bit_at_lowest, bit_at-suc, bit_at-zero}
-use Rattle.std.proofs.lemmas.Map.Entries.{place_from_lookup, btree_map_get_place}
-use Rattle.points_to.specs.Held.{In, here, there}
+use Rattle.points_to.specs.Held.{In, here}
 use Rattle.points_to.specs.Rows.{Gets}
-use Rattle.points_to.specs.Bits.{numbers, block_numbers, bits_at}
-use Rattle.points_to.proofs.Member.{none_in, one_in, in_left, in_right, in_split, when_in, in_when, in_flat, flat_in, cons_in}
+use Rattle.points_to.specs.Bits.{numbers, block_numbers, BitsAt, StandsAt}
+use Rattle.points_to.proofs.Member.{none_in, one_in, in_left, in_right, in_split, when_in, in_when, in_flat, flat_in}
+use Rattle.points_to.proofs.Blocks.{its_number}
+use Rattle.points_to.proofs.Gets.{gets_at, gets_between}
 
 is_one : (x : ℕ) → nat_eq x 1 ≡ true → x ≡ 1
 is_one x e = grind (arith, nat_tests)
@@ -77,74 +76,54 @@ lowest_first (suc k) n b b' (suc z) lt one low clear others =
     zero_first : b % 2 ≡ 0
     zero_first = sym (bit_at_lowest b) ∙ low 0 (omega arith)
 
--- entries
-slice_in : {X : Type 0} (xs : List X) (i : ℕ) (x : X) → slice_get xs i ≡ Some x → In x xs
-slice_in [] i x e = cc
-slice_in (y ∷ xs) zero x e = let same : y ≡ x = cc in subst (λ z. In z (y ∷ xs)) same here
-slice_in (y ∷ xs) (suc i) x e = there (slice_in xs i x e)
-
-in_slice : {X : Type 0} (xs : List X) (x : X) → In x xs → (i : ℕ) × (slice_get xs i ≡ Some x)
-in_slice [] x h = none_in h
-in_slice (y ∷ xs) x h = ⊎_elim (λ e. (0, ap (λ z. Some z) (sym e))) (λ t. let r = in_slice xs x t in (suc r.0, r.1)) (cons_in y xs h)
-
-at_key : (k q : ℕ) → is_at (nat_cmp k) q ≡ true → q ≡ k
-at_key k q e = grind (arith, nat_tests)
-
-apart_key : (k q : ℕ) → (k ≡ q → ⊥) → is_at (nat_cmp k) q ≡ false
-apart_key k q h = grind (arith, nat_tests)
-
-module _ (m : BTreeMap ℕ ℕ) (n : ℕ) where
-  pub bit_member : bit_at (bits_at m (n / 64)) (n % 64) ≡ 1 → In n (flat_map block_numbers m.entries)
-  bit_member e = go (get nat_cmp m (n / 64)) refl
+-- the bits of a number's block say whether it is in the set
+module _ (bs : List (ℕ × ℕ)) (n w : ℕ) (at : BitsAt bs (n / 64) w) where
+  bit_member : bit_at w (n % 64) ≡ 1 → In n (flat_map block_numbers bs)
+  bit_member e = ⊎_elim
+      (λ z. let none : bit_at 0 (n % 64) ≡ 1 = subst (λ v. bit_at v (n % 64) ≡ 1) z e in absurd (omega (arith, none, bit_at-zero (n % 64))))
+      (λ h. in_flat block_numbers bs h (subst (λ x. In x (numbers 64 (n / 64 * 64) w)) n_is (bit_in 64 (n / 64 * 64) w (n % 64) (omega arith) e)))
+      at.held
     where
-      go : (o : Option ℕ) → get nat_cmp m (n / 64) ≡ o → In n (flat_map block_numbers m.entries)
-      go None q = let z : bit_at 0 (n % 64) ≡ 1 = subst (λ o. bit_at (unwrap_or o 0) (n % 64) ≡ 1) q e in absurd (omega (arith, z, bit_at-zero (n % 64)))
-      go (Some v) q =
-          let p = place_from_lookup (is_at (nat_cmp (n / 64))) m.entries v q in
-          let k : p.1 ≡ n / 64 = at_key (n / 64) p.1 p.3 in
-          let n_is : p.1 * 64 + n % 64 ≡ n = omega (arith, k) in
-          in_flat block_numbers m.entries (slice_in m.entries p.0 (p.1, v) p.2) (subst (λ x. In x (numbers 64 (p.1 * 64) v)) n_is (bit_in 64 (p.1 * 64) v (n % 64) (omega arith) (subst (λ o. bit_at (unwrap_or o 0) (n % 64) ≡ 1) q e)))
+      n_is : n / 64 * 64 + n % 64 ≡ n
+      n_is = omega arith
 
-  pub member_bit : IsOrdered nat_cmp m → In n (flat_map block_numbers m.entries) → bit_at (bits_at m (n / 64)) (n % 64) ≡ 1
-  member_bit ordered h =
-      let w = flat_in block_numbers m.entries h in
-      let s = in_bit 64 (w.0.0 * 64) w.0.1 n w.2 in
+  member_bit : In n (flat_map block_numbers bs) → bit_at w (n % 64) ≡ 1
+  member_bit h =
+      let b = flat_in block_numbers bs h in
+      let s = in_bit 64 (b.0.0 * 64) b.0.1 n b.2 in
       let lt : s.0 < 64 = s.1 in
-      let e : n ≡ w.0.0 * 64 + s.0 = s.2 in
-      let p = in_slice m.entries w.0 w.1 in
-      let q : w.0.0 ≡ n / 64 = omega (arith, lt, e) in
+      let e : n ≡ b.0.0 * 64 + s.0 = s.2 in
+      let q : b.0.0 ≡ n / 64 = omega (arith, lt, e) in
       let r : s.0 ≡ n % 64 = omega (arith, lt, e) in
-      let found : get nat_cmp m w.0.0 ≡ Some w.0.1 = btree_map_get_place nat_cmp_total m p.0 w.0.0 w.0.1 ordered p.1 in
-      subst (λ j. bit_at (bits_at m (n / 64)) j ≡ 1) r (subst (λ k. bit_at (bits_at m k) s.0 ≡ 1) q (subst (λ o. bit_at (unwrap_or o 0) s.0 ≡ 1) (sym found) s.3))
+      subst (λ j. bit_at w j ≡ 1) r (subst (λ v. bit_at v s.0 ≡ 1) (at.only b.0.1 (subst (λ k. In (k, b.0.1) bs) q b.1)) s.3)
+
+  pub has_number : (b : Bool) → (IsTrue b → bit_at w (n % 64) ≡ 1) × (bit_at w (n % 64) ≡ 1 → IsTrue b) → (IsTrue b → In n (flat_map block_numbers bs)) × (In n (flat_map block_numbers bs) → IsTrue b)
+  has_number b t = (λ h. bit_member (t.0 h), λ h. t.1 (member_bit h))
 
 -- a bit becomes 1
-module _ (m m' : BTreeMap ℕ ℕ) (n b : ℕ) (ordered : IsOrdered nat_cmp m) (ordered' : IsOrdered nat_cmp m') (u : Updates nat_cmp m m' (n / 64) (Some b))
-    (one : bit_at b (n % 64) ≡ 1) (others : (i : ℕ) → i ≢ n % 64 → bit_at b i ≡ bit_at (bits_at m (n / 64)) i) where
-  here_now : bits_at m' (n / 64) ≡ b
-  here_now = ap (λ o. unwrap_or o 0) u.1
+pub block_gets : (n q v w : ℕ) → q ≡ n / 64 → bit_at w (n % 64) ≡ 1 → ((i : ℕ) → i ≢ n % 64 → bit_at w i ≡ bit_at v i) → Gets (block_numbers (q, v)) (block_numbers (q, w)) n
+block_gets n q v w e one others = record {
+  kept = λ y h. let s = in_bit 64 (q * 64) v y h in subst (λ m. In m (numbers 64 (q * 64) w)) (sym s.2) (bit_in 64 (q * 64) w s.0 s.1 (⊎_elim (λ same. subst (λ j. bit_at w j ≡ 1) (sym same) one) (λ d. others s.0 d ∙ s.3) (cases_eq s.0 (n % 64))));
+  put = subst (λ m. In m (numbers 64 (q * 64) w)) n_is (bit_in 64 (q * 64) w (n % 64) (omega arith) one);
+  only = λ y h.
+      let s = in_bit 64 (q * 64) w y h in
+      let at : y ≡ q * 64 + s.0 = s.2 in
+      ⊎_elim (λ same. inr (omega (arith, e, at, same))) (λ d. inl (subst (λ m. In m (numbers 64 (q * 64) v)) (sym at) (bit_in 64 (q * 64) v s.0 s.1 (sym (others s.0 d) ∙ s.3)))) (cases_eq s.0 (n % 64));
+}
+  where
+    n_is : q * 64 + n % 64 ≡ n
+    n_is = omega (arith, e)
 
-  elsewhere : (q : ℕ) → (n / 64 ≡ q → ⊥) → bits_at m' q ≡ bits_at m q
-  elsewhere q h = ap (λ o. unwrap_or o 0) (u.2 q (apart_key (n / 64) q h))
+-- in the block that stands there
+pub gets_bit : (bs : List (ℕ × ℕ)) (k n w : ℕ) (b : ℕ × ℕ) → StandsAt bs (n / 64) k → b ≡ get_or bs k b → bit_at w (n % 64) ≡ 1 → ((i : ℕ) → i ≢ n % 64 → bit_at w i ≡ bit_at b.1 i)
+    → Gets (flat_map block_numbers bs) (flat_map block_numbers (slice_set bs k (n / 64, w))) n
+gets_bit bs k n w b s e one others =
+    gets_at block_numbers bs k b (n / 64, w) n s.within e
+    (subst (λ q. Gets (block_numbers (q, b.1)) (block_numbers (n / 64, w)) n) (sym (its_number bs (n / 64) k b s e)) (block_gets n (n / 64) b.1 w refl one others))
 
-  -- the bit of another number
-  other_bit : (y : ℕ) → (y ≡ n → ⊥) → bit_at (bits_at m' (y / 64)) (y % 64) ≡ bit_at (bits_at m (y / 64)) (y % 64)
-  other_bit y h = ⊎_elim
-      (λ e. ap (λ q. bit_at (bits_at m' q) (y % 64)) (sym e) ∙ ap (λ w. bit_at w (y % 64)) here_now ∙ others (y % 64) (λ f. h (omega (arith, e, f))) ∙ ap (λ q. bit_at (bits_at m q) (y % 64)) e)
-      (λ d. ap (λ w. bit_at w (y % 64)) (elsewhere (y / 64) d))
-      (cases_eq (n / 64) (y / 64))
-
-  in_now : In n (flat_map block_numbers m'.entries)
-  in_now = bit_member m' n (ap (λ w. bit_at w (n % 64)) here_now ∙ one)
-
-  pub gets_number : Gets (flat_map block_numbers m.entries) (flat_map block_numbers m'.entries) n
-  gets_number = record {
-    kept = λ y h. ⊎_elim (λ e. subst (λ x. In x (flat_map block_numbers m'.entries)) (sym e) in_now) (λ d. bit_member m' y (other_bit y d ∙ member_bit m y ordered h)) (cases_eq y n);
-    put = in_now;
-    only = λ y h. ⊎_elim (λ e. inr e) (λ d. inl (bit_member m y (sym (other_bit y d) ∙ member_bit m' y ordered' h))) (cases_eq y n);
-  }
-
-pub has_number : (m : BTreeMap ℕ ℕ) (n w : ℕ) (b : Bool) → IsOrdered nat_cmp m → w ≡ bits_at m (n / 64) → (IsTrue b → bit_at w (n % 64) ≡ 1) × (bit_at w (n % 64) ≡ 1 → IsTrue b)
-    → (IsTrue b → In n (flat_map block_numbers m.entries)) × (In n (flat_map block_numbers m.entries) → IsTrue b)
-has_number m n w b ordered e t =
-    let same : bit_at w (n % 64) ≡ bit_at (bits_at m (n / 64)) (n % 64) = ap (λ v. bit_at v (n % 64)) e in
-    (λ h. bit_member m n (sym same ∙ t.0 h), λ h. t.1 (same ∙ member_bit m n ordered h))
+-- in a new block
+pub gets_block : (bs : List (ℕ × ℕ)) (k n w : ℕ) → bit_at w (n % 64) ≡ 1 → ((i : ℕ) → i ≢ n % 64 → bit_at w i ≡ bit_at 0 i)
+    → Gets (flat_map block_numbers bs) (flat_map block_numbers (insert bs k (n / 64, w))) n
+gets_block bs k n w one others =
+    subst (λ l. Gets (flat_map block_numbers l) (flat_map block_numbers (insert bs k (n / 64, w))) n) (take-append-drop k bs)
+    (gets_between block_numbers (take k bs) (drop k bs) (n / 64, w) n (subst (λ l. Gets l (block_numbers (n / 64, w)) n) (no_numbers 64 (n / 64 * 64)) (block_gets n (n / 64) 0 w refl one others)))

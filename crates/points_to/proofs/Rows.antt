@@ -1,5 +1,5 @@
 -- Rows of words, and the items that they hold.
-use Rattle.std.proofs.Common.{◌≡◌, ◌≢◌, ◌+◌, ◌-◌, ◌*◌, ◌/◌, ◌%◌, ◌<◌, ℕ, zero, suc, Bool, true, false, cond, nat_eq, List, [], ◌∷◌, ◌++◌, map, length, get_or, slice_set, take, Some, slice_get, refl, sym, ap, ◌∙◌, subst, inl, inr, ⊎_elim, arith}
+use Rattle.std.proofs.Common.{◌≡◌, ◌≢◌, ◌+◌, ◌-◌, ◌*◌, ◌/◌, ◌%◌, ◌<◌, ℕ, zero, suc, Bool, true, false, cond, nat_eq, List, [], ◌∷◌, ◌++◌, map, length, get_or, take, Some, slice_get, refl, sym, ap, ◌∙◌, subst, inl, inr, ⊎_elim, arith}
 use Rattle.std.specs.Prelude.{◌⊎◌, IsTrue}
 use Rattle.std.specs.List.{flat_map}
 use Rattle.std.proofs.lemmas.Bool.{cases_eq}
@@ -13,9 +13,10 @@ use Rattle.points_to.specs.declared.items.Row.{Row}
 use Rattle.points_to.specs.Held.{In, item, same_part, picked, in_part}
 use Rattle.points_to.specs.Bits.{block_numbers, number_of, word_of}
 use Rattle.points_to.specs.Rows.{numbers_in, block_words, row_words, row_items, HasPart, Gets}
-use Rattle.points_to.proofs.Member.{none_in, in_left, in_right, in_split, in_map, map_in}
+use Rattle.points_to.proofs.Member.{in_left, in_right, in_split, in_map, map_in}
 use Rattle.points_to.proofs.GivenItems.{same_part-true, same_part-self}
-use Rattle.points_to.proofs.Loops.{flat_next}
+use Rattle.points_to.proofs.Gets.{gets_between}
+use Rattle.points_to.proofs.Loops.{flat_next, append_nil}
 
 map_append : {X Y : Type 0} (f : X → Y) (xs ys : List X) → map f (xs ++ ys) ≡ map f xs ++ map f ys
 map_append f [] ys = refl
@@ -96,7 +97,7 @@ map_gets f old new x g = record {
 -- a row's items
 pub row_yes : (r : Row) (i : Item) (n : ℕ) (b : Bool) → same_part r.part i.part ≡ true → n ≡ number_of i.word → (IsTrue b → In n (numbers_in r.words)) × (In n (numbers_in r.words) → IsTrue b) → (IsTrue b → In i (row_items r)) × (In i (row_items r) → IsTrue b)
 row_yes r i n b e q t =
-    let words : row_words r ≡ map word_of (numbers_in r.words) = words_are r.words.blocks.entries in
+    let words : row_words r ≡ map word_of (numbers_in r.words) = words_are r.words.blocks.items in
     let its : word_of n ≡ i.word = ap word_of q ∙ word_number i.word in (
       λ h. subst (λ p. In (item p i.word) (row_items r)) (same_part-true r.part i.part e) (in_map (item r.part) (row_words r) (subst (In i.word) (sym words) (subst (λ u. In u (map word_of (numbers_in r.words))) its (in_map word_of (numbers_in r.words) (t.0 h))))),
       λ h.
@@ -114,8 +115,8 @@ row_gets r r' i n e e' q g =
     subst (Gets (row_items r) (row_items r')) its
     (subst (λ p. Gets (row_items r) (in_part p (row_words r')) (item r.part (word_of n))) (sym e')
     (map_gets (item r.part) (row_words r) (row_words r') (word_of n)
-    (subst (λ l. Gets l (row_words r') (word_of n)) (sym (words_are r.words.blocks.entries))
-    (subst (λ l. Gets (map word_of (numbers_in r.words)) l (word_of n)) (sym (words_are r'.words.blocks.entries))
+    (subst (λ l. Gets l (row_words r') (word_of n)) (sym (words_are r.words.blocks.items))
+    (subst (λ l. Gets (map word_of (numbers_in r.words)) l (word_of n)) (sym (words_are r'.words.blocks.items))
     (map_gets word_of (numbers_in r.words) (numbers_in r'.words) n g)))))
   where
     its : item r.part (word_of n) ≡ i
@@ -123,7 +124,7 @@ row_gets r r' i n e e' q g =
 
 -- a new row
 pub row_none : (r : Row) → numbers_in r.words ≡ [] → row_items r ≡ []
-row_none r e = ap (in_part r.part) (words_are r.words.blocks.entries ∙ ap (map word_of) e)
+row_none r e = ap (in_part r.part) (words_are r.words.blocks.items ∙ ap (map word_of) e)
 
 -- several rows
 pub not_yet : (rows : List Row) (n : ℕ) (r : Row) (b : Bool) (x : Item) → n < length rows → r ≡ get_or rows n r → b ≡ false → (In x (row_items r) → IsTrue b) → (In x (flat_map row_items (take n rows)) → ⊥) → In x (flat_map row_items (take (n + 1) rows)) → ⊥
@@ -155,30 +156,8 @@ its_part rows k r q h e = go rows k r h.row h.is_row e ∙ h.is_part
     go (x ∷ xs) zero r s q e = let same : x ≡ s = cc in ap (λ y. y.part) (e ∙ same)
     go (x ∷ xs) (suc n) r s q e = go xs n r s q e
 
-pub gets_at : (rows : List Row) (k : ℕ) (r r' : Row) (i : Item) → k < length rows → r ≡ get_or rows k r → Gets (row_items r) (row_items r') i → Gets (flat_map row_items rows) (flat_map row_items (slice_set rows k r')) i
-gets_at [] k r r' i lt e g = absurd (omega arith)
-gets_at (x ∷ rows) zero r r' i lt e g = record {
-  kept = λ j h. ⊎_elim (λ a. in_left _ _ (g.kept j (subst (λ y. In j (row_items y)) (sym e) a))) (λ b. in_right (row_items r') _ b) (in_split (row_items x) (flat_map row_items rows) h);
-  put = in_left _ _ g.put;
-  only = λ j h. ⊎_elim (λ a. ⊎_elim (λ o. inl (in_left _ _ (subst (λ y. In j (row_items y)) e o))) (λ n. inr n) (g.only j a)) (λ b. inl (in_right (row_items x) _ b)) (in_split (row_items r') (flat_map row_items rows) h);
-}
-gets_at (x ∷ rows) (suc k) r r' i lt e g = let again = gets_at rows k r r' i (omega arith) e g in record {
-  kept = λ j h. ⊎_elim (λ a. in_left _ _ a) (λ b. in_right (row_items x) _ (again.kept j b)) (in_split (row_items x) (flat_map row_items rows) h);
-  put = in_right (row_items x) _ again.put;
-  only = λ j h. ⊎_elim (λ a. inl (in_left _ _ a)) (λ b. ⊎_elim (λ o. inl (in_right (row_items x) _ o)) (λ n. inr n) (again.only j b)) (in_split (row_items x) (flat_map row_items (slice_set rows k r')) h);
-}
-
 pub gets_row : (rows : List Row) (r : Row) (i : Item) → Gets [] (row_items r) i → Gets (flat_map row_items rows) (flat_map row_items (rows ++ r ∷ [])) i
-gets_row [] r i g = record {
-  kept = λ j h. none_in h;
-  put = in_left _ _ g.put;
-  only = λ j h. ⊎_elim (λ a. g.only j a) (λ b. none_in b) (in_split (row_items r) [] h);
-}
-gets_row (x ∷ rows) r i g = let again = gets_row rows r i g in record {
-  kept = λ j h. ⊎_elim (λ a. in_left _ _ a) (λ b. in_right (row_items x) _ (again.kept j b)) (in_split (row_items x) (flat_map row_items rows) h);
-  put = in_right (row_items x) _ again.put;
-  only = λ j h. ⊎_elim (λ a. inl (in_left _ _ a)) (λ b. ⊎_elim (λ o. inl (in_right (row_items x) _ o)) (λ n. inr n) (again.only j b)) (in_split (row_items x) (flat_map row_items (rows ++ r ∷ [])) h);
-}
+gets_row rows r i g = subst (λ l. Gets (flat_map row_items l) (flat_map row_items (rows ++ r ∷ [])) i) (append_nil rows) (gets_between row_items rows [] r i g)
 
 -- one part of a row
 pub picked_row : (q : Part) (r : Part) (ks : List Element) → same_part q r ≡ true → picked q (in_part r ks) ≡ ks

@@ -1,17 +1,20 @@
 -- Sets of numbers by their own number, and the inclusions that wait.
-use Rattle.std.proofs.Common.{◌≡◌, ◌+◌, ◌<◌, ◌≤◌, ℕ, zero, suc, List, [], ◌∷◌, ◌++◌, length, get_or, Option, Some, None, slice_set, take, refl, sym, ap, ◌∙◌, subst, inl, inr, ⊎_elim, arith}
+use Rattle.std.proofs.Common.{◌≡◌, ◌+◌, ◌<◌, ◌≤◌, ℕ, zero, suc, List, [], ◌∷◌, ◌++◌, length, get_or, Option, Some, None, slice_set, take, drop, refl, sym, ap, ◌∙◌, subst, inl, inr, ⊎_elim, arith}
 use Rattle.std.specs.Prelude.{◌⊎◌, IfSome}
-use Rattle.std.proofs.lemmas.Option.{slice_get_read, slice_get_past}
-use Rattle.std.proofs.lemmas.List.{take_all, take_more}
+use Rattle.std.proofs.lemmas.Option.{slice_get_read}
+use Rattle.std.proofs.lemmas.List.{take_all, take_more, take-append-drop}
 use Rattle.std.specs.BTreeSet.{insert_key}
+use Rattle.std.specs.List.{insert}
 use Rattle.std.specs.Ordering.{nat_cmp}
+use Rattle.std.specs.declared.cmp.Ordering.TheVariants.{Equal}
+use Rattle.std.specs.FinMap.{nat_cmp-IsAntisymmetric}
 use Rattle.flow_system.specs.declared.fact.Place.{Place}
-use Rattle.points_to.specs.Held.{In, here}
+use Rattle.points_to.specs.Held.{In, here, there}
 use Rattle.points_to.specs.Rows.{Gets}
 use Rattle.points_to.specs.Joined.{Joined}
-use Rattle.points_to.specs.Waiting.{Waits, Takes, slot, numbers_in, numbers_at, Registers, Removes}
+use Rattle.points_to.specs.Waiting.{Waits, Takes, slot, numbers_in, numbers_at, Registers}
 use Rattle.points_to.proofs.Read.{put_joins}
-use Rattle.points_to.proofs.Member.{none_in, cons_in, one_in, in_left, in_right, in_split}
+use Rattle.points_to.proofs.Member.{cons_in, one_in, in_left, in_right, in_split}
 
 pub equal_or_not : (m n : ℕ) → (m ≡ n) ⊎ (m ≡ n → ⊥)
 equal_or_not zero zero = inl refl
@@ -21,9 +24,6 @@ equal_or_not (suc m) (suc n) = ⊎_elim (λ e. inl (ap suc e)) (λ ne. inr (λ e
 
 numbers_some : (xs : List (List ℕ)) (n : ℕ) (s : List ℕ) → n < length xs → s ≡ get_or xs n s → numbers_at xs n ≡ s
 numbers_some xs n s lt e = ap numbers_in (slice_get_read xs (length xs) n s refl lt e)
-
-pub numbers_none : (xs : List (List ℕ)) (n : ℕ) → length xs ≤ n → numbers_at xs n ≡ []
-numbers_none xs n le = ap numbers_in (slice_get_past xs n le)
 
 empty_more : (xs : List (List ℕ)) (s : List ℕ) → s ≡ [] → (n : ℕ) → numbers_at (xs ++ s ∷ []) n ≡ numbers_at xs n
 empty_more [] s e zero = e
@@ -63,25 +63,6 @@ registers old xs q s s' n o lt e g = subst (λ f. Registers (λ r. f (slot r)) (
 pub registers_at : (old : ℕ → List ℕ) (xs : List (List ℕ)) (q : Place) (k : ℕ) (s s' : List ℕ) (n : ℕ) → k ≡ slot q → numbers_at xs ≡ old → k < length xs → s ≡ get_or xs k s → Gets s s' n
     → Registers (λ r. old (slot r)) (λ r. numbers_at (slice_set xs k s') (slot r)) q n
 registers_at old xs q k s s' n is = subst (λ j. numbers_at xs ≡ old → j < length xs → s ≡ get_or xs j s → Gets s s' n → Registers (λ r. old (slot r)) (λ r. numbers_at (slice_set xs j s') (slot r)) q n) (sym is) (registers old xs q s s' n)
-
--- the set of a place is emptied
-removes : (xs : List (List ℕ)) (q : Place) (s s' ns ms : List ℕ) → slot q < length xs → s ≡ get_or xs (slot q) s → ms ≡ ns ++ s → Removes (λ r. numbers_at xs (slot r)) (λ r. numbers_at (slice_set xs (slot q) s') (slot r)) q ms
-removes xs q s s' ns ms lt e a = subst (Removes (λ r. numbers_at xs (slot r)) (λ r. numbers_at (slice_set xs (slot q) s') (slot r)) q) (sym a) (record {
-  all = λ m h. in_right ns s (subst (In m) is h);
-  rest = λ r m h. ⊎_elim
-      (λ z. inr (in_right ns s (subst (In m) (ap (numbers_at xs) z ∙ is) h)))
-      (λ z. inl (subst (In m) (sym (set_other xs (slot q) (slot r) s' z)) h))
-      (equal_or_not (slot r) (slot q));
-})
-  where
-    is : numbers_at xs (slot q) ≡ s
-    is = numbers_some xs (slot q) s lt e
-
-pub removes_at : (xs : List (List ℕ)) (q : Place) (k : ℕ) (s s' ns ms : List ℕ) → k ≡ slot q → k < length xs → s ≡ get_or xs k s → ms ≡ ns ++ s → Removes (λ r. numbers_at xs (slot r)) (λ r. numbers_at (slice_set xs k s') (slot r)) q ms
-removes_at xs q k s s' ns ms is = subst (λ j. j < length xs → s ≡ get_or xs j s → ms ≡ ns ++ s → Removes (λ r. numbers_at xs (slot r)) (λ r. numbers_at (slice_set xs j s') (slot r)) q ms) (sym is) (removes xs q s s' ns ms)
-
-pub removes_none : (xs : List (List ℕ)) (q : Place) (ns : List ℕ) → length xs ≤ slot q → Removes (λ r. numbers_at xs (slot r)) (λ r. numbers_at xs (slot r)) q ns
-removes_none xs q ns le = record { all = λ m h. none_in (subst (In m) (numbers_none xs (slot q) le) h); rest = λ r m h. inl h }
 
 -- what waits, ahead and behind
 pub waits_ahead : (us us' vs : List ℕ) (n : ℕ) → Gets us us' n → Waits (us ++ vs) (us' ++ vs) n
@@ -123,6 +104,34 @@ turned us vs n h = ⊎_elim (λ a. in_right vs us a) (λ b. in_left vs us b) (in
 -- a number is put into an ordered list
 pub gets_number : (old new : List ℕ) (n : ℕ) → new ≡ insert_key nat_cmp old n → Gets old new n
 gets_number old new n e = let j : Joined old (n ∷ []) new = put_joins old new n e in record { kept = j.kept; put = j.put n here; only = λ m h. ⊎_elim (λ a. inl a) (λ b. inr (one_in n b)) (j.only m h) }
+
+pub gets_at_end : (xs : List ℕ) (n : ℕ) → Gets xs (xs ++ n ∷ []) n
+gets_at_end xs n = record {
+  kept = λ m h. in_left xs (n ∷ []) h;
+  put = in_right xs (n ∷ []) here;
+  only = λ m h. ⊎_elim (λ a. inl a) (λ b. inr (one_in n b)) (in_split xs (n ∷ []) h);
+}
+
+pub gets_at : (xs : List ℕ) (k n : ℕ) → Gets xs (insert xs k n) n
+gets_at xs k n = record {
+  kept = λ m h. kept m (subst (In m) (sym (take-append-drop k xs)) h);
+  put = in_right (take k xs) (n ∷ drop k xs) here;
+  only = λ m h. ⊎_elim
+      (λ a. inl (subst (In m) (take-append-drop k xs) (in_left (take k xs) (drop k xs) a)))
+      (λ b. ⊎_elim (λ e. inr e) (λ c. inl (subst (In m) (take-append-drop k xs) (in_right (take k xs) (drop k xs) c))) (cons_in n (drop k xs) b))
+      (in_split (take k xs) (n ∷ drop k xs) h);
+}
+  where
+    kept : (m : ℕ) → In m (take k xs ++ drop k xs) → In m (insert xs k n)
+    kept m h = ⊎_elim (λ a. in_left (take k xs) (n ∷ drop k xs) a) (λ b. in_right (take k xs) (n ∷ drop k xs) (there b)) (in_split (take k xs) (drop k xs) h)
+
+pub gets_found : (xs : List ℕ) (k n : ℕ) → k < length xs → ((d : ℕ) → nat_cmp (get_or xs k d) n ≡ Equal) → Gets xs xs n
+gets_found xs k n lt e = record { kept = λ m h. h; put = subst (λ m. In m xs) (nat_cmp-IsAntisymmetric (get_or xs k n) n (e n)) (read_in xs k lt); only = λ m h. inl h }
+  where
+    read_in : (ys : List ℕ) (i : ℕ) → i < length ys → In (get_or ys i n) ys
+    read_in [] i lt = absurd (omega arith)
+    read_in (y ∷ ys) zero lt = here
+    read_in (y ∷ ys) (suc i) lt = there (read_in ys i (omega (arith, lt)))
 
 -- loops over numbers
 pub below_next : (P : ℕ → Type 0) (n : ℕ) → ((m : ℕ) → m < n → P m) → P n → (m : ℕ) → m < n + 1 → P m

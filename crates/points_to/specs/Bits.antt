@@ -1,9 +1,8 @@
 -- Sets of numbers as rows of bits, in blocks of 64, and the numbers of words.
-use Rattle.std.specs.Prelude.{◌≡◌, ℕ, zero, suc, ◌+◌, ◌-◌, ◌*◌, ◌/◌, ◌%◌, nat_eq, cond, List, [], ◌∷◌, ◌++◌, Option, MatchOption, unwrap_or}
-use Rattle.std.specs.Ordering.{nat_cmp}
-use Rattle.std.specs.BTreeMap.{BTreeMap, get}
+use Rattle.std.specs.Prelude.{◌≡◌, ℕ, zero, suc, ◌+◌, ◌-◌, ◌*◌, ◌/◌, ◌%◌, ◌<◌, ◌≤◌, ◌⊎◌, nat_eq, cond, List, [], ◌∷◌, ◌++◌, length, get_or, Option, MatchOption, Result, MatchResult}
 use Rattle.flow_system.specs.declared.fact.Element.{Element}
 use Rattle.flow_system.specs.declared.fact.Element.TheVariants.{Cell, Tag, Number}
+use Rattle.points_to.specs.Held.{In}
 
 -- the numbers of those of the lowest k bits that are 1, where the lowest bit has the number n
 unfoldable pub numbers : ℕ → ℕ → ℕ → List ℕ
@@ -14,9 +13,39 @@ numbers (suc k) n bits = cond (nat_eq (bits % 2) 1) (n ∷ []) [] ++ numbers k (
 abbrev pub block_numbers : ℕ × ℕ → List ℕ
 block_numbers b = numbers 64 (b.0 * 64) b.1
 
--- the bits of the block with this number
-abbrev pub bits_at : BTreeMap ℕ ℕ → ℕ → ℕ
-bits_at m q = unwrap_or (get nat_cmp m q) 0
+-- the number of the block at a place
+abbrev pub number_at : List (ℕ × ℕ) → ℕ → ℕ
+number_at bs i = (get_or bs i (0, 0)).0
+
+-- blocks stand in the order of their numbers, and no two have the same number
+abbrev pub Ascending : List (ℕ × ℕ) → Type 0
+Ascending bs = (i j : ℕ) → i < j → j < length bs → number_at bs i < number_at bs j
+
+-- the bits of the block with this number, and 0 where there is none
+pub record BitsAt (bs : List (ℕ × ℕ)) (q w : ℕ) : Type 0 where
+  pub held : (w ≡ 0) ⊎ In (q, w) bs
+  pub only : (v : ℕ) → In (q, v) bs → v ≡ w
+
+-- all blocks before a place have lower numbers, and none from another place on has
+pub record IsPlace (bs : List (ℕ × ℕ)) (q low high : ℕ) : Type 0 where
+  pub inside : low ≤ high
+  pub bound : high ≤ length bs
+  pub before : (i : ℕ) → i < low → number_at bs i < q
+  pub after : (i : ℕ) → high ≤ i → i < length bs → q ≤ number_at bs i
+
+-- the block with the number stands at this place
+pub record StandsAt (bs : List (ℕ × ℕ)) (q k : ℕ) : Type 0 where
+  pub within : k < length bs
+  pub number : number_at bs k ≡ q
+
+-- no block has the number, and one that has it would go to this place
+pub record GoesTo (bs : List (ℕ × ℕ)) (q k : ℕ) : Type 0 where
+  pub bound : k ≤ length bs
+  pub before : (i : ℕ) → i < k → number_at bs i < q
+  pub after : (i : ℕ) → k ≤ i → i < length bs → q < number_at bs i
+
+abbrev pub Finds : List (ℕ × ℕ) → ℕ → Result ℕ ℕ → Type 0
+Finds bs q r = MatchResult r (StandsAt bs q) (GoesTo bs q)
 
 -- the first of a list is taken, where there is one
 abbrev pub Takes : List ℕ → List ℕ → Option ℕ → Type 0

@@ -11,14 +11,14 @@ use Rattle.points_to.specs.Held.{In, in_part}
 
 -- the numbers in a set
 abbrev pub numbers_in : Bits → List ℕ
-numbers_in s = flat_map block_numbers s.blocks.entries
+numbers_in s = flat_map block_numbers s.blocks.items
 
 -- the words of blocks, and of a row
 abbrev pub block_words : ℕ × ℕ → List Element
 block_words b = map word_of (block_numbers b)
 
 abbrev pub row_words : Row → List Element
-row_words r = flat_map block_words r.words.blocks.entries
+row_words r = flat_map block_words r.words.blocks.items
 
 -- the items of a row
 abbrev pub row_items : Row → List Item

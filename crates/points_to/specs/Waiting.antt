@@ -29,9 +29,9 @@ abbrev pub numbers_in : Option (List ℕ) → List ℕ
 numbers_in None = []
 numbers_in (Some ns) = ns
 
--- the numbers in the set with this number, none where there is no such set
+-- the numbers in the row with this number, none where there is no such row
 abbrev pub numbers_at : List (List ℕ) → ℕ → List ℕ
-numbers_at sets n = numbers_in (slice_get sets n)
+numbers_at rows n = numbers_in (slice_get rows n)
 
 -- the inclusions that are registered at a place
 abbrev pub readers_of : Readers → Place → List ℕ
@@ -42,7 +42,7 @@ pub record Registers (old new : Place → List ℕ) (q : Place) (n : ℕ) : Type
   pub kept : (r : Place) (m : ℕ) → In m (old r) → In m (new r)
   pub put : In n (new q)
 
--- the readers of a place are in a list, and each reader that is not registered any more
-pub record Removes (old new : Place → List ℕ) (q : Place) (ns : List ℕ) : Type 0 where
-  pub all : (m : ℕ) → In m (old q) → In m ns
-  pub rest : (r : Place) (m : ℕ) → In m (old r) → In m (new r) ⊎ In m ns
+-- a place has no readers any more, and other places keep theirs, except perhaps some of its own
+pub record Clears (old new : Place → List ℕ) (q : Place) : Type 0 where
+  pub none : new q ≡ []
+  pub rest : (r : Place) (m : ℕ) → In m (old r) → In m (new r) ⊎ In m (old q)

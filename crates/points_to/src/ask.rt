@@ -2,11 +2,11 @@
 
 ghost use Rattle.std.specs.Prelude.{◌≡◌, ◌++◌, None, Some, OnOk};
 ghost use Rattle.std.specs.List.{flat_map};
-ghost use Rattle.flow_system.specs.Inclusions.{held as held', evaluated, into_site, forces, applies};
+ghost use Rattle.flow_system.specs.Inclusions.{held as held', evaluated, into_site, into_result, cells_at, forces, applies};
 ghost use Rattle.flow_system.specs.Shown.{tables_of, source_of, sink_of, inclusion_of};
 ghost use Rattle.flow_system.specs.Tables.{params_of};
-ghost use Rattle.points_to.specs.Held.{in_part, as_word, as_nodes, elements, items};
-ghost use Rattle.points_to.specs.Asked.{facts_at, vector_facts, target_facts, cell_facts, asked, flow_facts, delayed_facts, forced, demands};
+ghost use Rattle.points_to.specs.Held.{as_nodes, elements, items};
+ghost use Rattle.points_to.specs.Asked.{target_facts, cell_facts, flow_facts, delayed_facts, forced, demands};
 ghost use Rattle.points_to.specs.Applied.{call_arguments, call_facts, tag_applied};
 ghost use Rattle.points_to.specs.ByTag.{IsByTag};
 ghost use Rattle.points_to.specs.Known.{held};
@@ -14,115 +14,14 @@ ghost use Rattle.points_to.specs.Known.{held};
 use crate::by_tag::ByTag;
 use crate::facts::{Fact, Facts, Item};
 use crate::give::{arguments_by_tag, elements, items, value_nodes, width};
-use crate::nodes::{as_nodes, as_word, evaluated, in_part, picked};
+use crate::nodes::{as_nodes, evaluated, picked};
 use crate::tags::{called, delayed};
+use crate::targets::{facts_at, flow_to_target, nodes_at_place, vector_facts};
 use flow_system::fact::{Element, Part, Place};
 use flow_system::inclusion::{FlowSystem, Inclusion, Sink, Source};
-use grin_syntax::program::{ProcId, Target, Val, VarId, Word};
+use grin_syntax::program::{ProcId, Site, Val, Word};
 use seq::Seq;
 use std::alloc::{AllocError, Global};
-
-// Items, at a place.
-fn facts_at(place: Place, items: &[Item], out: &mut Seq<Fact>) -> Result<(), AllocError>
-    ensures { OnOk result (out.new ≡ out.old ++ facts_at place items.now) }
-{
-    for item in items {
-        out.push(Fact { place, item: *item })?;
-    }
-    Ok(())
-}
-
-// Some items as nodes, at a place.
-fn nodes_at_place(
-    alloc: Global,
-    system: &FlowSystem,
-    k: Option<usize>,
-    items: &[Item],
-    place: Place,
-    out: &mut Seq<Fact>,
-) -> Result<(), AllocError>
-    ensures { OnOk result (out.new ≡ out.old
-        ++ facts_at place (as_nodes (tables_of system.now) k items.now)) }
-{
-    let mut nodes = Seq::new(alloc);
-    as_nodes(alloc, system, k, items, &mut nodes)?;
-    facts_at(place, nodes.as_slice(), out)
-}
-
-// Words, at a variable of one word.
-fn words_at_variable(
-    alloc: Global,
-    x: VarId,
-    words: &[Element],
-    out: &mut Seq<Fact>,
-) -> Result<(), AllocError>
-    ensures { OnOk result (out.new ≡ out.old
-        ++ facts_at (Place.Var x.0) (in_part (Part.Word 0) words.now)) }
-{
-    let mut found = Seq::new(alloc);
-    in_part(Part::Word(0), words, &mut found)?;
-    facts_at(Place::Var(x.0), found.as_slice(), out)
-}
-
-// Word j of some items, at a variable.
-fn word_facts(
-    alloc: Global,
-    system: &FlowSystem,
-    j: u32,
-    items: &[Item],
-    x: VarId,
-    out: &mut Seq<Fact>,
-) -> Result<(), AllocError>
-    ensures { OnOk result (out.new ≡ out.old
-        ++ facts_at (Place.Var x.0)
-        (in_part (Part.Word 0) (as_word (tables_of system.now) j items.now))) }
-{
-    let mut words = Seq::new(alloc);
-    as_word(alloc, system, j, items, &mut words)?;
-    words_at_variable(alloc, x, words.as_slice(), out)
-}
-
-// The words of some items, at the variables of a vector. More than can be numbered are want of memory.
-fn vector_facts(
-    alloc: Global,
-    system: &FlowSystem,
-    items: &[Item],
-    xs: &[VarId],
-    out: &mut Seq<Fact>,
-) -> Result<(), AllocError>
-    ensures { OnOk result (out.new ≡ out.old
-        ++ vector_facts (tables_of system.now) items.now 0 xs.now) }
-{
-    let mut j: u32 = 0;
-    for x in xs {
-        word_facts(alloc, system, j, items, *x, out)?;
-        j = j.checked_add(1).ok_or(AllocError)?;
-    }
-    Ok(())
-}
-
-fn target_facts(
-    alloc: Global,
-    system: &FlowSystem,
-    k: Option<usize>,
-    items: &[Item],
-    target: &Target,
-    out: &mut Seq<Fact>,
-) -> Result<(), AllocError>
-    ensures { OnOk result (out.new ≡ out.old
-        ++ target_facts (tables_of system.now) k items.now target.now) }
-{
-    match target {
-        Target::Nothing => Ok(()),
-        Target::Node(x) => nodes_at_place(alloc, system, k, items, Place::Var(x.0), out),
-        Target::One(x) => {
-            let mut words = Seq::new(alloc);
-            picked(Part::Word(0), items, &mut words)?;
-            words_at_variable(alloc, *x, words.as_slice(), out)
-        }
-        Target::Vector(xs) => vector_facts(alloc, system, items, xs.as_slice(), out),
-    }
-}
 
 fn cell_facts(nodes: &[Item], word: Element, out: &mut Seq<Fact>) -> Result<(), AllocError>
     ensures { OnOk result (out.new ≡ out.old ++ cell_facts nodes.now word) }
@@ -141,27 +40,6 @@ fn cells_facts(nodes: &[Item], words: &[Element], out: &mut Seq<Fact>) -> Result
         cell_facts(nodes, *word, out)?;
     }
     Ok(())
-}
-
-// So that items, of so many words at most, reach a sink.
-fn asked(
-    alloc: Global,
-    system: &FlowSystem,
-    facts: &Facts,
-    k: Option<usize>,
-    items: &[Item],
-    sink: &Sink,
-    out: &mut Seq<Fact>,
-) -> Result<(), AllocError>
-    ensures { OnOk result (out.new ≡ out.old
-        ++ asked (tables_of system.now) (held facts.now) k items.now (sink_of sink.now)) }
-{
-    match sink {
-        Sink::To(target) => target_facts(alloc, system, k, items, target, out),
-        Sink::Result(f) => facts_at(Place::Result(f.0), items, out),
-        Sink::Site(s) => nodes_at_place(alloc, system, k, items, Place::Site(s.0), out),
-        Sink::CellsAt(w) => cells_asked(alloc, system, facts, k, items, *w, out),
-    }
 }
 
 fn cells_asked(
@@ -184,6 +62,69 @@ fn cells_asked(
     cells_facts(nodes.as_slice(), cells.as_slice(), out)
 }
 
+// What a source gives, at the result of a procedure.
+fn flow_to_result(
+    alloc: Global,
+    system: &FlowSystem,
+    facts: &Facts,
+    source: &Source,
+    f: ProcId,
+    out: &mut Seq<Fact>,
+) -> Result<(), AllocError>
+    ensures { OnOk result (out.new ≡ out.old
+        ++ flow_facts (tables_of system.now) (held facts.now) (source_of source.now)
+        (into_result f.0)) }
+{
+    let mut given = Seq::new(alloc);
+    items(alloc, system, facts, source, &mut given)?;
+    facts_at(Place::Result(f.0), given.as_slice(), out)
+}
+
+// What a source gives as nodes, at the cells of a site.
+fn flow_to_site(
+    alloc: Global,
+    system: &FlowSystem,
+    facts: &Facts,
+    source: &Source,
+    s: Site,
+    out: &mut Seq<Fact>,
+) -> Result<(), AllocError>
+    ensures { OnOk result (out.new ≡ out.old
+        ++ flow_facts (tables_of system.now) (held facts.now) (source_of source.now)
+        (into_site s.0)) }
+{
+    let mut given = Seq::new(alloc);
+    items(alloc, system, facts, source, &mut given)?;
+    let k = width(source);
+    nodes_at_place(alloc, system, k, given.as_slice(), Place::Site(s.0), out)
+}
+
+// What a source gives as nodes, at the cells of a word.
+fn flow_to_cells(
+    alloc: Global,
+    system: &FlowSystem,
+    facts: &Facts,
+    source: &Source,
+    w: Word,
+    out: &mut Seq<Fact>,
+) -> Result<(), AllocError>
+    ensures { OnOk result (out.new ≡ out.old
+        ++ flow_facts (tables_of system.now) (held facts.now) (source_of source.now)
+        (cells_at w)) }
+{
+    let mut given = Seq::new(alloc);
+    items(alloc, system, facts, source, &mut given)?;
+    cells_asked(
+        alloc,
+        system,
+        facts,
+        width(source),
+        given.as_slice(),
+        w,
+        out,
+    )
+}
+
 fn flow_facts(
     alloc: Global,
     system: &FlowSystem,
@@ -196,17 +137,12 @@ fn flow_facts(
         ++ flow_facts (tables_of system.now) (held facts.now) (source_of source.now)
         (sink_of sink.now)) }
 {
-    let mut given = Seq::new(alloc);
-    items(alloc, system, facts, source, &mut given)?;
-    asked(
-        alloc,
-        system,
-        facts,
-        width(source),
-        given.as_slice(),
-        sink,
-        out,
-    )
+    match sink {
+        Sink::To(target) => flow_to_target(alloc, system, facts, source, target, out),
+        Sink::Result(f) => flow_to_result(alloc, system, facts, source, *f, out),
+        Sink::Site(s) => flow_to_site(alloc, system, facts, source, *s, out),
+        Sink::CellsAt(w) => flow_to_cells(alloc, system, facts, source, *w, out),
+    }
 }
 
 // Arguments, at the parameters of a procedure.

@@ -2,14 +2,11 @@
 
 ghost use Rattle.std.specs.Prelude.{◌≡◌, ◌≢◌, ℕ, ◌^◌, ◌<◌, ◌↔◌, IsTrue, IfOk};
 ghost use Rattle.std.specs.Int.{bit_at};
-ghost use Rattle.std.specs.Ordering.{nat_cmp};
-ghost use Rattle.std.specs.BTreeMap.{IsOrdered};
 ghost use Rattle.std.proofs.Props.{props};
-ghost use Rattle.points_to.specs.Bits.{bits_at, Takes, number_of, word_of};
+ghost use Rattle.points_to.specs.Bits.{Ascending, BitsAt, Finds, IsPlace, Takes, number_of, word_of};
 
 use flow_system::fact::Element;
 use std::alloc::{AllocError, Global};
-use std::collections::BTreeMap;
 use std::marker::Model;
 
 /// The number of a word. Those of tags and of cells take turns, so that each kind of word fills half of the bits of its blocks.
@@ -103,15 +100,17 @@ fn without_bit(bits: u64, k: u32) -> u64
     bits & !(1 << k)
 }
 
-/// A set of numbers: the bits of each block that has a member, by the block's number.
+/// A set of numbers: each block that has a member, as its number and its bits, in the order of their numbers.
 #[derive(Drop)]
 pub struct Bits {
-    pub(crate) blocks: BTreeMap<u32, u64>,
-    ghost ordered: { IsOrdered nat_cmp blocks } by { Prim.hlevel props },
+    pub(crate) blocks: Vec<(u32, u64)>,
+    ghost ascending: { Ascending blocks.items } by { Prim.hlevel props },
 }
 
 impl Bits {
     ghost use Rattle.std.specs.Prelude.{[], OnOk};
+    ghost use Rattle.std.specs.List.{flat_map};
+    ghost use Rattle.points_to.specs.Bits.{block_numbers};
     ghost use Rattle.points_to.specs.Held.{In};
     ghost use Rattle.points_to.specs.Rows.{numbers_in, Gets};
 
@@ -120,7 +119,7 @@ impl Bits {
         ensures { numbers_in result ≡ [] }
     {
         Bits {
-            blocks: BTreeMap::new(alloc),
+            blocks: Vec::new(alloc),
         }
     }
 
@@ -129,7 +128,10 @@ impl Bits {
         requires { n < 2 ^ 38 }
         ensures { IsTrue result ↔ In n (numbers_in self.now) }
     {
-        has_bit(bits_at(&self.blocks, (n / 64) as u32), (n % 64) as u32)
+        has_bit(
+            bits_at(self.blocks.as_slice(), (n / 64) as u32),
+            (n % 64) as u32,
+        )
     }
 
     /// Puts a number there.
@@ -137,18 +139,73 @@ impl Bits {
         requires { n < 2 ^ 38 }
         ensures { OnOk result (Gets (numbers_in self.old) (numbers_in self.new) n) }
     {
+        Self::insert_in(&mut self.blocks, n)
+    }
+
+    fn insert_in(blocks: &mut Vec<(u32, u64)>, n: u64) -> Result<(), AllocError>
+        requires small { n < 2 ^ 38 }
+        requires ascending { Ascending blocks.old.items }
+        ensures ascending { Ascending blocks.new.items }
+        ensures gets { OnOk result (Gets (flat_map block_numbers blocks.old.items)
+            (flat_map block_numbers blocks.new.items) n) }
+    {
         let number = (n / 64) as u32;
-        let bits = with_bit(bits_at(&self.blocks, number), (n % 64) as u32);
-        self.blocks.insert(number, bits)?;
-        Ok(())
+        let bit = (n % 64) as u32;
+        match find(blocks.as_slice(), number) {
+            Ok(place) => {
+                let old = blocks[place].1;
+                let bits = with_bit(old, bit);
+                blocks[place] = (number, bits);
+                Ok(())
+            }
+            Err(place) => {
+                let bits = with_bit(0, bit);
+                blocks.insert(place, (number, bits))?;
+                Ok(())
+            }
+        }
     }
 }
 
-fn bits_at(blocks: &BTreeMap<u32, u64>, number: u32) -> u64
-    ensures { result ≡ bits_at blocks.now number }
+fn bits_at(blocks: &[(u32, u64)], number: u32) -> u64
+    requires { Ascending blocks.now }
+    ensures { BitsAt blocks.now number result }
 {
-    match blocks.get(&number) {
-        Some(bits) => *bits,
-        None => 0,
+    match find(blocks, number) {
+        Ok(place) => blocks[place].1,
+        Err(_) => 0,
     }
+}
+
+// The place of the block with a number, or the place where it would go.
+fn find(blocks: &[(u32, u64)], number: u32) -> Result<usize, usize>
+    requires { Ascending blocks.now }
+    ensures { Finds blocks.now number result }
+{
+    let place = place_of(blocks, number);
+    if place == blocks.len() {
+        return Err(place);
+    }
+    if blocks[place].0 == number {
+        return Ok(place);
+    }
+    Err(place)
+}
+
+// The place of the first block that doesn't stand before the one with this number.
+fn place_of(blocks: &[(u32, u64)], number: u32) -> usize
+    requires { Ascending blocks.now }
+    ensures { IsPlace blocks.now number result result }
+{
+    let mut low = 0;
+    let mut high = blocks.len();
+    'halving: while low < high {
+        let middle = low + (high - low) / 2;
+        if blocks[middle].0 < number {
+            low = middle + 1;
+        } else {
+            high = middle;
+        }
+    }
+    low
 }

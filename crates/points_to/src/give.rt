@@ -14,6 +14,7 @@ ghost use Rattle.points_to.specs.ByTag.{IsByTag};
 use crate::by_tag::ByTag;
 use crate::facts::{Facts, Item};
 use crate::fetch::fetched_from;
+use crate::first::first_at_all;
 use crate::nodes::{Shift, append_shifted, as_nodes, as_nodes_of, in_part, nodes_of_words, picked};
 use crate::tags::{fields_of, longer};
 use flow_system::fact::{Element, Part, Place};
@@ -218,7 +219,24 @@ fn fetched_at_all(
     Ok(())
 }
 
-// Word i of the cells of a word.
+/// The words i of the cells of a word.
+pub fn fetched_words(
+    alloc: Global,
+    system: &FlowSystem,
+    facts: &Facts,
+    w: Word,
+    i: u32,
+    out: &mut Seq<Element>,
+) -> Result<(), AllocError>
+    ensures { OnOk result (out.new ≡ out.old
+        ++ flat_map (fetched_at (tables_of system.now) (held facts.now) i)
+        (elements (tables_of system.now) (held facts.now) w)) }
+{
+    let mut cells = Seq::new(alloc);
+    elements(alloc, system, facts, w, &mut cells)?;
+    fetched_at_all(alloc, system, facts, i, cells.as_slice(), out)
+}
+
 fn word_at(
     alloc: Global,
     system: &FlowSystem,
@@ -232,10 +250,8 @@ fn word_at(
         (flat_map (fetched_at (tables_of system.now) (held facts.now) i)
         (elements (tables_of system.now) (held facts.now) w))) }
 {
-    let mut cells = Seq::new(alloc);
-    elements(alloc, system, facts, w, &mut cells)?;
     let mut words = Seq::new(alloc);
-    fetched_at_all(alloc, system, facts, i, cells.as_slice(), &mut words)?;
+    fetched_words(alloc, system, facts, w, i, &mut words)?;
     in_part(Part::Word(0), words.as_slice(), out)
 }
 
@@ -502,28 +518,6 @@ fn done_at_all(
 {
     for word in words {
         done_at(system, facts, *word, out)?;
-    }
-    Ok(())
-}
-
-// The first words at a cell.
-fn first_at(facts: &Facts, word: Element, out: &mut Seq<Element>) -> Result<(), AllocError>
-    ensures { OnOk result (out.new ≡ out.old
-        ++ picked (Part.Word 0) (cell_items (held facts.now) word)) }
-{
-    match word {
-        Element::Cell(s) => facts.append_words(Place::Site(s), Part::Word(0), out),
-        Element::Tag(_) => Ok(()),
-        Element::Number => Ok(()),
-    }
-}
-
-fn first_at_all(facts: &Facts, words: &[Element], out: &mut Seq<Element>) -> Result<(), AllocError>
-    ensures { OnOk result (out.new ≡ out.old
-        ++ flat_map (λ w. picked (Part.Word 0) (cell_items (held facts.now) w)) words.now) }
-{
-    for word in words {
-        first_at(facts, *word, out)?;
     }
     Ok(())
 }

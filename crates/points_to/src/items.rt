@@ -159,8 +159,8 @@ fn append_block(part: Part, block: Block, out: &mut Seq<Item>) -> Result<(), All
 fn append_row(row: &Row, out: &mut Seq<Item>) -> Result<(), AllocError>
     ensures { OnOk result (out.new ≡ out.old ++ row_items row.now) }
 {
-    for (number, bits) in &row.words.blocks {
-        append_block(row.part, Block::new(*number, *bits), out)?;
+    for block in row.words.blocks.as_slice() {
+        append_block(row.part, Block::new(block.0, block.1), out)?;
     }
     Ok(())
 }
@@ -187,8 +187,8 @@ fn append_block_words(block: Block, out: &mut Seq<Element>) -> Result<(), AllocE
 fn append_words(row: &Row, out: &mut Seq<Element>) -> Result<(), AllocError>
     ensures { OnOk result (out.new ≡ out.old ++ row_words row.now) }
 {
-    for (number, bits) in &row.words.blocks {
-        append_block_words(Block::new(*number, *bits), out)?;
+    for block in row.words.blocks.as_slice() {
+        append_block_words(Block::new(block.0, block.1), out)?;
     }
     Ok(())
 }
@@ -242,8 +242,8 @@ fn append_done_tags(system: &FlowSystem, row: &Row, out: &mut Seq<Item>) -> Resu
     ensures { OnOk result (out.new ≡ out.old
         ++ done_items (tables_of system.now) (in_part Part.Tags (row_words row.now))) }
 {
-    for (number, bits) in &row.words.blocks {
-        append_done_block(system, Block::new(*number, *bits), out)?;
+    for block in row.words.blocks.as_slice() {
+        append_done_block(system, Block::new(block.0, block.1), out)?;
     }
     Ok(())
 }

@@ -11,6 +11,7 @@ mod bits;
 mod by_tag;
 mod facts;
 mod fetch;
+mod first;
 mod flow;
 mod give;
 mod items;
@@ -23,6 +24,7 @@ mod reads;
 mod rounds;
 mod tables;
 mod tags;
+mod targets;
 mod wanted;
 mod worklist;
 

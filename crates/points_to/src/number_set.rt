@@ -1,21 +1,19 @@
 // Sets of inclusions, by their numbers.
 
-ghost use Rattle.std.specs.Prelude.{◌≡◌, ℕ, ◌<◌, ◌^◌, [], ◌∷◌, ◌++◌, length, IfSome, IfNone, OnOk, IsTrue, ◌↔◌};
-ghost use Rattle.points_to.specs.Held.{In};
+ghost use Rattle.std.specs.Prelude.{◌≡◌, ℕ, ◌<◌, ◌≤◌, ◌^◌, [], ◌∷◌, ◌++◌, length, IfSome, IfNone, OnOk};
 ghost use Rattle.points_to.specs.Rows.{Gets};
 
-use seq::Seq;
 use std::alloc::{AllocError, Global};
 use std::collections::BTreeSet;
 use std::marker::Model;
 
-/// Numbers of inclusions, ascending and without repeats.
+/// Numbers of inclusions in a tree, of which the least and the greatest can be taken.
 #[derive(Drop)]
-pub struct Numbers {
+pub struct NumberTree {
     set: BTreeSet<u32>,
 }
 
-impl Model for Numbers {
+impl Model for NumberTree {
     ghost use Rattle.std.specs.Prelude.{List, ℕ};
 
     ghost Value = { List ℕ };
@@ -23,12 +21,12 @@ impl Model for Numbers {
     ghost view = { λ s. s.set.keys };
 }
 
-impl Numbers {
+impl NumberTree {
     /// No numbers.
-    pub fn new(alloc: Global) -> Numbers
+    pub fn new(alloc: Global) -> NumberTree
         ensures { result ≡ [] }
     {
-        Numbers {
+        NumberTree {
             set: BTreeSet::new(alloc),
         }
     }
@@ -63,13 +61,6 @@ impl Numbers {
     {
         self.set.pop_last()
     }
-
-    /// Puts them at the end of a list.
-    pub fn append(&self, out: &mut Seq<u32>) -> Result<(), AllocError>
-        ensures { OnOk result (out.new ≡ out.old ++ self.now) }
-    {
-        append_keys(&self.set, out)
-    }
 }
 
 fn insert_key(numbers: &mut BTreeSet<u32>, n: u32) -> Result<(), AllocError>
@@ -79,11 +70,86 @@ fn insert_key(numbers: &mut BTreeSet<u32>, n: u32) -> Result<(), AllocError>
     Ok(())
 }
 
-fn append_keys(numbers: &BTreeSet<u32>, out: &mut Seq<u32>) -> Result<(), AllocError>
-    ensures { OnOk result (out.new ≡ out.old ++ numbers.now.keys) }
-{
-    for n in numbers {
-        out.push(*n)?;
+// How many numbers are moved, at most, to put one at its place.
+const MOST_MOVED: usize = 32;
+
+/// Numbers of inclusions in a row: cheap to put at the end, and to walk through. A short row ascends and has no repeats; a long one may have some.
+#[derive(Drop)]
+pub struct NumberRow {
+    row: Vec<u32>,
+}
+
+impl Model for NumberRow {
+    ghost use Rattle.std.specs.Prelude.{List, ℕ};
+
+    ghost Value = { List ℕ };
+
+    ghost view = { λ s. s.row.items };
+}
+
+impl NumberRow {
+    /// No numbers.
+    pub fn new(alloc: Global) -> NumberRow
+        ensures { result ≡ [] }
+    {
+        NumberRow {
+            row: Vec::new(alloc),
+        }
     }
+
+    /// The numbers.
+    pub fn as_slice(&self) -> &[u32]
+        ensures { result.now ≡ self.now }
+    {
+        self.row.as_slice()
+    }
+
+    /// Puts a number among them.
+    pub fn put(&mut self, n: u32) -> Result<(), AllocError>
+        ensures { OnOk result (Gets self.old self.new n) }
+    {
+        put_in_row(&mut self.row, n)
+    }
+
+    /// Takes all numbers away, and keeps their memory.
+    pub fn clear(&mut self)
+        ensures { self.new ≡ [] }
+    {
+        self.row.clear();
+    }
+}
+
+fn put_in_row(row: &mut Vec<u32>, n: u32) -> Result<(), AllocError>
+    ensures { OnOk result (Gets row.old.items row.new.items n) }
+{
+    // Inclusions are mostly satisfied in ascending order.
+    if is_past(row.as_slice(), n) {
+        row.push(n)?;
+        return Ok(());
+    }
+    match row.binary_search(&n) {
+        Ok(_) => Ok(()),
+        Err(at) => put_at(row, at, n),
+    }
+}
+
+// Puts a number at its place, or at the end where too many would have to be moved.
+fn put_at(row: &mut Vec<u32>, at: usize, n: u32) -> Result<(), AllocError>
+    requires { at ≤ length row.old.items }
+    ensures { OnOk result (Gets row.old.items row.new.items n) }
+{
+    if row.len() - at > MOST_MOVED {
+        row.push(n)?;
+        return Ok(());
+    }
+    row.insert(at, n)?;
     Ok(())
+}
+
+// Whether a number is greater than the last one of a row.
+fn is_past(row: &[u32], n: u32) -> bool {
+    match row.last() {
+        None => true,
+        Some(last) => *last < n,
+    }
 }

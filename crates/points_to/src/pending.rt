@@ -4,7 +4,7 @@ ghost use Rattle.std.specs.Prelude.{◌≡◌, ℕ, ◌<◌, ◌≤◌, [], leng
 ghost use Rattle.points_to.specs.Held.{In};
 ghost use Rattle.points_to.specs.Waiting.{waiting, Waits, Takes};
 
-use crate::number_set::Numbers;
+use crate::number_set::NumberTree;
 use std::alloc::{AllocError, Global};
 use std::mem;
 
@@ -12,8 +12,8 @@ use std::mem;
 /// So facts that go from inclusion to inclusion in the order of the list, or against it, are carried on within one sweep.
 #[derive(Drop)]
 pub struct Pending {
-    ahead: Numbers,
-    behind: Numbers,
+    ahead: NumberTree,
+    behind: NumberTree,
     last: u32,
     upwards: bool,
 }
@@ -23,13 +23,13 @@ impl Pending {
     pub fn all(alloc: Global, count: u32) -> Result<Pending, AllocError>
         ensures { IfOk result (λ w. (n : ℕ) → n < count → In n (waiting w)) }
     {
-        let mut ahead = Numbers::new(alloc);
+        let mut ahead = NumberTree::new(alloc);
         for n in 0..count {
             ahead.put(n)?;
         }
         Ok(Pending {
             ahead,
-            behind: Numbers::new(alloc),
+            behind: NumberTree::new(alloc),
             last: 0,
             upwards: true,
         })

@@ -2,18 +2,16 @@
 
 ghost use Rattle.std.specs.Prelude.{◌≡◌, ℕ, ◌<◌, [], length, OnOk};
 ghost use Rattle.flow_system.specs.declared.fact.Place.{Place as Place'};
-ghost use Rattle.points_to.specs.Waiting.{slot, numbers_at, readers_of, Registers, Removes};
+ghost use Rattle.points_to.specs.Waiting.{slot, numbers_at, readers_of, Registers, Clears};
 
-use crate::number_set::Numbers;
+use crate::number_set::NumberRow;
 use flow_system::fact::Place;
-use seq::Seq;
 use std::alloc::{AllocError, Global};
-use std::mem;
 
 /// For each place the inclusions that read it.
 #[derive(Drop)]
 pub struct Readers {
-    by_slot: Vec<Numbers>,
+    by_slot: Vec<NumberRow>,
 }
 
 impl Readers {
@@ -36,22 +34,24 @@ impl Readers {
         Ok(())
     }
 
-    /// Takes the readers of a place away from it, and puts them at the end of a list.
-    pub fn remove(
-        &mut self,
-        alloc: Global,
-        place: Place,
-        out: &mut Seq<u32>,
-    ) -> Result<(), AllocError>
-        ensures { OnOk result (Removes (readers_of self.old) (readers_of self.new) place out.new) }
+    /// The readers of a place.
+    pub fn at(&self, place: Place) -> &[u32]
+        ensures { result.now ≡ readers_of self.now place }
+    {
+        match self.by_slot.get(slot(place)) {
+            None => &[],
+            Some(readers) => readers.as_slice(),
+        }
+    }
+
+    /// Takes the readers of a place away from it.
+    pub fn clear(&mut self, place: Place)
+        ensures { Clears (readers_of self.old) (readers_of self.new) place }
     {
         let at = slot(place);
-        if at >= self.by_slot.len() {
-            return Ok(());
+        if at < self.by_slot.len() {
+            self.by_slot[at].clear();
         }
-        let taken = mem::replace(&mut self.by_slot[at], Numbers::new(alloc));
-        taken.append(out)?;
-        Ok(())
     }
 }
 
@@ -66,13 +66,13 @@ fn slot(place: Place) -> usize
     }
 }
 
-// Makes empty sets up to the one with this number.
-fn grow(alloc: Global, sets: &mut Vec<Numbers>, n: usize) -> Result<(), AllocError>
-    ensures there { OnOk result (n < length sets.new.items) }
-    ensures same { OnOk result (numbers_at sets.new.items ≡ numbers_at sets.old.items) }
+// Makes empty rows up to the one with this number.
+fn grow(alloc: Global, rows: &mut Vec<NumberRow>, n: usize) -> Result<(), AllocError>
+    ensures there { OnOk result (n < length rows.new.items) }
+    ensures same { OnOk result (numbers_at rows.new.items ≡ numbers_at rows.old.items) }
 {
-    'growing: while sets.len() <= n {
-        sets.push(Numbers::new(alloc))?;
+    'growing: while rows.len() <= n {
+        rows.push(NumberRow::new(alloc))?;
     }
     Ok(())
 }

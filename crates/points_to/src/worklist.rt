@@ -49,13 +49,16 @@ impl Worklist {
     }
 
     // Lets the readers of a place wait. They are registered again when they are satisfied.
-    fn wake(&mut self, alloc: Global, place: Place) -> Result<(), AllocError>
+    fn wake(&mut self, place: Place) -> Result<(), AllocError>
         ensures same { OnOk result (self.new.facts ≡ self.old.facts) }
         ensures wakes { OnOk result (Wakes self.old self.new place) }
     {
-        let mut readers = Seq::new(alloc);
-        self.readers.remove(alloc, place, &mut readers)?;
-        put_all(&mut self.pending, readers.as_slice())?;
+        let readers = self.readers.at(place);
+        if readers.is_empty() {
+            return Ok(());
+        }
+        put_all(&mut self.pending, readers)?;
+        self.readers.clear(place);
         Ok(())
     }
 
@@ -71,7 +74,7 @@ impl Worklist {
         if !added {
             return Ok(false);
         }
-        self.wake(alloc, fact.place)?;
+        self.wake(fact.place)?;
         Ok(true)
     }
 

@@ -2,7 +2,7 @@ use Rattle.flow_system.specs.declared.fact.Part.TheVariants.{Word as word}
 use Rattle.points_to.specs.Known.{held}
 use Rattle.points_to.specs.Held.{picked, cell_items}
 use Rattle.points_to.proofs.Loops.{flat_next, flat_done}
-use Rattle.points_to.proofs.give.first_at_all.Goals as goal
+use Rattle.points_to.proofs.first.first_at_all.Goals as goal
 
 pub loop-word-preserved : goal.loop-word-preserved
 loop-word-preserved c = flat_next (λ w. picked (word 0) (cell_items (held c.args.facts.now) w)) _ _ _ _ _ _ c.loop-word-test.true c.loop-word.invariant c.in_ok-first_at.ensures

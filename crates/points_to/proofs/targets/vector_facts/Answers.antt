@@ -5,7 +5,7 @@ use Rattle.flow_system.specs.Shown.{tables_of}
 use Rattle.points_to.specs.Held.{in_part, as_word}
 use Rattle.points_to.specs.Asked.{vector_facts, facts_at}
 use Rattle.points_to.proofs.Loops.{numbered_next, numbered_done}
-use Rattle.points_to.proofs.ask.vector_facts.Goals as goal
+use Rattle.points_to.proofs.targets.vector_facts.Goals as goal
 
 pub loop-x-preserved : goal.loop-x-preserved
 loop-x-preserved c =
