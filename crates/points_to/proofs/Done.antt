@@ -1,5 +1,5 @@
 -- The evaluated nodes at a place, found row by row.
-use Rattle.std.proofs.Common.{◌≡◌, ℕ, zero, suc, true, false, cond, nat_lt, List, [], ◌∷◌, ◌++◌, Option, Some, None, append_assoc, refl, sym, ap, ◌∙◌, arith}
+use Rattle.std.proofs.Common.{◌≡◌, ℕ, zero, suc, cond, nat_lt, List, [], ◌∷◌, ◌++◌, Option, Some, None, append_assoc, refl, sym, ap, ◌∙◌, arith}
 use Rattle.std.specs.List.{flat_map}
 use Rattle.std.proofs.lemmas.List.Concat.{flat_map-append}
 use Rattle.flow_system.specs.declared.fact.Element.{Element}
@@ -11,9 +11,7 @@ use Rattle.flow_system.specs.Inclusions.{nodes_at, evaluated}
 use Rattle.flow_system.specs.Tables.{Tables, fields_of}
 use Rattle.grin_syntax.specs.declared.program.Word as W
 use Rattle.points_to.specs.declared.facts.Item.{Item}
-use Rattle.points_to.specs.declared.items.Row.{Row}
-use Rattle.points_to.specs.Rows.{row_words, row_items}
-use Rattle.points_to.specs.Held.{item, picked_one, picked, in_part, node_part, field_part, is_done, made_node, node_of_words, node_of_word, done_tag, done_part, done_items, elements, cell_items, items}
+use Rattle.points_to.specs.Held.{item, picked_one, picked, node_part, field_part, made_node, node_of_words, node_of_word, done_tag, done_part, done_items, elements, cell_items, items}
 use Rattle.points_to.proofs.GivenItems.{lt_false}
 
 pub flat_flat : {X Y Z : Type 0} (g : Y → List Z) (f : X → List Y) (xs : List X) → flat_map g (flat_map f xs) ≡ flat_map (λ x. flat_map g (f x)) xs
@@ -28,34 +26,6 @@ pub appends_none : {X : Type 0} (out more : List X) → more ≡ [] → out ≡ 
 appends_none out more e = sym (append_nil out) ∙ ap (λ l. out ++ l) (sym e)
 
 module _ (p : Tables) where
-  -- a row
-  pub done_tag_is : (out now : List Item) (u : Element) → now ≡ out ++ done_tag p u → now ≡ out ++ done_items p (in_part tags (u ∷ []))
-  done_tag_is out now u e = e ∙ ap (λ l. out ++ l) (sym (append_nil (done_tag p u)))
-
-  pub done_next : (out now all : List Item) (u : Element) (rest : List Element) → now ≡ out ++ done_items p (in_part tags (u ∷ [])) → out ++ done_items p (in_part tags (u ∷ rest)) ≡ all → now ++ done_items p (in_part tags rest) ≡ all
-  done_next out now all u rest e h = ap (λ l. l ++ done_items p (in_part tags rest)) (e ∙ ap (λ l. out ++ l) (append_nil (done_tag p u))) ∙ append_assoc out (done_tag p u) (done_items p (in_part tags rest)) ∙ h
-
-  pub done_field : (t i : ℕ) (ks : List Element) → is_done p t ≡ true → done_items p (in_part (field t i) ks) ≡ in_part (field t i) ks
-  done_field t i [] e = refl
-  done_field t i (k ∷ ks) e = ap (λ b. cond b (item (field t i) k ∷ []) [] ++ done_items p (in_part (field t i) ks)) e ∙ ap (λ l. item (field t i) k ∷ l) (done_field t i ks e)
-
-  pub undone_field : (t i : ℕ) (ks : List Element) → is_done p t ≡ false → done_items p (in_part (field t i) ks) ≡ []
-  undone_field t i [] e = refl
-  undone_field t i (k ∷ ks) e = ap (λ b. cond b (item (field t i) k ∷ []) [] ++ done_items p (in_part (field t i) ks)) e ∙ undone_field t i ks e
-
-  pub undone_word : (j : ℕ) (ks : List Element) → done_items p (in_part (word j) ks) ≡ []
-  undone_word j [] = refl
-  undone_word j (k ∷ ks) = undone_word j ks
-
-  pub done_row_field : (r : Row) (t i : ℕ) → r.part ≡ field t i → is_done p t ≡ true → done_items p (row_items r) ≡ row_items r
-  done_row_field r t i q e = ap (λ s. done_items p (in_part s (row_words r))) q ∙ done_field t i (row_words r) e ∙ ap (λ s. in_part s (row_words r)) (sym q)
-
-  pub undone_row_field : (r : Row) (t i : ℕ) → r.part ≡ field t i → is_done p t ≡ false → done_items p (row_items r) ≡ []
-  undone_row_field r t i q e = ap (λ s. done_items p (in_part s (row_words r))) q ∙ undone_field t i (row_words r) e
-
-  pub undone_row_word : (r : Row) (j : ℕ) → r.part ≡ word j → done_items p (row_items r) ≡ []
-  undone_row_word r j q = ap (λ s. done_items p (in_part s (row_words r))) q ∙ undone_word j (row_words r)
-
   -- what is left of nodes
   done_nodes : (X : List Item) → done_items p (flat_map (λ i. node_part i.part i) X) ≡ done_items p X
   done_nodes [] = refl

@@ -5,12 +5,16 @@ pub mod Gets
 pub mod Blocks
 pub mod Numbers
 pub mod Rows
+pub mod BlockSets
 pub mod Done
 pub mod Fields
 pub mod OneTag
 pub mod Sets
 pub mod Loops
 pub mod Direct
+pub mod OnePart
+pub mod FromRuns
+pub mod TablesOfRuns
 pub mod Search
 pub mod Solved
 pub mod Read

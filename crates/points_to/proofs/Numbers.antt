@@ -1,14 +1,14 @@
 -- The numbers of the bits that are 1, and sets of them.
 use Rattle.std.proofs.Common.{◌≡◌, ◌≢◌, ℕ, zero, suc, ◌+◌, ◌*◌, ◌/◌, ◌%◌, ◌<◌, Bool, true, cond, nat_eq, List, [], ◌∷◌, ◌++◌, get_or, slice_set, take, drop, refl, sym, ap, ◌∙◌, subst, inl, inr, ⊎_elim, arith}
-use Rattle.std.specs.Prelude.{IsTrue}
+use Rattle.std.specs.Prelude.{◌⊎◌, max, IsTrue}
 use Rattle.std.specs.Int.{bit_at}
 use Rattle.std.specs.List.{flat_map, insert}
 use Rattle.std.proofs.lemmas.Bool.{cases_eq}
 use Rattle.std.proofs.lemmas.Bool.Decides.{nat_tests}
 use Rattle.std.proofs.lemmas.List.{take-append-drop}
-use Rattle.std.proofs.lemmas.Nat.Bits.{bit_at_lowest, bit_at-suc, bit_at-zero}
+use Rattle.std.proofs.lemmas.Nat.Bits.{bit_at_lowest, bit_at-suc, bit_at-zero, bit_at-lt}
 use Rattle.points_to.specs.Held.{In, here}
-use Rattle.points_to.specs.Rows.{Gets}
+use Rattle.points_to.specs.Rows.{GetsAll}
 use Rattle.points_to.specs.Bits.{numbers, block_numbers, BitsAt, StandsAt}
 use Rattle.points_to.proofs.Member.{none_in, one_in, in_left, in_right, in_split, when_in, in_when, in_flat, flat_in}
 use Rattle.points_to.proofs.Blocks.{its_number}
@@ -100,30 +100,42 @@ module _ (bs : List (ℕ × ℕ)) (n w : ℕ) (at : BitsAt bs (n / 64) w) where
   pub has_number : (b : Bool) → (IsTrue b → bit_at w (n % 64) ≡ 1) × (bit_at w (n % 64) ≡ 1 → IsTrue b) → (IsTrue b → In n (flat_map block_numbers bs)) × (In n (flat_map block_numbers bs) → IsTrue b)
   has_number b t = (λ h. bit_member (t.0 h), λ h. t.1 (member_bit h))
 
--- a bit becomes 1
-pub block_gets : (n q v w : ℕ) → q ≡ n / 64 → bit_at w (n % 64) ≡ 1 → ((i : ℕ) → i ≢ n % 64 → bit_at w i ≡ bit_at v i) → Gets (block_numbers (q, v)) (block_numbers (q, w)) n
-block_gets n q v w e one others = record {
-  kept = λ y h. let s = in_bit 64 (q * 64) v y h in subst (λ m. In m (numbers 64 (q * 64) w)) (sym s.2) (bit_in 64 (q * 64) w s.0 s.1 (⊎_elim (λ same. subst (λ j. bit_at w j ≡ 1) (sym same) one) (λ d. others s.0 d ∙ s.3) (cases_eq s.0 (n % 64))));
-  put = subst (λ m. In m (numbers 64 (q * 64) w)) n_is (bit_in 64 (q * 64) w (n % 64) (omega arith) one);
+-- a bit of both
+or_left : (x y z : ℕ) → z ≡ max x y → y < 2 → x ≡ 1 → z ≡ 1
+or_left x y z e lt one = omega (arith, e, lt, one)
+
+or_right : (x y z : ℕ) → z ≡ max x y → x < 2 → y ≡ 1 → z ≡ 1
+or_right x y z e lt one = omega (arith, e, lt, one)
+
+or_only : (x y z : ℕ) → z ≡ max x y → z ≡ 1 → (x ≡ 1) ⊎ (y ≡ 1)
+or_only x y z e one = ⊎_elim (λ a. inl a) (λ d. let n : x ≢ 1 = d in inr (omega (arith, e, one, n))) (cases_eq x 1)
+
+-- a block gets the numbers of another with its number
+pub block_gets : (q v b w : ℕ) → ((i : ℕ) → bit_at w i ≡ max (bit_at v i) (bit_at b i)) → GetsAll (block_numbers (q, v)) (block_numbers (q, w)) (block_numbers (q, b))
+block_gets q v b w both = record {
+  kept = λ y h. let s = in_bit 64 (q * 64) v y h in subst (λ m. In m (numbers 64 (q * 64) w)) (sym s.2) (bit_in 64 (q * 64) w s.0 s.1 (or_left (bit_at v s.0) (bit_at b s.0) (bit_at w s.0) (both s.0) (bit_at-lt b s.0) s.3));
+  put = λ y h. let s = in_bit 64 (q * 64) b y h in subst (λ m. In m (numbers 64 (q * 64) w)) (sym s.2) (bit_in 64 (q * 64) w s.0 s.1 (or_right (bit_at v s.0) (bit_at b s.0) (bit_at w s.0) (both s.0) (bit_at-lt v s.0) s.3));
   only = λ y h.
       let s = in_bit 64 (q * 64) w y h in
-      let at : y ≡ q * 64 + s.0 = s.2 in
-      ⊎_elim (λ same. inr (omega (arith, e, at, same))) (λ d. inl (subst (λ m. In m (numbers 64 (q * 64) v)) (sym at) (bit_in 64 (q * 64) v s.0 s.1 (sym (others s.0 d) ∙ s.3)))) (cases_eq s.0 (n % 64));
+      ⊎_elim
+      (λ e. inl (subst (λ m. In m (numbers 64 (q * 64) v)) (sym s.2) (bit_in 64 (q * 64) v s.0 s.1 e)))
+      (λ e. inr (subst (λ m. In m (numbers 64 (q * 64) b)) (sym s.2) (bit_in 64 (q * 64) b s.0 s.1 e)))
+      (or_only (bit_at v s.0) (bit_at b s.0) (bit_at w s.0) (both s.0) s.3);
 }
-  where
-    n_is : q * 64 + n % 64 ≡ n
-    n_is = omega (arith, e)
 
 -- in the block that stands there
-pub gets_bit : (bs : List (ℕ × ℕ)) (k n w : ℕ) (b : ℕ × ℕ) → StandsAt bs (n / 64) k → b ≡ get_or bs k b → bit_at w (n % 64) ≡ 1 → ((i : ℕ) → i ≢ n % 64 → bit_at w i ≡ bit_at b.1 i)
-    → Gets (flat_map block_numbers bs) (flat_map block_numbers (slice_set bs k (n / 64, w))) n
-gets_bit bs k n w b s e one others =
-    gets_at block_numbers bs k b (n / 64, w) n s.within e
-    (subst (λ q. Gets (block_numbers (q, b.1)) (block_numbers (n / 64, w)) n) (sym (its_number bs (n / 64) k b s e)) (block_gets n (n / 64) b.1 w refl one others))
+pub gets_bits : (bs : List (ℕ × ℕ)) (k w : ℕ) (b new : ℕ × ℕ) → StandsAt bs new.0 k → b ≡ get_or bs k b → ((i : ℕ) → bit_at w i ≡ max (bit_at b.1 i) (bit_at new.1 i))
+    → GetsAll (flat_map block_numbers bs) (flat_map block_numbers (slice_set bs k (new.0, w))) (block_numbers new)
+gets_bits bs k w b new s e both =
+    gets_at block_numbers (block_numbers new) bs k b (new.0, w) s.within e
+    (subst (λ q. GetsAll (block_numbers (q, b.1)) (block_numbers (new.0, w)) (block_numbers new)) (sym (its_number bs new.0 k b s e)) (block_gets new.0 b.1 new.1 w both))
 
--- in a new block
-pub gets_block : (bs : List (ℕ × ℕ)) (k n w : ℕ) → bit_at w (n % 64) ≡ 1 → ((i : ℕ) → i ≢ n % 64 → bit_at w i ≡ bit_at 0 i)
-    → Gets (flat_map block_numbers bs) (flat_map block_numbers (insert bs k (n / 64, w))) n
-gets_block bs k n w one others =
-    subst (λ l. Gets (flat_map block_numbers l) (flat_map block_numbers (insert bs k (n / 64, w))) n) (take-append-drop k bs)
-    (gets_between block_numbers (take k bs) (drop k bs) (n / 64, w) n (subst (λ l. Gets l (block_numbers (n / 64, w)) n) (no_numbers 64 (n / 64 * 64)) (block_gets n (n / 64) 0 w refl one others)))
+-- a list of its own members
+gets_itself : {X : Type 0} (xs : List X) → GetsAll [] xs xs
+gets_itself xs = record { kept = λ y h. none_in h; put = λ y h. h; only = λ y h. inr h }
+
+-- a new block
+pub gets_block : (bs : List (ℕ × ℕ)) (k : ℕ) (new : ℕ × ℕ) → GetsAll (flat_map block_numbers bs) (flat_map block_numbers (insert bs k new)) (block_numbers new)
+gets_block bs k new =
+    subst (λ l. GetsAll (flat_map block_numbers l) (flat_map block_numbers (insert bs k new)) (block_numbers new)) (take-append-drop k bs)
+    (gets_between block_numbers (block_numbers new) (take k bs) (drop k bs) new (gets_itself (block_numbers new)))

@@ -1,8 +1,8 @@
 -- Rows of words, and the items that they hold.
-use Rattle.std.proofs.Common.{◌≡◌, ◌≢◌, ◌+◌, ◌-◌, ◌*◌, ◌/◌, ◌%◌, ◌<◌, ℕ, zero, suc, Bool, true, false, cond, nat_eq, List, [], ◌∷◌, ◌++◌, map, length, get_or, take, Some, slice_get, refl, sym, ap, ◌∙◌, subst, inl, inr, ⊎_elim, arith}
-use Rattle.std.specs.Prelude.{◌⊎◌, IsTrue}
+use Rattle.std.proofs.Common.{◌≡◌, ◌+◌, ◌*◌, ◌/◌, ◌%◌, ◌<◌, ◌≤◌, ℕ, zero, suc, Bool, true, false, cond, nat_lt, List, [], ◌∷◌, ◌++◌, map, length, get_or, take, Some, slice_get, refl, sym, ap, ◌∙◌, subst, inl, inr, ⊎_elim, arith}
+use Rattle.std.specs.Prelude.{IsTrue}
 use Rattle.std.specs.List.{flat_map}
-use Rattle.std.proofs.lemmas.Bool.{cases_eq}
+use Rattle.std.proofs.lemmas.Bool.{cases_lt}
 use Rattle.std.proofs.lemmas.Bool.Decides.{nat_tests}
 use Rattle.std.proofs.lemmas.Option.{slice_get_read}
 use Rattle.flow_system.specs.declared.fact.Element.{Element}
@@ -10,9 +10,11 @@ use Rattle.flow_system.specs.declared.fact.Element.TheVariants.{Cell, Tag, Numbe
 use Rattle.flow_system.specs.declared.fact.Part.{Part}
 use Rattle.points_to.specs.declared.facts.Item.{Item}
 use Rattle.points_to.specs.declared.items.Row.{Row}
+use Rattle.points_to.specs.declared.runs.ItemRun.{ItemRun}
+use Rattle.points_to.specs.Runs.{run_items}
 use Rattle.points_to.specs.Held.{In, item, same_part, picked, in_part}
-use Rattle.points_to.specs.Bits.{block_numbers, number_of, word_of}
-use Rattle.points_to.specs.Rows.{numbers_in, block_words, row_words, row_items, HasPart, Gets}
+use Rattle.points_to.specs.Bits.{block_numbers, block_words, number_or_tag, number_of, word_of}
+use Rattle.points_to.specs.Rows.{numbers_in, row_words, row_items, HasPart, GetsAll}
 use Rattle.points_to.proofs.Member.{in_left, in_right, in_split, in_map, map_in}
 use Rattle.points_to.proofs.GivenItems.{same_part-true, same_part-self}
 use Rattle.points_to.proofs.Gets.{gets_between}
@@ -22,61 +24,46 @@ map_append : {X Y : Type 0} (f : X → Y) (xs ys : List X) → map f (xs ++ ys) 
 map_append f [] ys = refl
 map_append f (x ∷ xs) ys = ap (λ l. f x ∷ l) (map_append f xs ys)
 
-nat_apart : (m n : ℕ) → (m ≡ n → ⊥) → nat_eq m n ≡ false
-nat_apart m n h = grind (arith, nat_tests)
-
-nat_same : (m n : ℕ) → m ≡ n → nat_eq m n ≡ true
-nat_same m n h = grind (arith, nat_tests)
-
--- the number that follows an even one is a tag's, that follows an odd one a cell's
-even_next : (k : ℕ) → k % 2 ≡ 0 → word_of (k + 1) ≡ Tag (k / 2)
-even_next k e =
-    ap (λ b. cond b Number (cond (nat_eq ((k + 1 - 1) % 2) 0) (Tag ((k + 1 - 1) / 2)) (Cell ((k + 1 - 1) / 2)))) (nat_apart (k + 1) 0 (λ z. absurd (omega (arith, z))))
-    ∙ ap (λ m. cond (nat_eq (m % 2) 0) (Tag (m / 2)) (Cell (m / 2))) back
-    ∙ ap (λ b. cond b (Tag (k / 2)) (Cell (k / 2))) (nat_same (k % 2) 0 e)
+-- the lower half of 128 numbers is of the number alone and the tags, the upper half of cells
+low_word : (n : ℕ) → n % 128 < 64 → word_of n ≡ number_or_tag (n / 128 * 64 + n % 64)
+low_word n lt = ap (λ b. cond b (number_or_tag (n / 128 * 64 + n % 64)) (Cell (n / 128 * 64 + n % 64))) (below (n % 128) 64 lt)
   where
-    back : k + 1 - 1 ≡ k
+    below : (x y : ℕ) → x < y → nat_lt x y ≡ true
+    below x y h = grind (arith, nat_tests)
+
+high_word : (n : ℕ) → 64 ≤ n % 128 → word_of n ≡ Cell (n / 128 * 64 + n % 64)
+high_word n le = ap (λ b. cond b (number_or_tag (n / 128 * 64 + n % 64)) (Cell (n / 128 * 64 + n % 64))) (above (n % 128) 64 le)
+  where
+    above : (x y : ℕ) → y ≤ x → nat_lt x y ≡ false
+    above x y h = grind (arith, nat_tests)
+
+tag_number : (t : ℕ) → word_of ((t + 1) / 64 * 128 + (t + 1) % 64) ≡ Tag t
+tag_number t = low_word ((t + 1) / 64 * 128 + (t + 1) % 64) (omega arith) ∙ ap number_or_tag back
+  where
+    back : ((t + 1) / 64 * 128 + (t + 1) % 64) / 128 * 64 + ((t + 1) / 64 * 128 + (t + 1) % 64) % 64 ≡ suc t
     back = omega arith
 
-odd_next : (k : ℕ) → k % 2 ≡ 1 → word_of (k + 1) ≡ Cell (k / 2)
-odd_next k e =
-    ap (λ b. cond b Number (cond (nat_eq ((k + 1 - 1) % 2) 0) (Tag ((k + 1 - 1) / 2)) (Cell ((k + 1 - 1) / 2)))) (nat_apart (k + 1) 0 (λ z. absurd (omega (arith, z))))
-    ∙ ap (λ m. cond (nat_eq (m % 2) 0) (Tag (m / 2)) (Cell (m / 2))) back
-    ∙ ap (λ b. cond b (Tag (k / 2)) (Cell (k / 2))) (nat_apart (k % 2) 0 (λ z. absurd (omega (arith, e, z))))
+cell_number : (s : ℕ) → word_of (s / 64 * 128 + 64 + s % 64) ≡ Cell s
+cell_number s = high_word (s / 64 * 128 + 64 + s % 64) (omega arith) ∙ ap Cell back
   where
-    back : k + 1 - 1 ≡ k
+    back : (s / 64 * 128 + 64 + s % 64) / 128 * 64 + (s / 64 * 128 + 64 + s % 64) % 64 ≡ s
     back = omega arith
 
-tag_number : (t : ℕ) → word_of (2 * t + 1) ≡ Tag t
-tag_number t = even_next (2 * t) (omega arith) ∙ ap Tag half
+low_number : (k : ℕ) → number_of (number_or_tag k) ≡ k / 64 * 128 + k % 64
+low_number zero = refl
+low_number (suc t) = ap (λ m. m / 64 * 128 + m % 64) next
   where
-    half : 2 * t / 2 ≡ t
-    half = omega arith
-
-cell_number : (s : ℕ) → word_of (2 * s + 2) ≡ Cell s
-cell_number s = ap word_of next ∙ odd_next (2 * s + 1) (omega arith) ∙ ap Cell half
-  where
-    next : 2 * s + 2 ≡ (2 * s + 1) + 1
+    next : t + 1 ≡ suc t
     next = omega arith
-
-    half : (2 * s + 1) / 2 ≡ s
-    half = omega arith
 
 number_word : (n : ℕ) → number_of (word_of n) ≡ n
-number_word zero = refl
-number_word (suc k) = ⊎_elim
-    (λ e. ap number_of (ap word_of next ∙ even_next k e) ∙ omega (arith, e))
-    (λ e. ap number_of (ap word_of next ∙ odd_next k e) ∙ omega (arith, e))
-    parity
-  where
-    next : suc k ≡ k + 1
-    next = omega arith
-
-    parity : (k % 2 ≡ 0) ⊎ (k % 2 ≡ 1)
-    parity = ⊎_elim (λ e. inl e) (λ d. let n : k % 2 ≢ 0 = d in inr (omega (arith, n))) (cases_eq (k % 2) 0)
+number_word n = ⊎_elim
+    (λ lt. let l : n % 128 < 64 = lt in ap number_of (low_word n l) ∙ low_number (n / 128 * 64 + n % 64) ∙ omega (arith, l))
+    (λ le. let l : 64 ≤ n % 128 = le in ap number_of (high_word n l) ∙ omega (arith, l))
+    (cases_lt (n % 128) 64)
 
 -- the words of blocks are those of their numbers
-words_are : (es : List (ℕ × ℕ)) → flat_map block_words es ≡ map word_of (flat_map block_numbers es)
+pub words_are : (es : List (ℕ × ℕ)) → flat_map block_words es ≡ map word_of (flat_map block_numbers es)
 words_are [] = refl
 words_are (e ∷ es) = ap (λ l. block_words e ++ l) (words_are es) ∙ sym (map_append word_of (block_numbers e) (flat_map block_numbers es))
 
@@ -87,11 +74,11 @@ word_number (Tag t) = tag_number t
 word_number Number = refl
 
 -- a function of the members
-map_gets : {X Y : Type 0} (f : X → Y) (old new : List X) (x : X) → Gets old new x → Gets (map f old) (map f new) (f x)
-map_gets f old new x g = record {
+map_gets : {X Y : Type 0} (f : X → Y) (old new xs : List X) → GetsAll old new xs → GetsAll (map f old) (map f new) (map f xs)
+map_gets f old new xs g = record {
   kept = λ y h. let w = map_in f old h in subst (λ z. In z (map f new)) (sym w.2) (in_map f new (g.kept w.0 w.1));
-  put = in_map f new g.put;
-  only = λ y h. let w = map_in f new h in ⊎_elim (λ a. inl (subst (λ z. In z (map f old)) (sym w.2) (in_map f old a))) (λ e. inr (w.2 ∙ ap f e)) (g.only w.0 w.1);
+  put = λ y h. let w = map_in f xs h in subst (λ z. In z (map f new)) (sym w.2) (in_map f new (g.put w.0 w.1));
+  only = λ y h. let w = map_in f new h in ⊎_elim (λ a. inl (subst (λ z. In z (map f old)) (sym w.2) (in_map f old a))) (λ a. inr (subst (λ z. In z (map f xs)) (sym w.2) (in_map f xs a))) (g.only w.0 w.1);
 }
 
 -- a row's items
@@ -110,17 +97,22 @@ row_yes r i n b e q t =
 pub row_no : (r : Row) (i : Item) → same_part r.part i.part ≡ false → (IsTrue false → In i (row_items r)) × (In i (row_items r) → IsTrue false)
 row_no r i e = (λ t. cc, λ h. let w = map_in (item r.part) (row_words r) h in sym e ∙ subst (λ q. same_part r.part q ≡ true) (sym (ap (λ j. j.part) w.2)) (same_part-self r.part))
 
-pub row_gets : (r r' : Row) (i : Item) (n : ℕ) → r.part ≡ i.part → r'.part ≡ r.part → n ≡ number_of i.word → Gets (numbers_in r.words) (numbers_in r'.words) n → Gets (row_items r) (row_items r') i
-row_gets r r' i n e e' q g =
-    subst (Gets (row_items r) (row_items r')) its
-    (subst (λ p. Gets (row_items r) (in_part p (row_words r')) (item r.part (word_of n))) (sym e')
-    (map_gets (item r.part) (row_words r) (row_words r') (word_of n)
-    (subst (λ l. Gets l (row_words r') (word_of n)) (sym (words_are r.words.blocks.items))
-    (subst (λ l. Gets (map word_of (numbers_in r.words)) l (word_of n)) (sym (words_are r'.words.blocks.items))
-    (map_gets word_of (numbers_in r.words) (numbers_in r'.words) n g)))))
-  where
-    its : item r.part (word_of n) ≡ i
-    its = ap (item r.part) (ap word_of q ∙ word_number i.word) ∙ ap (λ p. item p i.word) e
+pub row_gets : (r r' : Row) (run : ItemRun) → r.part ≡ run.part → r'.part ≡ r.part → GetsAll (numbers_in r.words) (numbers_in r'.words) (block_numbers run.block) → GetsAll (row_items r) (row_items r') (run_items run)
+row_gets r r' run e e' g =
+    subst (λ q. GetsAll (row_items r) (row_items r') (in_part q (block_words run.block))) e
+    (subst (λ q. GetsAll (row_items r) (in_part q (row_words r')) (in_part r.part (block_words run.block))) (sym e')
+    (map_gets (item r.part) (row_words r) (row_words r') (block_words run.block)
+    (subst (λ l. GetsAll l (row_words r') (block_words run.block)) (sym (words_are r.words.blocks.items))
+    (subst (λ l. GetsAll (map word_of (numbers_in r.words)) l (block_words run.block)) (sym (words_are r'.words.blocks.items))
+    (map_gets word_of (numbers_in r.words) (numbers_in r'.words) (block_numbers run.block) g)))))
+
+-- a row has all items of a run
+pub row_has_all : (r : Row) (run : ItemRun) → r.part ≡ run.part → ((n : ℕ) → In n (block_numbers run.block) → In n (numbers_in r.words)) → (i : Item) → In i (run_items run) → In i (row_items r)
+row_has_all r run e all i h =
+    let w = map_in (item run.part) (block_words run.block) h in
+    let v = map_in word_of (block_numbers run.block) w.1 in
+    let there : In w.0 (row_words r) = subst (In w.0) (sym (words_are r.words.blocks.items)) (subst (λ u. In u (map word_of (numbers_in r.words))) (sym v.2) (in_map word_of (numbers_in r.words) (all v.0 v.1))) in
+    subst (λ j. In j (row_items r)) (ap (λ q. item q w.0) e ∙ sym w.2) (in_map (item r.part) (row_words r) there)
 
 -- a new row
 pub row_none : (r : Row) → numbers_in r.words ≡ [] → row_items r ≡ []
@@ -156,8 +148,8 @@ its_part rows k r q h e = go rows k r h.row h.is_row e ∙ h.is_part
     go (x ∷ xs) zero r s q e = let same : x ≡ s = cc in ap (λ y. y.part) (e ∙ same)
     go (x ∷ xs) (suc n) r s q e = go xs n r s q e
 
-pub gets_row : (rows : List Row) (r : Row) (i : Item) → Gets [] (row_items r) i → Gets (flat_map row_items rows) (flat_map row_items (rows ++ r ∷ [])) i
-gets_row rows r i g = subst (λ l. Gets (flat_map row_items l) (flat_map row_items (rows ++ r ∷ [])) i) (append_nil rows) (gets_between row_items rows [] r i g)
+pub gets_row : (rows : List Row) (r : Row) (is : List Item) → GetsAll [] (row_items r) is → GetsAll (flat_map row_items rows) (flat_map row_items (rows ++ r ∷ [])) is
+gets_row rows r is g = subst (λ l. GetsAll (flat_map row_items l) (flat_map row_items (rows ++ r ∷ [])) is) (append_nil rows) (gets_between row_items is rows [] r g)
 
 -- one part of a row
 pub picked_row : (q : Part) (r : Part) (ks : List Element) → same_part q r ≡ true → picked q (in_part r ks) ≡ ks

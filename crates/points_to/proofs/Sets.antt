@@ -5,13 +5,12 @@ use Rattle.std.proofs.lemmas.Option.{slice_get_read, slice_get_past}
 use Rattle.flow_system.specs.declared.fact.Place.{Place}
 use Rattle.flow_system.specs.declared.fact.Place.TheVariants.{Site, Var, Result}
 use Rattle.points_to.specs.declared.facts.Item.{Item}
-use Rattle.points_to.specs.declared.facts.Fact.{Fact}
 use Rattle.points_to.specs.declared.facts.Facts.{Facts}
-use Rattle.points_to.specs.Held.{In, here}
-use Rattle.points_to.specs.Rows.{Gets}
-use Rattle.points_to.specs.Asked.{fact}
+use Rattle.points_to.specs.Held.{In}
+use Rattle.points_to.specs.Rows.{GetsAll}
+use Rattle.points_to.specs.Asked.{fact, facts_at}
 use Rattle.points_to.specs.Known.{items_in, items_at, held, Puts, Grows}
-use Rattle.points_to.proofs.Member.{none_in, one_in}
+use Rattle.points_to.proofs.Member.{none_in, in_map, map_in}
 
 pub at_some : (xs : List (List Item)) (n : ℕ) (s : List Item) → n < length xs → s ≡ get_or xs n s → items_at xs n ≡ s
 at_some xs n s lt e = ap items_in (slice_get_read xs (length xs) n s refl lt e)
@@ -26,6 +25,9 @@ found_some xs n s i b lt e q =
 
 pub found_none : (xs : List (List Item)) (n : ℕ) (i : Item) → length xs ≤ n → (IsTrue false → In i (items_at xs n)) × (In i (items_at xs n) → IsTrue false)
 found_none xs n i le = (λ t. cc, λ h. none_in (subst (In i) (at_none xs n le) h))
+
+pub found_all : (xs : List (List Item)) (n : ℕ) (s is : List Item) (b : Bool) → n < length xs → s ≡ get_or xs n s → (IsTrue b → (i : Item) → In i is → In i s) → IsTrue b → (i : Item) → In i is → In i (items_at xs n)
+found_all xs n s is b lt e q t i h = subst (In i) (sym (at_some xs n s lt e)) (q t i h)
 
 empty_more : (xs : List (List Item)) (s : List Item) → s ≡ [] → (n : ℕ) → items_at (xs ++ s ∷ []) n ≡ items_at xs n
 empty_more [] s e zero = e
@@ -54,8 +56,8 @@ same_or_not zero (suc n) = inr (λ e. cc)
 same_or_not (suc m) zero = inr (λ e. cc)
 same_or_not (suc m) (suc n) = ⊎_elim (λ e. inl (ap suc e)) (λ ne. inr (λ e. ne (omega (arith, e)))) (same_or_not m n)
 
-pub puts : (old : ℕ → List Item) (xs : List (List Item)) (n : ℕ) (s s' : List Item) (i : Item) → items_at xs ≡ old → n < length xs → s ≡ get_or xs n s → Gets s s' i → Puts old (items_at (slice_set xs n s')) n i
-puts old xs n s s' i o lt e g = subst (λ f. Puts f (items_at (slice_set xs n s')) n i) o (record { kept = kept; put = subst (In i) (sym new) g.put; only = only })
+pub puts : (old : ℕ → List Item) (xs : List (List Item)) (n : ℕ) (s s' is : List Item) → items_at xs ≡ old → n < length xs → s ≡ get_or xs n s → GetsAll s s' is → Puts old (items_at (slice_set xs n s')) n is
+puts old xs n s s' is o lt e g = subst (λ f. Puts f (items_at (slice_set xs n s')) n is) o (record { kept = kept; put = λ j h. subst (In j) (sym new) (g.put j h); only = only })
   where
     old_is : items_at xs n ≡ s
     old_is = at_some xs n s lt e
@@ -69,50 +71,51 @@ puts old xs n s s' i o lt e g = subst (λ f. Puts f (items_at (slice_set xs n s'
         (λ z. subst (In j) (sym (set_other xs n m s' z)) h)
         (same_or_not m n)
 
-    only : (m : ℕ) (j : Item) → In j (items_at (slice_set xs n s') m) → In j (items_at xs m) ⊎ ((m ≡ n) × (j ≡ i))
+    only : (m : ℕ) (j : Item) → In j (items_at (slice_set xs n s') m) → In j (items_at xs m) ⊎ ((m ≡ n) × In j is)
     only m j h = ⊎_elim
         (λ z. ⊎_elim (λ a. inl (subst (In j) (sym (ap (items_at xs) z ∙ old_is)) a)) (λ b. inr (z, b)) (g.only j (subst (In j) (ap (items_at (slice_set xs n s')) z ∙ new) h)))
         (λ z. inl (subst (In j) (set_other xs n m s' z) h))
         (same_or_not m n)
 
 -- of one kind of place
-module _ (kind : ℕ → Place) (old new : Place → List Item) (n : ℕ) (i : Item) where
-  pub grows_by : ((q : Place) → ((m : ℕ) × (q ≡ kind m)) ⊎ (new q ≡ old q)) → ((m m' : ℕ) → kind m ≡ kind m' → m ≡ m') → Puts (λ m. old (kind m)) (λ m. new (kind m)) n i → Grows old new (fact (kind n) i ∷ [])
+module _ (kind : ℕ → Place) (old new : Place → List Item) (n : ℕ) (is : List Item) where
+  pub grows_by : ((q : Place) → ((m : ℕ) × (q ≡ kind m)) ⊎ (new q ≡ old q)) → ((m m' : ℕ) → kind m ≡ kind m' → m ≡ m') → Puts (λ m. old (kind m)) (λ m. new (kind m)) n is → Grows old new (facts_at (kind n) is)
   grows_by cases same p = record {
     kept = λ q j h. ⊎_elim (λ r. subst (λ q. In j (new q)) (sym r.1) (p.kept r.0 j (subst (λ q. In j (old q)) r.1 h))) (λ e. subst (In j) (sym e) h) (cases q);
-    put = λ f h. let e = one_in (fact (kind n) i) h in subst (λ f. In f.item (new f.place)) (sym e) p.put;
+    put = λ f h. let w = map_in (fact (kind n)) is h in subst (λ f. In f.item (new f.place)) (sym w.2) (p.put w.0 w.1);
     only = λ q j h. ⊎_elim
-        (λ r. ⊎_elim (λ a. inl (subst (λ q. In j (old q)) (sym r.1) a)) (λ b. inr (subst (λ f. In f (fact (kind n) i ∷ [])) (ap (λ m. fact (kind m) i) (sym b.0) ∙ ap (λ k. fact (kind r.0) k) (sym b.1) ∙ ap (λ q. fact q j) (sym r.1)) here)) (p.only r.0 j (subst (λ q. In j (new q)) r.1 h)))
+        (λ r. ⊎_elim (λ a. inl (subst (λ q. In j (old q)) (sym r.1) a)) (λ b. inr (subst (λ f. In f (facts_at (kind n) is)) (ap (λ m. fact (kind m) j) (sym b.0) ∙ ap (λ q. fact q j) (sym r.1)) (in_map (fact (kind n)) is b.1))) (p.only r.0 j (subst (λ q. In j (new q)) r.1 h)))
         (λ e. inl (subst (In j) e h))
         (cases q);
   }
 
-pub site_put : (f f' : Facts) (n : ℕ) (i : Item) → f'.vars ≡ f.vars → f'.results ≡ f.results → Puts (items_at f.sites.items) (items_at f'.sites.items) n i → Grows (held f) (held f') (fact (Site n) i ∷ [])
-site_put f f' n i e e' p = grows_by Site (held f) (held f') n i by (λ m m' q. cc) p
+pub site_put : (f f' : Facts) (n : ℕ) (is : List Item) → f'.vars ≡ f.vars → f'.results ≡ f.results → Puts (items_at f.sites.items) (items_at f'.sites.items) n is → Grows (held f) (held f') (facts_at (Site n) is)
+site_put f f' n is e e' p = grows_by Site (held f) (held f') n is by (λ m m' q. cc) p
   where
     by : (q : Place) → ((m : ℕ) × (q ≡ Site m)) ⊎ (held f' q ≡ held f q)
     by (Site m) = inl (m, refl)
     by (Var m) = inr (ap (λ v. items_at v.items m) e)
     by (Result m) = inr (ap (λ v. items_at v.items m) e')
 
-pub var_put : (f f' : Facts) (n : ℕ) (i : Item) → f'.sites ≡ f.sites → f'.results ≡ f.results → Puts (items_at f.vars.items) (items_at f'.vars.items) n i → Grows (held f) (held f') (fact (Var n) i ∷ [])
-var_put f f' n i e e' p = grows_by Var (held f) (held f') n i by (λ m m' q. cc) p
+pub var_put : (f f' : Facts) (n : ℕ) (is : List Item) → f'.sites ≡ f.sites → f'.results ≡ f.results → Puts (items_at f.vars.items) (items_at f'.vars.items) n is → Grows (held f) (held f') (facts_at (Var n) is)
+var_put f f' n is e e' p = grows_by Var (held f) (held f') n is by (λ m m' q. cc) p
   where
     by : (q : Place) → ((m : ℕ) × (q ≡ Var m)) ⊎ (held f' q ≡ held f q)
     by (Site m) = inr (ap (λ v. items_at v.items m) e)
     by (Var m) = inl (m, refl)
     by (Result m) = inr (ap (λ v. items_at v.items m) e')
 
-pub result_put : (f f' : Facts) (n : ℕ) (i : Item) → f'.sites ≡ f.sites → f'.vars ≡ f.vars → Puts (items_at f.results.items) (items_at f'.results.items) n i → Grows (held f) (held f') (fact (Result n) i ∷ [])
-result_put f f' n i e e' p = grows_by Result (held f) (held f') n i by (λ m m' q. cc) p
+pub result_put : (f f' : Facts) (n : ℕ) (is : List Item) → f'.sites ≡ f.sites → f'.vars ≡ f.vars → Puts (items_at f.results.items) (items_at f'.results.items) n is → Grows (held f) (held f') (facts_at (Result n) is)
+result_put f f' n is e e' p = grows_by Result (held f) (held f') n is by (λ m m' q. cc) p
   where
     by : (q : Place) → ((m : ℕ) × (q ≡ Result m)) ⊎ (held f' q ≡ held f q)
     by (Site m) = inr (ap (λ v. items_at v.items m) e)
     by (Var m) = inr (ap (λ v. items_at v.items m) e')
     by (Result m) = inl (m, refl)
 
-pub grows_same : (H : Place → List Item) (f : Fact) → In f.item (H f.place) → Grows H H (f ∷ [])
-grows_same H f h = record { kept = λ q j k. k; put = λ g k. subst (λ g. In g.item (H g.place)) (sym (one_in f k)) h; only = λ q j k. inl k }
+-- what is known already
+pub grows_same : (H : Place → List Item) (q : Place) (is : List Item) → ((j : Item) → In j is → In j (H q)) → Grows H H (facts_at q is)
+grows_same H q is all = record { kept = λ q j k. k; put = λ g k. let w = map_in (fact q) is k in subst (λ g. In g.item (H g.place)) (sym w.2) (all w.0 w.1); only = λ q j k. inl k }
 
 pub on_ok : {X E : Type 0} (r : Answer X E) (P Q : Type 0) → (P → Q) → OnOk r P → OnOk r Q
 on_ok (Ok x) P Q f p = f p

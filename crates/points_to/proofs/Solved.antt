@@ -1,7 +1,8 @@
 -- Rounds until nothing is added give the least solution.
 use Rattle.std.proofs.Common.{◌≡◌, ◌+◌, ◌-◌, ◌^◌, ◌<◌, ◌≤◌, ℕ, zero, suc, Bool, true, false, cond, ◌||◌, List, [], ◌∷◌, ◌++◌, take, length, get_or, Some, slice_get, refl, sym, ap, ◌∙◌, subst, inl, inr, ⊎_elim, arith}
 use Rattle.std.specs.Prelude.{◌⊎◌, IsTrue}
-use Rattle.std.proofs.lemmas.List.{take_all, take_more}
+use Rattle.std.specs.List.{flat_map}
+use Rattle.std.proofs.lemmas.List.{take_all}
 use Rattle.flow_system.specs.declared.fact.Element.{Element}
 use Rattle.flow_system.specs.declared.fact.Element.TheVariants.{Cell, Tag, Number}
 use Rattle.flow_system.specs.declared.fact.Place.{Place}
@@ -15,12 +16,16 @@ use Rattle.flow_system.proofs.Least.{least_by_rounds, in_every}
 use Rattle.points_to.specs.declared.facts.Item.{Item}
 use Rattle.points_to.specs.declared.facts.Fact.{Fact}
 use Rattle.points_to.specs.declared.facts.Facts.{Facts}
+use Rattle.points_to.specs.declared.runs.FactRun.{FactRun}
 use Rattle.points_to.specs.Held.{In, here, there, item, picked}
 use Rattle.points_to.specs.Asked.{fact, demands}
 use Rattle.points_to.specs.Known.{held, Grows, solution_of}
 use Rattle.points_to.specs.Rounds.{InEvery, Satisfied, AllSatisfied, Counted}
+use Rattle.points_to.specs.Rows.{SameMembers}
+use Rattle.points_to.specs.Runs.{run_facts}
 use Rattle.points_to.proofs.Member.{none_in, cons_in, in_left, in_right, in_split}
 use Rattle.points_to.proofs.GivenItems.{eq_from, eq_self, picked_in, in_picked}
+use Rattle.points_to.proofs.Loops.{flat_next}
 use Rattle.points_to.proofs.Exact.{demands_mean, in_demands}
 
 -- the solution that has what is known
@@ -88,11 +93,19 @@ module _ (p : Tables) (cs : List Inclusion) where
 grows_none : (H : Place → List Item) → Grows H H []
 grows_none H = record { kept = λ q j h. h; put = λ f h. none_in h; only = λ q j h. inl h }
 
-grows_more : (H H' H'' : Place → List Item) (fs : List Fact) (f : Fact) → Grows H H' fs → Grows H' H'' (f ∷ []) → Grows H H'' (fs ++ f ∷ [])
-grows_more H H' H'' fs f g k = record {
+grows_more : (H H' H'' : Place → List Item) (fs gs : List Fact) → Grows H H' fs → Grows H' H'' gs → Grows H H'' (fs ++ gs)
+grows_more H H' H'' fs gs g k = record {
   kept = λ q j h. k.kept q j (g.kept q j h);
-  put = λ e h. ⊎_elim (λ a. k.kept e.place e.item (g.put e a)) (λ b. k.put e b) (in_split fs (f ∷ []) h);
-  only = λ q j h. ⊎_elim (λ a. ⊎_elim (λ x. inl x) (λ y. inr (in_left fs (f ∷ []) y)) (g.only q j a)) (λ b. inr (in_right fs (f ∷ []) b)) (k.only q j h);
+  put = λ e h. ⊎_elim (λ a. k.kept e.place e.item (g.put e a)) (λ b. k.put e b) (in_split fs gs h);
+  only = λ q j h. ⊎_elim (λ a. ⊎_elim (λ x. inl x) (λ y. inr (in_left fs gs y)) (g.only q j a)) (λ b. inr (in_right fs gs b)) (k.only q j h);
+}
+
+-- the same facts in another list
+pub grows_alike : (H H' : Place → List Item) (fs gs : List Fact) → SameMembers fs gs → Grows H H' fs → Grows H H' gs
+grows_alike H H' fs gs s g = record {
+  kept = g.kept;
+  put = λ f h. g.put f (s.back f h);
+  only = λ q j h. ⊎_elim (λ a. inl a) (λ b. inr (s.into (fact q j) b)) (g.only q j h);
 }
 
 pub or_false-left : (a b : Bool) → (a || b) ≡ false → a ≡ false
@@ -117,18 +130,22 @@ pub record Added (old new : Facts) (added : Bool) (fs : List Fact) : Type 0 wher
 pub none_added : (f : Facts) → Added f f false []
 none_added f = record { grown = grows_none (held f); still = λ e. refl; counted = record { no_less = omega arith; more = λ e. cc } }
 
-pub added_more : (old now new : Facts) (a b both : Bool) (fs : List Fact) (i : ℕ) (d : Fact) → i < length fs → both ≡ (a || b) → Added old now a (take i fs)
-    → Grows (held now) (held new) (get_or fs i d ∷ []) → (b ≡ false → new ≡ now) → Counted now new b → Added old new both (take (i + 1) fs)
-added_more old now new a b both fs i d lt e x g s c = subst (λ l. Added old new both l) (sym (take_more fs i d lt)) (subst (λ t. Added old new t (take i fs ++ get_or fs i d ∷ [])) (sym e) (record {
-  grown = grows_more (held old) (held now) (held new) (take i fs) (get_or fs i d) x.grown g;
+-- the facts of one run more
+runs_next : (rs : List FactRun) (i : ℕ) (d : FactRun) → i < length rs → flat_map run_facts (take (i + 1) rs) ≡ flat_map run_facts (take i rs) ++ run_facts (get_or rs i d)
+runs_next rs i d lt = sym (flat_next run_facts rs i d [] (flat_map run_facts (take i rs)) (flat_map run_facts (take i rs) ++ run_facts (get_or rs i d)) lt refl refl)
+
+pub added_more : (old now new : Facts) (a b both : Bool) (rs : List FactRun) (i : ℕ) (d : FactRun) → i < length rs → both ≡ (a || b) → Added old now a (flat_map run_facts (take i rs))
+    → Grows (held now) (held new) (run_facts (get_or rs i d)) → (b ≡ false → new ≡ now) → Counted now new b → Added old new both (flat_map run_facts (take (i + 1) rs))
+added_more old now new a b both rs i d lt e x g s c = subst (λ l. Added old new both l) (sym (runs_next rs i d lt)) (subst (λ t. Added old new t (flat_map run_facts (take i rs) ++ run_facts (get_or rs i d))) (sym e) (record {
+  grown = grows_more (held old) (held now) (held new) (flat_map run_facts (take i rs)) (run_facts (get_or rs i d)) x.grown g;
   still = λ q. s (or_false-right a b q) ∙ x.still (or_false-left a b q);
   counted = counted_on old now new a b x.counted c;
 }))
 
-pub added_all : (old new : Facts) (a : Bool) (fs : List Fact) (i : ℕ) → length fs ≤ i → Added old new a (take i fs) → Added old new a fs
-added_all old new a fs i le x = subst (Added old new a) (take_all i fs le) x
+pub added_all : (old new : Facts) (a : Bool) (fs : List Fact) (rs : List FactRun) (i : ℕ) → length rs ≤ i → flat_map run_facts rs ≡ fs → Added old new a (flat_map run_facts (take i rs)) → Added old new a fs
+added_all old new a fs rs i le e x = subst (Added old new a) (ap (flat_map run_facts) (take_all i rs le) ∙ e) x
 
--- a fact's count
+-- the count of a run
 pub counted_one : (f f' : Facts) (b : Bool) → (b ≡ false → f' ≡ f) → (b ≡ true → f.count < f'.count) → Counted f f' b
 counted_one f f' true s c = let n : f.count < f'.count = c refl in record { no_less = omega arith; more = λ e. n }
 counted_one f f' false s c = let n : f'.count ≡ f.count = ap (λ g. g.count) (s refl) in record { no_less = omega arith; more = λ e. cc }

@@ -1,6 +1,7 @@
 -- Inclusions satisfied one after another, until none waits, give the least solution.
 use Rattle.std.proofs.Common.{◌≡◌, ◌+◌, ◌-◌, ◌*◌, ◌^◌, ◌<◌, ◌≤◌, ℕ, zero, suc, Bool, true, false, cond, ◌||◌, List, [], ◌∷◌, take, length, get_or, Some, None, slice_get, refl, sym, ap, ◌∙◌, subst, inl, inr, ⊎_elim, arith}
 use Rattle.std.specs.Prelude.{◌⊎◌}
+use Rattle.std.specs.List.{flat_map}
 use Rattle.std.proofs.lemmas.List.{take_all}
 use Rattle.flow_system.specs.declared.fact.Place.{Place}
 use Rattle.flow_system.specs.declared.inclusion.Inclusion as code
@@ -10,12 +11,14 @@ use Rattle.flow_system.specs.Tables.{Tables}
 use Rattle.flow_system.specs.Solution.{IsLeast}
 use Rattle.points_to.specs.declared.facts.Fact.{Fact}
 use Rattle.points_to.specs.declared.facts.Facts.{Facts}
+use Rattle.points_to.specs.declared.runs.FactRun.{FactRun}
 use Rattle.points_to.specs.declared.worklist.Worklist.{Worklist}
 use Rattle.points_to.specs.Held.{In, here, there}
 use Rattle.points_to.specs.Asked.{demands}
 use Rattle.points_to.specs.Known.{held, Grows, solution_of}
 use Rattle.points_to.specs.Reads.{reads, Agree}
 use Rattle.points_to.specs.Rounds.{InEvery, Satisfied, Counted}
+use Rattle.points_to.specs.Runs.{run_facts}
 use Rattle.points_to.specs.Waiting.{waiting, readers_of, Takes}
 use Rattle.points_to.specs.Worklist.{IsWaiting, IsReader, Wakes, Spreads, Advances, Satisfies, IsSettled, Stands}
 use Rattle.points_to.proofs.Member.{none_in, cons_in}
@@ -56,16 +59,16 @@ pub record AddedTo (old new : Worklist) (added : Bool) (fs : List Fact) : Type 0
 pub none_added_to : (w : Worklist) → AddedTo w w false []
 none_added_to w = record { facts = none_added w.facts; spread = spreads_none w; still = λ e. refl }
 
-pub more_added_to : (old now new : Worklist) (a b both : Bool) (fs : List Fact) (i : ℕ) (d : Fact) → i < length fs → both ≡ (a || b) → AddedTo old now a (take i fs)
-    → Grows (held now.facts) (held new.facts) (get_or fs i d ∷ []) → Spreads now new → (b ≡ false → new ≡ now) → Counted now.facts new.facts b → AddedTo old new both (take (i + 1) fs)
-more_added_to old now new a b both fs i d lt e x g s t c = record {
-  facts = added_more old.facts now.facts new.facts a b both fs i d lt e x.facts g (λ q. ap (λ w. w.facts) (t q)) c;
+pub more_added_to : (old now new : Worklist) (a b both : Bool) (rs : List FactRun) (i : ℕ) (d : FactRun) → i < length rs → both ≡ (a || b) → AddedTo old now a (flat_map run_facts (take i rs))
+    → Grows (held now.facts) (held new.facts) (run_facts (get_or rs i d)) → Spreads now new → (b ≡ false → new ≡ now) → Counted now.facts new.facts b → AddedTo old new both (flat_map run_facts (take (i + 1) rs))
+more_added_to old now new a b both rs i d lt e x g s t c = record {
+  facts = added_more old.facts now.facts new.facts a b both rs i d lt e x.facts g (λ q. ap (λ w. w.facts) (t q)) c;
   spread = spreads_more old now new x.spread s;
   still = λ q. t (or_false-right a b (sym e ∙ q)) ∙ x.still (or_false-left a b (sym e ∙ q));
 }
 
-pub all_added_to : (old new : Worklist) (a : Bool) (fs : List Fact) (i : ℕ) → length fs ≤ i → AddedTo old new a (take i fs) → AddedTo old new a fs
-all_added_to old new a fs i le x = subst (AddedTo old new a) (take_all i fs le) x
+pub all_added_to : (old new : Worklist) (a : Bool) (fs : List Fact) (rs : List FactRun) (i : ℕ) → length rs ≤ i → flat_map run_facts rs ≡ fs → AddedTo old new a (flat_map run_facts (take i rs)) → AddedTo old new a fs
+all_added_to old new a fs rs i le e x = subst (AddedTo old new a) (ap (flat_map run_facts) (take_all i rs le) ∙ e) x
 
 -- an inclusion: it is registered, then it gets what it asks for
 pub satisfies : (p : Tables) (c : Inclusion) (n : ℕ) (old between new : Worklist) (added : Bool) → between.facts ≡ old.facts → between.pending ≡ old.pending

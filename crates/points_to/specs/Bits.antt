@@ -1,5 +1,5 @@
 -- Sets of numbers as rows of bits, in blocks of 64, and the numbers of words.
-use Rattle.std.specs.Prelude.{◌≡◌, ℕ, zero, suc, ◌+◌, ◌-◌, ◌*◌, ◌/◌, ◌%◌, ◌<◌, ◌≤◌, ◌⊎◌, nat_eq, cond, List, [], ◌∷◌, ◌++◌, length, get_or, Option, MatchOption, Result, MatchResult}
+use Rattle.std.specs.Prelude.{◌≡◌, ℕ, zero, suc, ◌+◌, ◌*◌, ◌/◌, ◌%◌, ◌<◌, ◌≤◌, ◌⊎◌, nat_eq, nat_lt, cond, List, [], ◌∷◌, ◌++◌, map, length, get_or, Option, MatchOption, Result, MatchResult}
 use Rattle.flow_system.specs.declared.fact.Element.{Element}
 use Rattle.flow_system.specs.declared.fact.Element.TheVariants.{Cell, Tag, Number}
 use Rattle.points_to.specs.Held.{In}
@@ -51,12 +51,20 @@ Finds bs q r = MatchResult r (StandsAt bs q) (GoesTo bs q)
 abbrev pub Takes : List ℕ → List ℕ → Option ℕ → Type 0
 Takes old new first = MatchOption first (old ≡ []) (λ n. old ≡ n ∷ new)
 
--- each word has a number, and each number is that of a word
+-- each word has a number, and each number is that of a word; blocks of cells and of other words take turns
 abbrev pub number_of : Element → ℕ
-number_of (Cell s) = 2 * s + 2
-number_of (Tag t) = 2 * t + 1
+number_of (Cell s) = s / 64 * 128 + 64 + s % 64
+number_of (Tag t) = (t + 1) / 64 * 128 + (t + 1) % 64
 number_of Number = 0
 
+-- a number alone, and the tags after it
+abbrev pub number_or_tag : ℕ → Element
+number_or_tag zero = Number
+number_or_tag (suc t) = Tag t
+
 abbrev pub word_of : ℕ → Element
-word_of n =
-    cond (nat_eq n 0) Number (cond (nat_eq ((n - 1) % 2) 0) (Tag ((n - 1) / 2)) (Cell ((n - 1) / 2)))
+word_of n = cond (nat_lt (n % 128) 64) (number_or_tag (n / 128 * 64 + n % 64)) (Cell (n / 128 * 64 + n % 64))
+
+-- the words of a block
+abbrev pub block_words : ℕ × ℕ → List Element
+block_words b = map word_of (block_numbers b)

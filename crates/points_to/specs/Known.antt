@@ -25,11 +25,11 @@ held f (Site n) = items_at f.sites.items n
 held f (Var n) = items_at f.vars.items n
 held f (Result n) = items_at f.results.items n
 
--- an item is put into the list with number n
-pub record Puts (old new : ℕ → List Item) (n : ℕ) (i : Item) : Type 0 where
+-- items are put into the list with number n
+pub record Puts (old new : ℕ → List Item) (n : ℕ) (is : List Item) : Type 0 where
   pub kept : (m : ℕ) (j : Item) → In j (old m) → In j (new m)
-  pub put : In i (new n)
-  pub only : (m : ℕ) (j : Item) → In j (new m) → In j (old m) ⊎ ((m ≡ n) × (j ≡ i))
+  pub put : (j : Item) → In j is → In j (new n)
+  pub only : (m : ℕ) (j : Item) → In j (new m) → In j (old m) ⊎ ((m ≡ n) × In j is)
 
 -- what is known grows by these facts and no others
 pub record Grows (old new : Place → List Item) (fs : List Fact) : Type 0 where

@@ -7,6 +7,7 @@ pub mod Bits
 pub mod ByTag
 pub mod Row
 pub mod Rows
+pub mod Runs
 pub mod Reads
 pub mod Shift
 pub mod OneTag

@@ -12,9 +12,10 @@ ghost use Rattle.points_to.specs.ByTag.{IsByTag};
 ghost use Rattle.points_to.specs.Known.{held};
 
 use crate::by_tag::ByTag;
-use crate::facts::{Fact, Facts, Item};
+use crate::facts::Facts;
 use crate::give::{arguments_by_tag, elements, items, value_nodes, width};
-use crate::nodes::{as_nodes, evaluated, picked};
+use crate::nodes::{as_nodes, evaluated, listed};
+use crate::runs::{FactRuns, ItemRuns};
 use crate::tags::{called, delayed};
 use crate::targets::{facts_at, flow_to_target, nodes_at_place, vector_facts};
 use flow_system::fact::{Element, Part, Place};
@@ -23,7 +24,7 @@ use grin_syntax::program::{ProcId, Site, Val, Word};
 use seq::Seq;
 use std::alloc::{AllocError, Global};
 
-fn cell_facts(nodes: &[Item], word: Element, out: &mut Seq<Fact>) -> Result<(), AllocError>
+fn cell_facts(nodes: &ItemRuns, word: Element, out: &mut FactRuns) -> Result<(), AllocError>
     ensures { OnOk result (out.new ≡ out.old ++ cell_facts nodes.now word) }
 {
     match word {
@@ -33,7 +34,7 @@ fn cell_facts(nodes: &[Item], word: Element, out: &mut Seq<Fact>) -> Result<(), 
     }
 }
 
-fn cells_facts(nodes: &[Item], words: &[Element], out: &mut Seq<Fact>) -> Result<(), AllocError>
+fn cells_facts(nodes: &ItemRuns, words: &[Element], out: &mut FactRuns) -> Result<(), AllocError>
     ensures { OnOk result (out.new ≡ out.old ++ flat_map (cell_facts nodes.now) words.now) }
 {
     for word in words {
@@ -47,19 +48,19 @@ fn cells_asked(
     system: &FlowSystem,
     facts: &Facts,
     k: Option<usize>,
-    items: &[Item],
+    items: &ItemRuns,
     w: Word,
-    out: &mut Seq<Fact>,
+    out: &mut FactRuns,
 ) -> Result<(), AllocError>
     ensures { OnOk result (out.new ≡ out.old
         ++ flat_map (cell_facts (as_nodes (tables_of system.now) k items.now))
         (elements (tables_of system.now) (held facts.now) w)) }
 {
-    let mut nodes = Seq::new(alloc);
+    let mut nodes = ItemRuns::new(alloc);
     as_nodes(alloc, system, k, items, &mut nodes)?;
     let mut cells = Seq::new(alloc);
     elements(alloc, system, facts, w, &mut cells)?;
-    cells_facts(nodes.as_slice(), cells.as_slice(), out)
+    cells_facts(&nodes, cells.as_slice(), out)
 }
 
 // What a source gives, at the result of a procedure.
@@ -69,15 +70,15 @@ fn flow_to_result(
     facts: &Facts,
     source: &Source,
     f: ProcId,
-    out: &mut Seq<Fact>,
+    out: &mut FactRuns,
 ) -> Result<(), AllocError>
     ensures { OnOk result (out.new ≡ out.old
         ++ flow_facts (tables_of system.now) (held facts.now) (source_of source.now)
         (into_result f.0)) }
 {
-    let mut given = Seq::new(alloc);
+    let mut given = ItemRuns::new(alloc);
     items(alloc, system, facts, source, &mut given)?;
-    facts_at(Place::Result(f.0), given.as_slice(), out)
+    facts_at(Place::Result(f.0), &given, out)
 }
 
 // What a source gives as nodes, at the cells of a site.
@@ -87,16 +88,16 @@ fn flow_to_site(
     facts: &Facts,
     source: &Source,
     s: Site,
-    out: &mut Seq<Fact>,
+    out: &mut FactRuns,
 ) -> Result<(), AllocError>
     ensures { OnOk result (out.new ≡ out.old
         ++ flow_facts (tables_of system.now) (held facts.now) (source_of source.now)
         (into_site s.0)) }
 {
-    let mut given = Seq::new(alloc);
+    let mut given = ItemRuns::new(alloc);
     items(alloc, system, facts, source, &mut given)?;
     let k = width(source);
-    nodes_at_place(alloc, system, k, given.as_slice(), Place::Site(s.0), out)
+    nodes_at_place(alloc, system, k, &given, Place::Site(s.0), out)
 }
 
 // What a source gives as nodes, at the cells of a word.
@@ -106,23 +107,15 @@ fn flow_to_cells(
     facts: &Facts,
     source: &Source,
     w: Word,
-    out: &mut Seq<Fact>,
+    out: &mut FactRuns,
 ) -> Result<(), AllocError>
     ensures { OnOk result (out.new ≡ out.old
         ++ flow_facts (tables_of system.now) (held facts.now) (source_of source.now)
         (cells_at w)) }
 {
-    let mut given = Seq::new(alloc);
+    let mut given = ItemRuns::new(alloc);
     items(alloc, system, facts, source, &mut given)?;
-    cells_asked(
-        alloc,
-        system,
-        facts,
-        width(source),
-        given.as_slice(),
-        w,
-        out,
-    )
+    cells_asked(alloc, system, facts, width(source), &given, w, out)
 }
 
 fn flow_facts(
@@ -131,7 +124,7 @@ fn flow_facts(
     facts: &Facts,
     source: &Source,
     sink: &Sink,
-    out: &mut Seq<Fact>,
+    out: &mut FactRuns,
 ) -> Result<(), AllocError>
     ensures { OnOk result (out.new ≡ out.old
         ++ flow_facts (tables_of system.now) (held facts.now) (source_of source.now)
@@ -150,8 +143,8 @@ fn params_facts(
     alloc: Global,
     system: &FlowSystem,
     f: u32,
-    items: &[Item],
-    out: &mut Seq<Fact>,
+    items: &ItemRuns,
+    out: &mut FactRuns,
 ) -> Result<(), AllocError>
     ensures { OnOk result (out.new ≡ out.old
         ++ target_facts (tables_of system.now) (Some 1) items.now
@@ -172,7 +165,7 @@ fn call_params(
     words: &[Word],
     t: u32,
     f: u32,
-    out: &mut Seq<Fact>,
+    out: &mut FactRuns,
 ) -> Result<(), AllocError>
     requires { IsByTag nodes.now }
     ensures { OnOk result (out.new ≡ out.old
@@ -180,9 +173,9 @@ fn call_params(
         (call_arguments (tables_of system.now) (held facts.now) nodes.now.nodes t words.now)
         (params_of (tables_of system.now) f)) }
 {
-    let mut given = Seq::new(alloc);
+    let mut given = ItemRuns::new(alloc);
     arguments_by_tag(alloc, system, facts, t, words, nodes, &mut given)?;
-    params_facts(alloc, system, f, given.as_slice(), out)
+    params_facts(alloc, system, f, &given, out)
 }
 
 // The evaluated results of a procedure.
@@ -191,14 +184,14 @@ fn evaluated_result(
     system: &FlowSystem,
     facts: &Facts,
     f: u32,
-    out: &mut Seq<Item>,
+    out: &mut ItemRuns,
 ) -> Result<(), AllocError>
     ensures { OnOk result (out.new ≡ out.old
         ++ items (tables_of system.now) (held facts.now) (evaluated (held' (Place.Result f)))) }
 {
-    let mut results = Seq::new(alloc);
+    let mut results = ItemRuns::new(alloc);
     facts.append(Place::Result(f), &mut results)?;
-    evaluated(alloc, system, None, results.as_slice(), out)
+    evaluated(alloc, system, None, &results, out)
 }
 
 fn evaluated_results(
@@ -207,22 +200,15 @@ fn evaluated_results(
     facts: &Facts,
     s: u32,
     f: u32,
-    out: &mut Seq<Fact>,
+    out: &mut FactRuns,
 ) -> Result<(), AllocError>
     ensures { OnOk result (out.new ≡ out.old
         ++ flow_facts (tables_of system.now) (held facts.now) (evaluated (held' (Place.Result f)))
         (into_site s)) }
 {
-    let mut given = Seq::new(alloc);
+    let mut given = ItemRuns::new(alloc);
     evaluated_result(alloc, system, facts, f, &mut given)?;
-    nodes_at_place(
-        alloc,
-        system,
-        Some(1),
-        given.as_slice(),
-        Place::Site(s),
-        out,
-    )
+    nodes_at_place(alloc, system, Some(1), &given, Place::Site(s), out)
 }
 
 // The delayed calls of f in the cells of a site: their fields are its arguments, and its evaluated results are there.
@@ -234,7 +220,7 @@ fn delayed_facts(
     s: u32,
     t: u32,
     f: u32,
-    out: &mut Seq<Fact>,
+    out: &mut FactRuns,
 ) -> Result<(), AllocError>
     requires by_tag { IsByTag nodes.now }
     requires nodes { nodes.now.nodes
@@ -254,7 +240,7 @@ fn forced(
     nodes: &ByTag,
     s: u32,
     word: Element,
-    out: &mut Seq<Fact>,
+    out: &mut FactRuns,
 ) -> Result<(), AllocError>
     requires by_tag { IsByTag nodes.now }
     requires nodes { nodes.now.nodes
@@ -279,7 +265,7 @@ fn forced_all(
     nodes: &ByTag,
     s: u32,
     words: &[Element],
-    out: &mut Seq<Fact>,
+    out: &mut FactRuns,
 ) -> Result<(), AllocError>
     requires by_tag { IsByTag nodes.now }
     requires nodes { nodes.now.nodes
@@ -298,17 +284,17 @@ fn forces_facts(
     system: &FlowSystem,
     facts: &Facts,
     s: u32,
-    out: &mut Seq<Fact>,
+    out: &mut FactRuns,
 ) -> Result<(), AllocError>
     ensures { OnOk result (out.new ≡ out.old
         ++ demands (tables_of system.now) (held facts.now) (forces s)) }
 {
-    let mut there = Seq::new(alloc);
+    let mut there = ItemRuns::new(alloc);
     facts.append(Place::Site(s), &mut there)?;
     let mut found = Seq::new(alloc);
-    picked(Part::Tags, there.as_slice(), &mut found)?;
-    let mut given = Seq::new(alloc);
-    as_nodes(alloc, system, None, there.as_slice(), &mut given)?;
+    listed(alloc, Part::Tags, &there, &mut found)?;
+    let mut given = ItemRuns::new(alloc);
+    as_nodes(alloc, system, None, &there, &mut given)?;
     let nodes = ByTag::new(alloc, given)?;
     forced_all(alloc, system, facts, &nodes, s, found.as_slice(), out)
 }
@@ -323,7 +309,7 @@ fn call_facts(
     sink: &Sink,
     t: u32,
     f: u32,
-    out: &mut Seq<Fact>,
+    out: &mut FactRuns,
 ) -> Result<(), AllocError>
     requires { IsByTag nodes.now }
     ensures { OnOk result (out.new ≡ out.old
@@ -343,7 +329,7 @@ fn tag_applied(
     a: Word,
     sink: &Sink,
     word: Element,
-    out: &mut Seq<Fact>,
+    out: &mut FactRuns,
 ) -> Result<(), AllocError>
     requires { IsByTag nodes.now }
     ensures { OnOk result (out.new ≡ out.old
@@ -368,7 +354,7 @@ fn tags_applied(
     a: Word,
     sink: &Sink,
     words: &[Element],
-    out: &mut Seq<Fact>,
+    out: &mut FactRuns,
 ) -> Result<(), AllocError>
     requires { IsByTag nodes.now }
     ensures { OnOk result (out.new ≡ out.old
@@ -388,12 +374,12 @@ fn applies_facts(
     v: &Val,
     a: Word,
     sink: &Sink,
-    out: &mut Seq<Fact>,
+    out: &mut FactRuns,
 ) -> Result<(), AllocError>
     ensures { OnOk result (out.new ≡ out.old
         ++ demands (tables_of system.now) (held facts.now) (applies v.now a (sink_of sink.now))) }
 {
-    let mut given = Seq::new(alloc);
+    let mut given = ItemRuns::new(alloc);
     value_nodes(alloc, system, facts, v, &mut given)?;
     let nodes = ByTag::new(alloc, given)?;
     let tags = nodes.tags.as_slice();
@@ -406,7 +392,7 @@ pub fn demands(
     system: &FlowSystem,
     facts: &Facts,
     inclusion: &Inclusion,
-    out: &mut Seq<Fact>,
+    out: &mut FactRuns,
 ) -> Result<(), AllocError>
     ensures { OnOk result (out.new ≡ out.old
         ++ demands (tables_of system.now) (held facts.now) (inclusion_of inclusion.now)) }

@@ -1,22 +1,22 @@
 // Sets of words as sparse rows of bits, over a numbering of the words.
 
-ghost use Rattle.std.specs.Prelude.{◌≡◌, ◌≢◌, ℕ, ◌^◌, ◌<◌, ◌↔◌, IsTrue, IfOk};
+ghost use Rattle.std.specs.Prelude.{◌≡◌, ◌≢◌, ℕ, ◌^◌, ◌<◌, max, [], ◌∷◌, ◌↔◌, IsTrue, IfOk};
 ghost use Rattle.std.specs.Int.{bit_at};
 ghost use Rattle.std.proofs.Props.{props};
-ghost use Rattle.points_to.specs.Bits.{Ascending, BitsAt, Finds, IsPlace, Takes, number_of, word_of};
+ghost use Rattle.points_to.specs.Bits.{Ascending, BitsAt, Finds, IsPlace, StandsAt, Takes, number_of, word_of, block_words};
 
 use flow_system::fact::Element;
 use std::alloc::{AllocError, Global};
 use std::marker::Model;
 
-/// The number of a word. Those of tags and of cells take turns, so that each kind of word fills half of the bits of its blocks.
+/// The number of a word. Blocks of cells and blocks of other words take turns, so that a block has words of one kind.
 pub fn number_of(word: Element) -> u64
     ensures number { result ≡ number_of word }
     ensures below { result < 2 ^ 38 }
 {
     match word {
-        Element::Cell(s) => 2 * s as u64 + 2,
-        Element::Tag(t) => 2 * t as u64 + 1,
+        Element::Cell(s) => s as u64 / 64 * 128 + 64 + s as u64 % 64,
+        Element::Tag(t) => (t as u64 + 1) / 64 * 128 + (t as u64 + 1) % 64,
         Element::Number => 0,
     }
 }
@@ -25,17 +25,25 @@ pub fn number_of(word: Element) -> u64
 pub fn word_of(n: u64) -> Result<Element, AllocError>
     ensures { IfOk result (λ w. w ≡ word_of n) }
 {
-    if n == 0 {
-        return Ok(Element::Number);
-    }
-    let half = (n - 1) / 2;
-    if half > u32::MAX as u64 {
+    let nth = n / 128 * 64 + n % 64;
+    if nth > u32::MAX as u64 {
         return Err(AllocError);
     }
-    if (n - 1) % 2 == 0 {
-        return Ok(Element::Tag(half as u32));
+    if n % 128 >= 64 {
+        return Ok(Element::Cell(nth as u32));
     }
-    Ok(Element::Cell(half as u32))
+    if nth == 0 {
+        return Ok(Element::Number);
+    }
+    Ok(Element::Tag(nth as u32 - 1))
+}
+
+/// The block of one word alone: its number and its bits.
+pub fn block_of(word: Element) -> (u32, u64)
+    ensures { block_words result ≡ word ∷ [] }
+{
+    let n = number_of(word);
+    ((n / 64) as u32, with_bit(0, (n % 64) as u32))
 }
 
 /// What is left to go over of a block of 64 numbers: a bit for each, the lowest for 64 times the block's number.
@@ -100,6 +108,20 @@ fn without_bit(bits: u64, k: u32) -> u64
     bits & !(1 << k)
 }
 
+// The bits of both.
+fn union(a: u64, b: u64) -> u64
+    ensures { (i : ℕ) → bit_at result i ≡ max (bit_at a i) (bit_at b i) }
+{
+    a | b
+}
+
+// Whether all bits of a are among those of b.
+fn is_within(a: u64, b: u64) -> bool
+    ensures { IsTrue result → (i : ℕ) → bit_at a i ≡ 1 → bit_at b i ≡ 1 }
+{
+    a & b == a
+}
+
 /// A set of numbers: each block that has a member, as its number and its bits, in the order of their numbers.
 #[derive(Drop)]
 pub struct Bits {
@@ -108,11 +130,11 @@ pub struct Bits {
 }
 
 impl Bits {
-    ghost use Rattle.std.specs.Prelude.{[], OnOk};
+    ghost use Rattle.std.specs.Prelude.{[], IfOk, OnOk};
     ghost use Rattle.std.specs.List.{flat_map};
     ghost use Rattle.points_to.specs.Bits.{block_numbers};
     ghost use Rattle.points_to.specs.Held.{In};
-    ghost use Rattle.points_to.specs.Rows.{numbers_in, Gets};
+    ghost use Rattle.points_to.specs.Rows.{numbers_in, GetsAll, SameMembers};
 
     /// No numbers.
     pub fn new(alloc: Global) -> Bits
@@ -121,6 +143,18 @@ impl Bits {
         Bits {
             blocks: Vec::new(alloc),
         }
+    }
+
+    /// The numbers of blocks.
+    pub fn of(alloc: Global, blocks: &[(u32, u64)]) -> Result<Bits, AllocError>
+        ensures { IfOk result (λ s. SameMembers (numbers_in s) (flat_map block_numbers blocks.now)) }
+    {
+        let mut set = Bits::new(alloc);
+        let mut near = 0;
+        for block in blocks {
+            near = set.add_near(*block, near)?;
+        }
+        Ok(set)
     }
 
     /// Whether a number is there.
@@ -134,34 +168,50 @@ impl Bits {
         )
     }
 
-    /// Puts a number there.
-    pub fn insert(&mut self, n: u64) -> Result<(), AllocError>
-        requires { n < 2 ^ 38 }
-        ensures { OnOk result (Gets (numbers_in self.old) (numbers_in self.new) n) }
+    /// Whether all numbers of a block are there. Where it says no, some may be missing.
+    pub fn has_block(&self, block: (u32, u64)) -> bool
+        ensures { IsTrue result → (n : ℕ) → In n (block_numbers block) → In n (numbers_in self.now) }
     {
-        Self::insert_in(&mut self.blocks, n)
+        is_within(block.1, bits_at(self.blocks.as_slice(), block.0))
     }
 
-    fn insert_in(blocks: &mut Vec<(u32, u64)>, n: u64) -> Result<(), AllocError>
-        requires small { n < 2 ^ 38 }
-        requires ascending { Ascending blocks.old.items }
-        ensures ascending { Ascending blocks.new.items }
-        ensures gets { OnOk result (Gets (flat_map block_numbers blocks.old.items)
-            (flat_map block_numbers blocks.new.items) n) }
+    /// Puts the numbers of a block there.
+    pub fn add(&mut self, block: (u32, u64)) -> Result<(), AllocError>
+        ensures { OnOk result (GetsAll (numbers_in self.old) (numbers_in self.new)
+            (block_numbers block)) }
     {
-        let number = (n / 64) as u32;
-        let bit = (n % 64) as u32;
-        match find(blocks.as_slice(), number) {
+        self.add_near(block, 0)?;
+        Ok(())
+    }
+
+    // Puts the numbers of a block there, which is looked for near a place first, and says at which place it stands.
+    fn add_near(&mut self, block: (u32, u64), near: usize) -> Result<usize, AllocError>
+        ensures { OnOk result (GetsAll (numbers_in self.old) (numbers_in self.new)
+            (block_numbers block)) }
+    {
+        Self::add_in(&mut self.blocks, block, near)
+    }
+
+    fn add_in(
+        blocks: &mut Vec<(u32, u64)>,
+        block: (u32, u64),
+        near: usize,
+    ) -> Result<usize, AllocError>
+        requires { Ascending blocks.old.items }
+        ensures ascending { Ascending blocks.new.items }
+        ensures gets { OnOk result (GetsAll (flat_map block_numbers blocks.old.items)
+            (flat_map block_numbers blocks.new.items) (block_numbers block)) }
+    {
+        match find_near(blocks.as_slice(), block.0, near) {
             Ok(place) => {
                 let old = blocks[place].1;
-                let bits = with_bit(old, bit);
-                blocks[place] = (number, bits);
-                Ok(())
+                let bits = union(old, block.1);
+                blocks[place] = (block.0, bits);
+                Ok(place)
             }
             Err(place) => {
-                let bits = with_bit(0, bit);
-                blocks.insert(place, (number, bits))?;
-                Ok(())
+                blocks.insert(place, block)?;
+                Ok(place)
             }
         }
     }
@@ -175,6 +225,33 @@ fn bits_at(blocks: &[(u32, u64)], number: u32) -> u64
         Ok(place) => blocks[place].1,
         Err(_) => 0,
     }
+}
+
+// Whether the block with a number stands at a place.
+fn stands_at(blocks: &[(u32, u64)], place: usize, number: u32) -> bool
+    ensures { IsTrue result → StandsAt blocks.now number place }
+{
+    if place >= blocks.len() {
+        return false;
+    }
+    number == blocks[place].0
+}
+
+// The same as `find`, which looks at a place and at the next one first: blocks mostly come in their order.
+fn find_near(blocks: &[(u32, u64)], number: u32, near: usize) -> Result<usize, usize>
+    requires { Ascending blocks.now }
+    ensures { Finds blocks.now number result }
+{
+    if stands_at(blocks, near, number) {
+        return Ok(near);
+    }
+    if near >= blocks.len() {
+        return find(blocks, number);
+    }
+    if stands_at(blocks, near + 1, number) {
+        return Ok(near + 1);
+    }
+    find(blocks, number)
 }
 
 // The place of the block with a number, or the place where it would go.

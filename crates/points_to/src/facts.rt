@@ -1,13 +1,18 @@
 // What is known of a program: for each place, which words stand in which of its parts.
 
-ghost use Rattle.std.specs.Prelude.{◌≡◌, ℕ, ◌<◌, ◌≤◌, ◌+◌, [], ◌∷◌, ◌++◌, length, IsTrue, ◌↔◌, ◌⊎◌, OnOk, IfOk, true, false};
+ghost use Rattle.std.specs.Prelude.{◌≡◌, ℕ, ◌<◌, ◌≤◌, ◌+◌, [], ◌++◌, length, IsTrue, ◌↔◌, ◌⊎◌, OnOk, IfOk, true, false};
+ghost use Rattle.std.specs.List.{flat_map};
 ghost use Rattle.flow_system.specs.declared.fact.Place.{Place as Place'};
 ghost use Rattle.flow_system.specs.Shown.{tables_of};
 ghost use Rattle.points_to.specs.Held.{In, picked, done_items};
 ghost use Rattle.points_to.specs.Known.{items_at, held, Puts, Grows};
+ghost use Rattle.points_to.specs.Rows.{row_items};
+ghost use Rattle.points_to.specs.Runs.{run_items, run_facts};
 ghost use Rattle.points_to.specs.Wanted.{place_of};
+ghost use Rattle.points_to.specs.declared.facts.Item.{Item as AnItem};
 
-use crate::items::Items;
+use crate::items::{Items, Row};
+use crate::runs::{FactRun, ItemRun, ItemRuns, WordRuns};
 use crate::wanted::Kind;
 use flow_system::fact::{Element, Part, Place};
 use flow_system::inclusion::FlowSystem;
@@ -28,7 +33,7 @@ pub struct Fact {
     pub item: Item,
 }
 
-/// The facts that are known: for each kind of place a set of items by the place's number, and how many facts were added.
+/// The facts that are known: for each kind of place a set of items by the place's number, and how often facts were added.
 #[derive(Drop)]
 pub struct Facts {
     sites: Vec<Items>,
@@ -50,7 +55,7 @@ impl Facts {
         }
     }
 
-    /// How many facts were added.
+    /// How often facts were added.
     pub fn count(&self) -> u64
         ensures { result ≡ self.now.count }
     {
@@ -69,7 +74,7 @@ impl Facts {
     }
 
     /// Puts the items at a place at the end of a list.
-    pub fn append(&self, place: Place, out: &mut Seq<Item>) -> Result<(), AllocError>
+    pub fn append(&self, place: Place, out: &mut ItemRuns) -> Result<(), AllocError>
         ensures { OnOk result (out.new ≡ out.old ++ held self.now place) }
     {
         match place {
@@ -84,7 +89,7 @@ impl Facts {
         &self,
         place: Place,
         part: Part,
-        out: &mut Seq<Element>,
+        out: &mut WordRuns,
     ) -> Result<(), AllocError>
         ensures { OnOk result (out.new ≡ out.old ++ picked part (held self.now place)) }
     {
@@ -95,12 +100,35 @@ impl Facts {
         }
     }
 
+    /// Puts the words in one part of a place, one by one, at the end of a list.
+    pub fn list_words(
+        &self,
+        place: Place,
+        part: Part,
+        out: &mut Seq<Element>,
+    ) -> Result<(), AllocError>
+        ensures { OnOk result (out.new ≡ out.old ++ picked part (held self.now place)) }
+    {
+        match place {
+            Place::Site(n) => list_words(self.sites.as_slice(), n, part, out),
+            Place::Var(n) => list_words(self.vars.as_slice(), n, part, out),
+            Place::Result(n) => list_words(self.results.as_slice(), n, part, out),
+        }
+    }
+
+    /// The rows of the items at a site.
+    pub fn rows_at_site(&self, site: u32) -> &[Row]
+        ensures { flat_map row_items result.now ≡ held self.now (Place.Site site) }
+    {
+        rows_of(self.sites.as_slice(), site)
+    }
+
     /// Puts the items of the evaluated nodes in the cells of a site at the end of a list.
     pub fn append_done(
         &self,
         system: &FlowSystem,
         site: u32,
-        out: &mut Seq<Item>,
+        out: &mut ItemRuns,
     ) -> Result<(), AllocError>
         ensures { OnOk result (out.new ≡ out.old
             ++ done_items (tables_of system.now) (held self.now (Place.Site site))) }
@@ -108,32 +136,44 @@ impl Facts {
         append_done(system, self.sites.as_slice(), site, out)
     }
 
-    /// Adds a fact, and says whether it is new. A fact that is known changes nothing. More facts than can be counted are want of memory.
-    pub fn add(&mut self, alloc: Global, fact: Fact) -> Result<bool, AllocError>
-        ensures grown { OnOk result (Grows (held self.old) (held self.new) (fact ∷ [])) }
+    /// Adds facts, and says whether some of them may be new. Where none is, nothing changes. More than can be counted are want of memory.
+    pub fn add(&mut self, alloc: Global, run: FactRun) -> Result<bool, AllocError>
+        ensures grown { OnOk result (Grows (held self.old) (held self.new) (run_facts run)) }
         ensures still { IfOk result (λ added. added ≡ false → self.new ≡ self.old) }
         ensures counted { IfOk result (λ added. added ≡ true → self.old.count < self.new.count) }
-        ensures elsewhere { OnOk result ((q : Place') → (q ≡ fact.place)
+        ensures elsewhere { OnOk result ((q : Place') → (q ≡ run.place)
             ⊎ (held self.new q ≡ held self.old q)) }
     {
-        if self.has(fact) {
+        if self.has_run(run) {
             return Ok(false);
         }
-        self.put(alloc, fact)?;
+        self.put(alloc, run)?;
         self.count = self.count.checked_add(1).ok_or(AllocError)?;
         Ok(true)
     }
 
-    fn put(&mut self, alloc: Global, fact: Fact) -> Result<(), AllocError>
-        ensures grown { OnOk result (Grows (held self.old) (held self.new) (fact ∷ [])) }
+    fn put(&mut self, alloc: Global, run: FactRun) -> Result<(), AllocError>
+        ensures grown { OnOk result (Grows (held self.old) (held self.new) (run_facts run)) }
         ensures same_count { OnOk result (self.new.count ≡ self.old.count) }
-        ensures elsewhere { OnOk result ((q : Place') → (q ≡ fact.place)
+        ensures elsewhere { OnOk result ((q : Place') → (q ≡ run.place)
             ⊎ (held self.new q ≡ held self.old q)) }
     {
-        match fact.place {
-            Place::Site(n) => put_item(alloc, &mut self.sites, n, fact.item),
-            Place::Var(n) => put_item(alloc, &mut self.vars, n, fact.item),
-            Place::Result(n) => put_item(alloc, &mut self.results, n, fact.item),
+        match run.place {
+            Place::Site(n) => put_run(alloc, &mut self.sites, n, run.items),
+            Place::Var(n) => put_run(alloc, &mut self.vars, n, run.items),
+            Place::Result(n) => put_run(alloc, &mut self.results, n, run.items),
+        }
+    }
+
+    // Whether all facts of a run are known. Where it says no, some may be missing.
+    fn has_run(&self, run: FactRun) -> bool
+        ensures { IsTrue result → (i : AnItem) → In i (run_items run.items)
+            → In i (held self.now run.place) }
+    {
+        match run.place {
+            Place::Site(n) => has_run(self.sites.as_slice(), n, run.items),
+            Place::Var(n) => has_run(self.vars.as_slice(), n, run.items),
+            Place::Result(n) => has_run(self.results.as_slice(), n, run.items),
         }
     }
 
@@ -149,7 +189,7 @@ impl Facts {
     }
 }
 
-fn append_items(sets: &[Items], n: u32, out: &mut Seq<Item>) -> Result<(), AllocError>
+fn append_items(sets: &[Items], n: u32, out: &mut ItemRuns) -> Result<(), AllocError>
     ensures { OnOk result (out.new ≡ out.old ++ items_at sets.now n) }
 {
     match sets.get(n as usize) {
@@ -158,12 +198,16 @@ fn append_items(sets: &[Items], n: u32, out: &mut Seq<Item>) -> Result<(), Alloc
     }
 }
 
-fn append_words(
-    sets: &[Items],
-    n: u32,
-    part: Part,
-    out: &mut Seq<Element>,
-) -> Result<(), AllocError>
+fn rows_of(sets: &[Items], n: u32) -> &[Row]
+    ensures { flat_map row_items result.now ≡ items_at sets.now n }
+{
+    match sets.get(n as usize) {
+        None => &[],
+        Some(set) => set.rows(),
+    }
+}
+
+fn append_words(sets: &[Items], n: u32, part: Part, out: &mut WordRuns) -> Result<(), AllocError>
     ensures { OnOk result (out.new ≡ out.old ++ picked part (items_at sets.now n)) }
 {
     match sets.get(n as usize) {
@@ -172,11 +216,20 @@ fn append_words(
     }
 }
 
+fn list_words(sets: &[Items], n: u32, part: Part, out: &mut Seq<Element>) -> Result<(), AllocError>
+    ensures { OnOk result (out.new ≡ out.old ++ picked part (items_at sets.now n)) }
+{
+    match sets.get(n as usize) {
+        None => Ok(()),
+        Some(set) => set.list_words(part, out),
+    }
+}
+
 fn append_done(
     system: &FlowSystem,
     sets: &[Items],
     n: u32,
-    out: &mut Seq<Item>,
+    out: &mut ItemRuns,
 ) -> Result<(), AllocError>
     ensures { OnOk result (out.new ≡ out.old
         ++ done_items (tables_of system.now) (items_at sets.now n)) }
@@ -192,6 +245,15 @@ fn has_item(sets: &[Items], n: u32, item: Item) -> bool
 {
     match sets.get(n as usize) {
         Some(set) => set.has(item),
+        None => false,
+    }
+}
+
+fn has_run(sets: &[Items], n: u32, run: ItemRun) -> bool
+    ensures { IsTrue result → (i : AnItem) → In i (run_items run) → In i (items_at sets.now n) }
+{
+    match sets.get(n as usize) {
+        Some(set) => set.has_run(run),
         None => false,
     }
 }
@@ -216,12 +278,13 @@ fn grow(alloc: Global, sets: &mut Vec<Items>, n: u32) -> Result<(), AllocError>
     Ok(())
 }
 
-fn put_item(alloc: Global, sets: &mut Vec<Items>, n: u32, item: Item) -> Result<(), AllocError>
-    ensures puts { OnOk result (Puts (items_at sets.old.items) (items_at sets.new.items) n item) }
+fn put_run(alloc: Global, sets: &mut Vec<Items>, n: u32, run: ItemRun) -> Result<(), AllocError>
+    ensures puts { OnOk result (Puts (items_at sets.old.items) (items_at sets.new.items) n
+        (run_items run)) }
     ensures elsewhere { OnOk result ((m : ℕ) → (m ≡ n)
         ⊎ (items_at sets.new.items m ≡ items_at sets.old.items m)) }
 {
     grow(alloc, sets, n)?;
-    sets[n as usize].insert(alloc, item)?;
+    sets[n as usize].add(alloc, run)?;
     Ok(())
 }

@@ -1,32 +1,31 @@
-// Words of the nodes at a site. Each set is asked for alone: a site may hold many delayed calls with large fields.
+// Words of the nodes at a site. Each row is asked for alone: a site may hold many delayed calls with large fields.
 
 ghost use Rattle.std.specs.Prelude.{◌≡◌, ◌++◌, OnOk};
 ghost use Rattle.std.specs.List.{flat_map};
+ghost use Rattle.flow_system.specs.declared.fact.Place.TheVariants.{Site as site};
 ghost use Rattle.flow_system.specs.Shown.{tables_of};
-ghost use Rattle.points_to.specs.Held.{field_or_zero_of, field_of_tag, fetched};
+ghost use Rattle.flow_system.specs.declared.fact.Part.TheVariants.{Tags as tags'};
+ghost use Rattle.points_to.specs.Bits.{block_words};
+ghost use Rattle.points_to.specs.Held.{picked, field_or_zero_of, field_of_tag, fetched};
 ghost use Rattle.points_to.specs.Known.{held};
+ghost use Rattle.points_to.specs.Rows.{row_items};
 
+use crate::bits::{Block, word_of};
 use crate::facts::Facts;
+use crate::items::{Row, append_picked};
+use crate::runs::WordRuns;
 use crate::tags::fields_of;
-use flow_system::fact::{Element, Part, Place};
+use flow_system::fact::{Element, Part};
 use flow_system::inclusion::FlowSystem;
-use seq::Seq;
-use std::alloc::{AllocError, Global};
+use std::alloc::AllocError;
 
 // A field of the nodes of a tag with m fields, or a number past them.
-fn field_or_zero(
-    facts: &Facts,
-    s: u32,
-    i: u32,
-    t: u32,
-    m: u32,
-    out: &mut Seq<Element>,
-) -> Result<(), AllocError>
+fn field_or_zero(rows: &[Row], i: u32, t: u32, m: u32, out: &mut WordRuns) -> Result<(), AllocError>
     ensures { OnOk result (out.new ≡ out.old
-        ++ field_or_zero_of i t (held facts.now (Place.Site s)) m) }
+        ++ field_or_zero_of i t (flat_map row_items rows.now) m) }
 {
     if i < m {
-        return facts.append_words(Place::Site(s), Part::Field(t, i), out);
+        return append_picked(rows, Part::Field(t, i), out);
     }
     out.push(Element::Number)?;
     Ok(())
@@ -34,60 +33,109 @@ fn field_or_zero(
 
 fn field_of_tag(
     system: &FlowSystem,
-    facts: &Facts,
-    s: u32,
+    rows: &[Row],
     i: u32,
     word: Element,
-    out: &mut Seq<Element>,
+    out: &mut WordRuns,
 ) -> Result<(), AllocError>
     ensures { OnOk result (out.new ≡ out.old
-        ++ field_of_tag (tables_of system.now) i (held facts.now (Place.Site s)) word) }
+        ++ field_of_tag (tables_of system.now) i (flat_map row_items rows.now) word) }
 {
     match word {
         Element::Cell(_) => Ok(()),
         Element::Tag(t) => match fields_of(system, t) {
             None => Ok(()),
-            Some(m) => field_or_zero(facts, s, i, t, m, out),
+            Some(m) => field_or_zero(rows, i, t, m, out),
         },
         Element::Number => Ok(()),
     }
 }
 
-fn fields_of_tags(
+fn fields_of_block(
     system: &FlowSystem,
-    facts: &Facts,
-    s: u32,
+    rows: &[Row],
     i: u32,
-    words: &[Element],
-    out: &mut Seq<Element>,
+    block: (u32, u64),
+    out: &mut WordRuns,
 ) -> Result<(), AllocError>
     ensures { OnOk result (out.new ≡ out.old
-        ++ flat_map (field_of_tag (tables_of system.now) i (held facts.now (Place.Site s)))
-        words.now) }
+        ++ flat_map (field_of_tag (tables_of system.now) i (flat_map row_items rows.now))
+        (block_words block)) }
 {
-    for word in words {
-        field_of_tag(system, facts, s, i, *word, out)?;
+    let mut left = Block::new(block.0, block.1);
+    'words: while let Some(n) = left.next() {
+        field_of_tag(system, rows, i, word_of(n)?, out)?;
+    }
+    Ok(())
+}
+
+fn fields_of_blocks(
+    system: &FlowSystem,
+    rows: &[Row],
+    i: u32,
+    blocks: &[(u32, u64)],
+    out: &mut WordRuns,
+) -> Result<(), AllocError>
+    ensures { OnOk result (out.new ≡ out.old
+        ++ flat_map (field_of_tag (tables_of system.now) i (flat_map row_items rows.now))
+        (flat_map block_words blocks.now)) }
+{
+    for block in blocks {
+        fields_of_block(system, rows, i, *block, out)?;
+    }
+    Ok(())
+}
+
+// The fields of the tags of one row.
+fn fields_of_row(
+    system: &FlowSystem,
+    rows: &[Row],
+    i: u32,
+    row: &Row,
+    out: &mut WordRuns,
+) -> Result<(), AllocError>
+    ensures { OnOk result (out.new ≡ out.old
+        ++ flat_map (field_of_tag (tables_of system.now) i (flat_map row_items rows.now))
+        (picked tags' (row_items row.now))) }
+{
+    match row.part {
+        Part::Tags => fields_of_blocks(system, rows, i, row.words.blocks.as_slice(), out),
+        Part::Field(_, _) => Ok(()),
+        Part::Word(_) => Ok(()),
+    }
+}
+
+fn fields_of_rows(
+    system: &FlowSystem,
+    rows: &[Row],
+    i: u32,
+    of: &[Row],
+    out: &mut WordRuns,
+) -> Result<(), AllocError>
+    ensures { OnOk result (out.new ≡ out.old
+        ++ flat_map (field_of_tag (tables_of system.now) i (flat_map row_items rows.now))
+        (picked tags' (flat_map row_items of.now))) }
+{
+    for row in of {
+        fields_of_row(system, rows, i, row, out)?;
     }
     Ok(())
 }
 
 /// Word i of the nodes at a site: the tag, then the fields, then numbers.
 pub fn fetched_from(
-    alloc: Global,
     system: &FlowSystem,
     facts: &Facts,
     s: u32,
     i: u32,
-    out: &mut Seq<Element>,
+    out: &mut WordRuns,
 ) -> Result<(), AllocError>
     ensures { OnOk result (out.new ≡ out.old
-        ++ fetched (tables_of system.now) i (held facts.now (Place.Site s))) }
+        ++ fetched (tables_of system.now) i (held facts.now (site s))) }
 {
-    let place = Place::Site(s);
+    let rows = facts.rows_at_site(s);
     if i == 0 {
-        return facts.append_words(place, Part::Tags, out);
+        return append_picked(rows, Part::Tags, out);
     }
-    let mut tags = Seq::new(alloc);
-    facts.append_words(place, Part::Tags, &mut tags)?;
-    fields_of_tags(system, facts, s, i - 1, tags.as_slice(), out)
+    fields_of_rows(system, rows, i - 1, rows, out)
 }

@@ -7,8 +7,9 @@ ghost use Rattle.points_to.specs.Held.{picked, in_part, elements, cell_items, fe
 ghost use Rattle.points_to.specs.Known.{held};
 
 use crate::facts::Facts;
-use crate::give::{elements, fetched_words, items, value_items};
+use crate::give::{elements, fetched_words, items, value_items, words_of};
 use crate::nodes::picked;
+use crate::runs::{ItemRuns, WordRuns};
 use flow_system::fact::{Element, Part, Place};
 use flow_system::inclusion::{FlowSystem, Source};
 use grin_syntax::program::{Val, Word};
@@ -16,7 +17,7 @@ use seq::Seq;
 use std::alloc::{AllocError, Global};
 
 // The first words at a cell.
-fn first_at(facts: &Facts, word: Element, out: &mut Seq<Element>) -> Result<(), AllocError>
+fn first_at(facts: &Facts, word: Element, out: &mut WordRuns) -> Result<(), AllocError>
     ensures { OnOk result (out.new ≡ out.old
         ++ picked (Part.Word 0) (cell_items (held facts.now) word)) }
 {
@@ -28,11 +29,7 @@ fn first_at(facts: &Facts, word: Element, out: &mut Seq<Element>) -> Result<(), 
 }
 
 /// The first words at some cells.
-pub fn first_at_all(
-    facts: &Facts,
-    words: &[Element],
-    out: &mut Seq<Element>,
-) -> Result<(), AllocError>
+pub fn first_at_all(facts: &Facts, words: &[Element], out: &mut WordRuns) -> Result<(), AllocError>
     ensures { OnOk result (out.new ≡ out.old
         ++ flat_map (λ w. picked (Part.Word 0) (cell_items (held facts.now) w)) words.now) }
 {
@@ -48,7 +45,7 @@ fn first_at_cells(
     system: &FlowSystem,
     facts: &Facts,
     w: Word,
-    out: &mut Seq<Element>,
+    out: &mut WordRuns,
 ) -> Result<(), AllocError>
     ensures { OnOk result (out.new ≡ out.old
         ++ picked (Part.Word 0) (flat_map (cell_items (held facts.now))
@@ -64,15 +61,15 @@ fn first_among_items(
     system: &FlowSystem,
     facts: &Facts,
     source: &Source,
-    out: &mut Seq<Element>,
+    out: &mut WordRuns,
 ) -> Result<(), AllocError>
     ensures { OnOk result (out.new ≡ out.old
         ++ picked (Part.Word 0)
         (items (tables_of system.now) (held facts.now) (source_of source.now))) }
 {
-    let mut given = Seq::new(alloc);
+    let mut given = ItemRuns::new(alloc);
     items(alloc, system, facts, source, &mut given)?;
-    picked(Part::Word(0), given.as_slice(), out)
+    picked(Part::Word(0), &given, out)
 }
 
 fn first_among_value_items(
@@ -80,14 +77,14 @@ fn first_among_value_items(
     system: &FlowSystem,
     facts: &Facts,
     v: &Val,
-    out: &mut Seq<Element>,
+    out: &mut WordRuns,
 ) -> Result<(), AllocError>
     ensures { OnOk result (out.new ≡ out.old
         ++ picked (Part.Word 0) (value_items (tables_of system.now) (held facts.now) v.now)) }
 {
-    let mut given = Seq::new(alloc);
+    let mut given = ItemRuns::new(alloc);
     value_items(alloc, system, facts, v, &mut given)?;
-    picked(Part::Word(0), given.as_slice(), out)
+    picked(Part::Word(0), &given, out)
 }
 
 // A word alone is itself the first one.
@@ -96,13 +93,13 @@ fn only_word(
     system: &FlowSystem,
     facts: &Facts,
     w: Word,
-    out: &mut Seq<Element>,
+    out: &mut WordRuns,
 ) -> Result<(), AllocError>
     ensures { OnOk result (out.new ≡ out.old
         ++ picked (Part.Word 0)
         (in_part (Part.Word 0) (elements (tables_of system.now) (held facts.now) w))) }
 {
-    elements(alloc, system, facts, w, out)
+    words_of(alloc, system, facts, w, out)
 }
 
 fn only_fetched_word(
@@ -111,7 +108,7 @@ fn only_fetched_word(
     facts: &Facts,
     w: Word,
     i: u32,
-    out: &mut Seq<Element>,
+    out: &mut WordRuns,
 ) -> Result<(), AllocError>
     ensures { OnOk result (out.new ≡ out.old
         ++ picked (Part.Word 0)
@@ -126,7 +123,7 @@ fn first_of_value(
     system: &FlowSystem,
     facts: &Facts,
     v: &Val,
-    out: &mut Seq<Element>,
+    out: &mut WordRuns,
 ) -> Result<(), AllocError>
     ensures { OnOk result (out.new ≡ out.old
         ++ picked (Part.Word 0) (value_items (tables_of system.now) (held facts.now) v.now)) }
@@ -145,7 +142,7 @@ pub fn first_words(
     system: &FlowSystem,
     facts: &Facts,
     source: &Source,
-    out: &mut Seq<Element>,
+    out: &mut WordRuns,
 ) -> Result<(), AllocError>
     ensures { OnOk result (out.new ≡ out.old
         ++ picked (Part.Word 0)

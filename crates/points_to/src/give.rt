@@ -12,10 +12,11 @@ ghost use Rattle.points_to.specs.Row.{row_part};
 ghost use Rattle.points_to.specs.ByTag.{IsByTag};
 
 use crate::by_tag::ByTag;
-use crate::facts::{Facts, Item};
+use crate::facts::Facts;
 use crate::fetch::fetched_from;
 use crate::first::first_at_all;
-use crate::nodes::{Shift, append_shifted, as_nodes, as_nodes_of, in_part, nodes_of_words, picked};
+use crate::nodes::{Shift, append_shifted, as_nodes, as_nodes_of, in_part, listed, nodes_of_words};
+use crate::runs::{ItemRuns, WordRuns};
 use crate::tags::{fields_of, longer};
 use flow_system::fact::{Element, Part, Place};
 use flow_system::inclusion::{FlowSystem, Source};
@@ -31,12 +32,12 @@ pub enum Row {
 }
 
 /// What a word stands for.
-pub fn elements(
+pub fn words_of(
     alloc: Global,
     system: &FlowSystem,
     facts: &Facts,
     w: Word,
-    out: &mut Seq<Element>,
+    out: &mut WordRuns,
 ) -> Result<(), AllocError>
     ensures { OnOk result (out.new ≡ out.old
         ++ elements (tables_of system.now) (held facts.now) w) }
@@ -52,6 +53,28 @@ pub fn elements(
     }
 }
 
+/// What a word stands for, one by one.
+pub fn elements(
+    alloc: Global,
+    system: &FlowSystem,
+    facts: &Facts,
+    w: Word,
+    out: &mut Seq<Element>,
+) -> Result<(), AllocError>
+    ensures { OnOk result (out.new ≡ out.old
+        ++ elements (tables_of system.now) (held facts.now) w) }
+{
+    match w {
+        Word::Lit(_) => out.push(Element::Number),
+        Word::Var(x) => facts.list_words(Place::Var(x.0), Part::Word(0), out),
+        Word::Global(i) => match system.globals.get(i as usize) {
+            Some(global) => out.push(Element::Cell(global.site.0)),
+            None => Ok(()),
+        },
+        Word::TagWord(t) => out.push(Element::Tag(t.0)),
+    }
+}
+
 // What a word stands for, as items of a part.
 fn elements_in(
     alloc: Global,
@@ -59,14 +82,14 @@ fn elements_in(
     facts: &Facts,
     part: Part,
     w: Word,
-    out: &mut Seq<Item>,
+    out: &mut ItemRuns,
 ) -> Result<(), AllocError>
     ensures { OnOk result (out.new ≡ out.old
         ++ in_part part (elements (tables_of system.now) (held facts.now) w)) }
 {
-    let mut words = Seq::new(alloc);
-    elements(alloc, system, facts, w, &mut words)?;
-    in_part(part, words.as_slice(), out)
+    let mut words = WordRuns::new(alloc);
+    words_of(alloc, system, facts, w, &mut words)?;
+    in_part(part, &words, out)
 }
 
 fn part_at(row: Row, j: u32) -> Part
@@ -86,7 +109,7 @@ fn elements_at(
     row: Row,
     j: u32,
     w: Word,
-    out: &mut Seq<Item>,
+    out: &mut ItemRuns,
 ) -> Result<(), AllocError>
     ensures { OnOk result (out.new ≡ out.old
         ++ in_part (row_part row j) (elements (tables_of system.now) (held facts.now) w)) }
@@ -102,7 +125,7 @@ pub fn numbered(
     row: Row,
     first: u32,
     words: &[Word],
-    out: &mut Seq<Item>,
+    out: &mut ItemRuns,
 ) -> Result<(), AllocError>
     ensures { OnOk result (out.new ≡ out.old
         ++ numbered (tables_of system.now) (held facts.now) (row_part row) first words.now) }
@@ -121,7 +144,7 @@ pub fn value_items(
     system: &FlowSystem,
     facts: &Facts,
     v: &Val,
-    out: &mut Seq<Item>,
+    out: &mut ItemRuns,
 ) -> Result<(), AllocError>
     ensures { OnOk result (out.new ≡ out.old
         ++ value_items (tables_of system.now) (held facts.now) v.now) }
@@ -129,9 +152,7 @@ pub fn value_items(
     match v {
         Val::NodeVar(x) => facts.append(Place::Var(x.0), out),
         Val::Node(t, words) => {
-            let part = Part::Tags;
-            let word = Element::Tag(t.0);
-            out.push(Item { part, word })?;
+            out.push_word(Part::Tags, Element::Tag(t.0))?;
             numbered(
                 alloc,
                 system,
@@ -148,7 +169,7 @@ pub fn value_items(
     }
 }
 
-fn cell_items(facts: &Facts, word: Element, out: &mut Seq<Item>) -> Result<(), AllocError>
+fn cell_items(facts: &Facts, word: Element, out: &mut ItemRuns) -> Result<(), AllocError>
     ensures { OnOk result (out.new ≡ out.old ++ cell_items (held facts.now) word) }
 {
     match word {
@@ -158,7 +179,7 @@ fn cell_items(facts: &Facts, word: Element, out: &mut Seq<Item>) -> Result<(), A
     }
 }
 
-fn cells_items(facts: &Facts, words: &[Element], out: &mut Seq<Item>) -> Result<(), AllocError>
+fn cells_items(facts: &Facts, words: &[Element], out: &mut ItemRuns) -> Result<(), AllocError>
     ensures { OnOk result (out.new ≡ out.old ++ flat_map (cell_items (held facts.now)) words.now) }
 {
     for word in words {
@@ -173,7 +194,7 @@ fn items_at_cells(
     system: &FlowSystem,
     facts: &Facts,
     w: Word,
-    out: &mut Seq<Item>,
+    out: &mut ItemRuns,
 ) -> Result<(), AllocError>
     ensures { OnOk result (out.new ≡ out.old
         ++ flat_map (cell_items (held facts.now))
@@ -185,36 +206,34 @@ fn items_at_cells(
 }
 
 fn fetched_at(
-    alloc: Global,
     system: &FlowSystem,
     facts: &Facts,
     i: u32,
     word: Element,
-    out: &mut Seq<Element>,
+    out: &mut WordRuns,
 ) -> Result<(), AllocError>
     ensures { OnOk result (out.new ≡ out.old
         ++ fetched_at (tables_of system.now) (held facts.now) i word) }
 {
     match word {
-        Element::Cell(s) => fetched_from(alloc, system, facts, s, i, out),
+        Element::Cell(s) => fetched_from(system, facts, s, i, out),
         Element::Tag(_) => Ok(()),
         Element::Number => Ok(()),
     }
 }
 
 fn fetched_at_all(
-    alloc: Global,
     system: &FlowSystem,
     facts: &Facts,
     i: u32,
     words: &[Element],
-    out: &mut Seq<Element>,
+    out: &mut WordRuns,
 ) -> Result<(), AllocError>
     ensures { OnOk result (out.new ≡ out.old
         ++ flat_map (fetched_at (tables_of system.now) (held facts.now) i) words.now) }
 {
     for word in words {
-        fetched_at(alloc, system, facts, i, *word, out)?;
+        fetched_at(system, facts, i, *word, out)?;
     }
     Ok(())
 }
@@ -226,7 +245,7 @@ pub fn fetched_words(
     facts: &Facts,
     w: Word,
     i: u32,
-    out: &mut Seq<Element>,
+    out: &mut WordRuns,
 ) -> Result<(), AllocError>
     ensures { OnOk result (out.new ≡ out.old
         ++ flat_map (fetched_at (tables_of system.now) (held facts.now) i)
@@ -234,7 +253,7 @@ pub fn fetched_words(
 {
     let mut cells = Seq::new(alloc);
     elements(alloc, system, facts, w, &mut cells)?;
-    fetched_at_all(alloc, system, facts, i, cells.as_slice(), out)
+    fetched_at_all(system, facts, i, cells.as_slice(), out)
 }
 
 fn word_at(
@@ -243,16 +262,16 @@ fn word_at(
     facts: &Facts,
     w: Word,
     i: u32,
-    out: &mut Seq<Item>,
+    out: &mut ItemRuns,
 ) -> Result<(), AllocError>
     ensures { OnOk result (out.new ≡ out.old
         ++ in_part (Part.Word 0)
         (flat_map (fetched_at (tables_of system.now) (held facts.now) i)
         (elements (tables_of system.now) (held facts.now) w))) }
 {
-    let mut words = Seq::new(alloc);
+    let mut words = WordRuns::new(alloc);
     fetched_words(alloc, system, facts, w, i, &mut words)?;
-    in_part(Part::Word(0), words.as_slice(), out)
+    in_part(Part::Word(0), &words, out)
 }
 
 fn last_field(
@@ -262,7 +281,7 @@ fn last_field(
     a: Word,
     longer: u32,
     m: Option<u32>,
-    out: &mut Seq<Item>,
+    out: &mut ItemRuns,
 ) -> Result<(), AllocError>
     ensures { OnOk result (out.new ≡ out.old
         ++ last_field (tables_of system.now) (held facts.now) a longer m) }
@@ -282,16 +301,16 @@ fn longer_node(
     nodes: &ByTag,
     t: u32,
     longer: u32,
-    out: &mut Seq<Item>,
+    out: &mut ItemRuns,
 ) -> Result<(), AllocError>
     requires { IsByTag nodes.now }
     ensures { OnOk result (out.new ≡ out.old
         ++ longer_node (tables_of system.now) (held facts.now) a nodes.now.nodes t (Some longer)) }
 {
-    let part = Part::Tags;
-    let word = Element::Tag(longer);
-    out.push(Item { part, word })?;
-    append_shifted(system, Shift::Renamed(t, longer), nodes.fields_of(t), out)?;
+    out.push_word(Part::Tags, Element::Tag(longer))?;
+    let mut fields = ItemRuns::new(alloc);
+    nodes.append_fields(t, &mut fields)?;
+    append_shifted(system, Shift::Renamed(t, longer), &fields, out)?;
     last_field(alloc, system, facts, a, longer, fields_of(system, t), out)?;
     Ok(())
 }
@@ -303,7 +322,7 @@ fn longer_tag(
     a: Word,
     nodes: &ByTag,
     word: Element,
-    out: &mut Seq<Item>,
+    out: &mut ItemRuns,
 ) -> Result<(), AllocError>
     requires { IsByTag nodes.now }
     ensures { OnOk result (out.new ≡ out.old
@@ -326,7 +345,7 @@ fn longer_tags(
     a: Word,
     nodes: &ByTag,
     words: &[Element],
-    out: &mut Seq<Item>,
+    out: &mut ItemRuns,
 ) -> Result<(), AllocError>
     requires { IsByTag nodes.now }
     ensures { OnOk result (out.new ≡ out.old
@@ -345,7 +364,7 @@ fn after_fields(
     facts: &Facts,
     words: &[Word],
     m: Option<u32>,
-    out: &mut Seq<Item>,
+    out: &mut ItemRuns,
 ) -> Result<(), AllocError>
     ensures { OnOk result (out.new ≡ out.old
         ++ after_fields (tables_of system.now) (held facts.now) words.now m) }
@@ -362,9 +381,9 @@ fn arguments_of(
     facts: &Facts,
     t: u32,
     words: &[Word],
-    items: &[Item],
+    items: &ItemRuns,
     word: Element,
-    out: &mut Seq<Item>,
+    out: &mut ItemRuns,
 ) -> Result<(), AllocError>
     ensures { OnOk result (out.new ≡ out.old
         ++ arguments_of (tables_of system.now) (held facts.now) t words.now items.now word) }
@@ -388,9 +407,9 @@ fn arguments_of_all(
     facts: &Facts,
     t: u32,
     words: &[Word],
-    items: &[Item],
+    items: &ItemRuns,
     found: &[Element],
-    out: &mut Seq<Item>,
+    out: &mut ItemRuns,
 ) -> Result<(), AllocError>
     ensures { OnOk result (out.new ≡ out.old
         ++ flat_map (arguments_of (tables_of system.now) (held facts.now) t words.now items.now)
@@ -409,15 +428,15 @@ fn arguments(
     facts: &Facts,
     t: u32,
     words: &[Word],
-    nodes: &[Item],
-    out: &mut Seq<Item>,
+    nodes: &ItemRuns,
+    out: &mut ItemRuns,
 ) -> Result<(), AllocError>
     ensures { OnOk result (out.new ≡ out.old
         ++ flat_map (arguments_of (tables_of system.now) (held facts.now) t words.now nodes.now)
         (picked tags' nodes.now)) }
 {
     let mut found = Seq::new(alloc);
-    picked(Part::Tags, nodes, &mut found)?;
+    listed(alloc, Part::Tags, nodes, &mut found)?;
     arguments_of_all(alloc, system, facts, t, words, nodes, found.as_slice(), out)
 }
 
@@ -429,16 +448,17 @@ pub fn arguments_by_tag(
     t: u32,
     words: &[Word],
     nodes: &ByTag,
-    out: &mut Seq<Item>,
+    out: &mut ItemRuns,
 ) -> Result<(), AllocError>
     requires { IsByTag nodes.now }
     ensures { OnOk result (out.new ≡ out.old
         ++ flat_map (arguments_of (tables_of system.now) (held facts.now) t words.now
         nodes.now.nodes) (picked tags' nodes.now.nodes)) }
 {
-    let fields = nodes.fields_of(t);
+    let mut fields = ItemRuns::new(alloc);
+    nodes.append_fields(t, &mut fields)?;
     let tags = nodes.tags.as_slice();
-    arguments_of_all(alloc, system, facts, t, words, fields, tags, out)
+    arguments_of_all(alloc, system, facts, t, words, &fields, tags, out)
 }
 
 /// The nodes that a value may be.
@@ -447,15 +467,15 @@ pub fn value_nodes(
     system: &FlowSystem,
     facts: &Facts,
     v: &Val,
-    out: &mut Seq<Item>,
+    out: &mut ItemRuns,
 ) -> Result<(), AllocError>
     ensures { OnOk result (out.new ≡ out.old
         ++ as_nodes (tables_of system.now) (width (value v.now))
         (value_items (tables_of system.now) (held facts.now) v.now)) }
 {
-    let mut items = Seq::new(alloc);
+    let mut items = ItemRuns::new(alloc);
     value_items(alloc, system, facts, v, &mut items)?;
-    as_nodes(alloc, system, width_of_value(v), items.as_slice(), out)
+    as_nodes(alloc, system, width_of_value(v), &items, out)
 }
 
 /// How many words a value has at most.
@@ -477,12 +497,12 @@ fn extended(
     facts: &Facts,
     v: &Val,
     a: Word,
-    out: &mut Seq<Item>,
+    out: &mut ItemRuns,
 ) -> Result<(), AllocError>
     ensures { OnOk result (out.new ≡ out.old
         ++ items (tables_of system.now) (held facts.now) (extended v.now a)) }
 {
-    let mut given = Seq::new(alloc);
+    let mut given = ItemRuns::new(alloc);
     value_nodes(alloc, system, facts, v, &mut given)?;
     let nodes = ByTag::new(alloc, given)?;
     let tags = nodes.tags.as_slice();
@@ -494,7 +514,7 @@ fn done_at(
     system: &FlowSystem,
     facts: &Facts,
     word: Element,
-    out: &mut Seq<Item>,
+    out: &mut ItemRuns,
 ) -> Result<(), AllocError>
     ensures { OnOk result (out.new ≡ out.old
         ++ done_items (tables_of system.now) (cell_items (held facts.now) word)) }
@@ -510,7 +530,7 @@ fn done_at_all(
     system: &FlowSystem,
     facts: &Facts,
     words: &[Element],
-    out: &mut Seq<Item>,
+    out: &mut ItemRuns,
 ) -> Result<(), AllocError>
     ensures { OnOk result (out.new ≡ out.old
         ++ flat_map (λ w. done_items (tables_of system.now) (cell_items (held facts.now) w))
@@ -527,15 +547,16 @@ fn done_alone(
     alloc: Global,
     system: &FlowSystem,
     words: &[Element],
-    out: &mut Seq<Item>,
+    out: &mut ItemRuns,
 ) -> Result<(), AllocError>
     ensures { OnOk result (out.new ≡ out.old
         ++ done_items (tables_of system.now)
         (flat_map (node_of_word (tables_of system.now) (Some 1) []) words.now)) }
 {
-    let mut nodes = Seq::new(alloc);
-    nodes_of_words(system, Some(1), &[], words, &mut nodes)?;
-    append_shifted(system, Shift::Evaluated, nodes.as_slice(), out)
+    let mut nodes = ItemRuns::new(alloc);
+    let none = ItemRuns::new(alloc);
+    nodes_of_words(system, Some(1), &none, words, &mut nodes)?;
+    append_shifted(system, Shift::Evaluated, &nodes, out)
 }
 
 // The evaluated ones among the nodes at the cells of a word. The fields of delayed calls there, which may be many, are passed over.
@@ -544,7 +565,7 @@ fn evaluated_at(
     system: &FlowSystem,
     facts: &Facts,
     w: Word,
-    out: &mut Seq<Item>,
+    out: &mut ItemRuns,
 ) -> Result<(), AllocError>
     ensures { OnOk result (out.new ≡ out.old
         ++ items (tables_of system.now) (held facts.now) (evaluated (nodes_at w))) }
@@ -552,9 +573,11 @@ fn evaluated_at(
     let mut cells = Seq::new(alloc);
     elements(alloc, system, facts, w, &mut cells)?;
     done_at_all(system, facts, cells.as_slice(), out)?;
-    let mut firsts = Seq::new(alloc);
+    let mut firsts = WordRuns::new(alloc);
     first_at_all(facts, cells.as_slice(), &mut firsts)?;
-    done_alone(alloc, system, firsts.as_slice(), out)?;
+    let mut words = Seq::new(alloc);
+    firsts.list(&mut words)?;
+    done_alone(alloc, system, words.as_slice(), out)?;
     Ok(())
 }
 
@@ -565,23 +588,16 @@ fn fields_of_value(
     facts: &Facts,
     v: &Val,
     t: u32,
-    out: &mut Seq<Item>,
+    out: &mut ItemRuns,
 ) -> Result<(), AllocError>
     ensures { OnOk result (out.new ≡ out.old
         ++ items (tables_of system.now) (held facts.now) (arguments (value v.now) t [])) }
 {
-    let mut given = Seq::new(alloc);
+    let mut given = ItemRuns::new(alloc);
     value_items(alloc, system, facts, v, &mut given)?;
-    let mut nodes = Seq::new(alloc);
-    as_nodes_of(
-        alloc,
-        system,
-        t,
-        width_of_value(v),
-        given.as_slice(),
-        &mut nodes,
-    )?;
-    arguments(alloc, system, facts, t, &[], nodes.as_slice(), out)
+    let mut nodes = ItemRuns::new(alloc);
+    as_nodes_of(alloc, system, t, width_of_value(v), &given, &mut nodes)?;
+    arguments(alloc, system, facts, t, &[], &nodes, out)
 }
 
 /// What a source gives.
@@ -590,7 +606,7 @@ pub fn items(
     system: &FlowSystem,
     facts: &Facts,
     source: &Source,
-    out: &mut Seq<Item>,
+    out: &mut ItemRuns,
 ) -> Result<(), AllocError>
     ensures { OnOk result (out.new ≡ out.old
         ++ items (tables_of system.now) (held facts.now) (source_of source.now)) }
@@ -609,12 +625,10 @@ pub fn items(
 }
 
 // A single word.
-fn one_word(word: Element, out: &mut Seq<Item>) -> Result<(), AllocError>
+fn one_word(word: Element, out: &mut ItemRuns) -> Result<(), AllocError>
     ensures { OnOk result (out.new ≡ out.old ++ item (Part.Word 0) word ∷ []) }
 {
-    let part = Part::Word(0);
-    out.push(Item { part, word })?;
-    Ok(())
+    out.push_word(Part::Word(0), word)
 }
 
 /// How many words a source has at most; of a variable or a result any number.

@@ -1,16 +1,17 @@
 // The items at a place, in rows of words: one row for each part where something stands.
 
-ghost use Rattle.std.specs.Prelude.{◌≡◌, [], ◌∷◌, ◌++◌, ◌↔◌, map, IsTrue, IfSome, OnOk};
+ghost use Rattle.std.specs.Prelude.{◌≡◌, [], ◌++◌, ◌↔◌, IsTrue, IfSome, OnOk};
 ghost use Rattle.std.specs.List.{flat_map};
 ghost use Rattle.flow_system.specs.Shown.{tables_of};
-ghost use Rattle.points_to.specs.Held.{In, picked, in_part, done_items};
-ghost use Rattle.points_to.specs.Bits.{word_of};
-ghost use Rattle.points_to.specs.Rows.{row_words, row_items, HasPart, Gets};
+ghost use Rattle.points_to.specs.declared.facts.Item.{Item as AnItem};
+ghost use Rattle.points_to.specs.Held.{In, picked, done_items};
+ghost use Rattle.points_to.specs.Rows.{row_items, HasPart, GetsAll};
+ghost use Rattle.points_to.specs.Runs.{run_items};
 
-use crate::bits::{Bits, Block, number_of, word_of};
+use crate::bits::{Bits, number_of};
 use crate::facts::Item;
-use crate::nodes::{push_if, same_part};
-use crate::tags::is_done;
+use crate::nodes::{same_part, shift_done};
+use crate::runs::{ItemRun, ItemRuns, WordRuns, list_blocks};
 use flow_system::fact::{Element, Part};
 use flow_system::inclusion::FlowSystem;
 use seq::Seq;
@@ -19,9 +20,9 @@ use std::marker::Model;
 
 /// The words in one part: a set of their numbers.
 #[derive(Drop)]
-struct Row {
-    part: Part,
-    words: Bits,
+pub struct Row {
+    pub(crate) part: Part,
+    pub(crate) words: Bits,
 }
 
 /// The items at a place. A contract sees their list, row by row; the code goes over one row alone where one part is asked for.
@@ -51,6 +52,13 @@ impl Items {
         }
     }
 
+    /// The rows.
+    pub fn rows(&self) -> &[Row]
+        ensures { flat_map row_items result.now ≡ self.now }
+    {
+        self.rows.as_slice()
+    }
+
     /// Whether an item is there.
     pub fn has(&self, item: Item) -> bool
         ensures { IsTrue result ↔ In item self.now }
@@ -58,29 +66,43 @@ impl Items {
         has_in(self.rows.as_slice(), item)
     }
 
-    /// Puts an item there.
-    pub fn insert(&mut self, alloc: Global, item: Item) -> Result<(), AllocError>
-        ensures { OnOk result (Gets self.old self.new item) }
+    /// Whether all items of a run are there. Where it says no, some may be missing.
+    pub fn has_run(&self, run: ItemRun) -> bool
+        ensures { IsTrue result → (i : AnItem) → In i (run_items run) → In i self.now }
     {
-        insert_in(alloc, &mut self.rows, item)
+        has_run_in(self.rows.as_slice(), run)
+    }
+
+    /// Puts the items of a run there.
+    pub fn add(&mut self, alloc: Global, run: ItemRun) -> Result<(), AllocError>
+        ensures { OnOk result (GetsAll self.old self.new (run_items run)) }
+    {
+        add_in(alloc, &mut self.rows, run)
     }
 
     /// Puts the items at the end of a list.
-    pub fn append(&self, out: &mut Seq<Item>) -> Result<(), AllocError>
+    pub fn append(&self, out: &mut ItemRuns) -> Result<(), AllocError>
         ensures { OnOk result (out.new ≡ out.old ++ self.now) }
     {
         append_rows(self.rows.as_slice(), out)
     }
 
     /// Puts the words in one part at the end of a list.
-    pub fn append_words(&self, part: Part, out: &mut Seq<Element>) -> Result<(), AllocError>
+    pub fn append_words(&self, part: Part, out: &mut WordRuns) -> Result<(), AllocError>
         ensures { OnOk result (out.new ≡ out.old ++ picked part self.now) }
     {
         append_picked(self.rows.as_slice(), part, out)
     }
 
+    /// Puts the words in one part, one by one, at the end of a list.
+    pub fn list_words(&self, part: Part, out: &mut Seq<Element>) -> Result<(), AllocError>
+        ensures { OnOk result (out.new ≡ out.old ++ picked part self.now) }
+    {
+        list_picked(self.rows.as_slice(), part, out)
+    }
+
     /// Puts the items of evaluated nodes at the end of a list.
-    pub fn append_done(&self, system: &FlowSystem, out: &mut Seq<Item>) -> Result<(), AllocError>
+    pub fn append_done(&self, system: &FlowSystem, out: &mut ItemRuns) -> Result<(), AllocError>
         ensures { OnOk result (out.new ≡ out.old ++ done_items (tables_of system.now) self.now) }
     {
         append_done_rows(system, self.rows.as_slice(), out)
@@ -119,53 +141,52 @@ fn row_of(rows: &[Row], part: Part) -> Option<usize>
     None
 }
 
-fn insert_word(row: &mut Row, item: Item) -> Result<(), AllocError>
-    requires { row.old.part ≡ item.part }
-    ensures { OnOk result (Gets (row_items row.old) (row_items row.new) item) }
+fn has_run_in(rows: &[Row], run: ItemRun) -> bool
+    ensures { IsTrue result → (i : AnItem) → In i (run_items run)
+        → In i (flat_map row_items rows.now) }
 {
-    row.words.insert(number_of(item.word))?;
+    match row_of(rows, run.part) {
+        Some(k) => rows[k].words.has_block(run.block),
+        None => false,
+    }
+}
+
+fn add_block(row: &mut Row, run: ItemRun) -> Result<(), AllocError>
+    requires { row.old.part ≡ run.part }
+    ensures { OnOk result (GetsAll (row_items row.old) (row_items row.new) (run_items run)) }
+{
+    row.words.add(run.block)?;
     Ok(())
 }
 
-fn insert_in(alloc: Global, rows: &mut Vec<Row>, item: Item) -> Result<(), AllocError>
-    ensures { OnOk result (Gets (flat_map row_items rows.old.items)
-        (flat_map row_items rows.new.items) item) }
+fn add_in(alloc: Global, rows: &mut Vec<Row>, run: ItemRun) -> Result<(), AllocError>
+    ensures { OnOk result (GetsAll (flat_map row_items rows.old.items)
+        (flat_map row_items rows.new.items) (run_items run)) }
 {
-    match row_of(rows.as_slice(), item.part) {
-        Some(k) => insert_word(&mut rows[k], item),
+    match row_of(rows.as_slice(), run.part) {
+        Some(k) => add_block(&mut rows[k], run),
         None => {
             let mut row = Row {
-                part: item.part,
+                part: run.part,
                 words: Bits::new(alloc),
             };
-            insert_word(&mut row, item)?;
+            add_block(&mut row, run)?;
             rows.push(row)?;
             Ok(())
         }
     }
 }
 
-fn append_block(part: Part, block: Block, out: &mut Seq<Item>) -> Result<(), AllocError>
-    ensures { OnOk result (out.new ≡ out.old ++ in_part part (map word_of block)) }
-{
-    let mut left = block;
-    'words: while let Some(n) = left.next() {
-        let word = word_of(n)?;
-        out.push(Item { part, word })?;
-    }
-    Ok(())
-}
-
-fn append_row(row: &Row, out: &mut Seq<Item>) -> Result<(), AllocError>
+fn append_row(row: &Row, out: &mut ItemRuns) -> Result<(), AllocError>
     ensures { OnOk result (out.new ≡ out.old ++ row_items row.now) }
 {
     for block in row.words.blocks.as_slice() {
-        append_block(row.part, Block::new(block.0, block.1), out)?;
+        out.push_block(row.part, *block)?;
     }
     Ok(())
 }
 
-fn append_rows(rows: &[Row], out: &mut Seq<Item>) -> Result<(), AllocError>
+fn append_rows(rows: &[Row], out: &mut ItemRuns) -> Result<(), AllocError>
     ensures { OnOk result (out.new ≡ out.old ++ flat_map row_items rows.now) }
 {
     for row in rows {
@@ -174,35 +195,17 @@ fn append_rows(rows: &[Row], out: &mut Seq<Item>) -> Result<(), AllocError>
     Ok(())
 }
 
-fn append_block_words(block: Block, out: &mut Seq<Element>) -> Result<(), AllocError>
-    ensures { OnOk result (out.new ≡ out.old ++ map word_of block) }
-{
-    let mut left = block;
-    'words: while let Some(n) = left.next() {
-        out.push(word_of(n)?)?;
-    }
-    Ok(())
-}
-
-fn append_words(row: &Row, out: &mut Seq<Element>) -> Result<(), AllocError>
-    ensures { OnOk result (out.new ≡ out.old ++ row_words row.now) }
-{
-    for block in row.words.blocks.as_slice() {
-        append_block_words(Block::new(block.0, block.1), out)?;
-    }
-    Ok(())
-}
-
-fn append_row_picked(row: &Row, part: Part, out: &mut Seq<Element>) -> Result<(), AllocError>
+fn append_row_picked(row: &Row, part: Part, out: &mut WordRuns) -> Result<(), AllocError>
     ensures { OnOk result (out.new ≡ out.old ++ picked part (row_items row.now)) }
 {
     if same_part(part, row.part) {
-        return append_words(row, out);
+        return out.push_blocks(row.words.blocks.as_slice());
     }
     Ok(())
 }
 
-fn append_picked(rows: &[Row], part: Part, out: &mut Seq<Element>) -> Result<(), AllocError>
+/// Puts the words in one part of rows at the end of a list.
+pub fn append_picked(rows: &[Row], part: Part, out: &mut WordRuns) -> Result<(), AllocError>
     ensures { OnOk result (out.new ≡ out.old ++ picked part (flat_map row_items rows.now)) }
 {
     for row in rows {
@@ -211,64 +214,39 @@ fn append_picked(rows: &[Row], part: Part, out: &mut Seq<Element>) -> Result<(),
     Ok(())
 }
 
-fn push_done_tag(system: &FlowSystem, word: Element, out: &mut Seq<Item>) -> Result<(), AllocError>
-    ensures { OnOk result (out.new ≡ out.old
-        ++ done_items (tables_of system.now) (in_part Part.Tags (word ∷ []))) }
+fn list_row_picked(row: &Row, part: Part, out: &mut Seq<Element>) -> Result<(), AllocError>
+    ensures { OnOk result (out.new ≡ out.old ++ picked part (row_items row.now)) }
 {
-    let part = Part::Tags;
-    match word {
-        Element::Cell(_) => Ok(()),
-        Element::Tag(t) => push_if(is_done(system, t), Item { part, word }, out),
-        Element::Number => Ok(()),
-    }
-}
-
-fn append_done_block(
-    system: &FlowSystem,
-    block: Block,
-    out: &mut Seq<Item>,
-) -> Result<(), AllocError>
-    ensures { OnOk result (out.new ≡ out.old
-        ++ done_items (tables_of system.now) (in_part Part.Tags (map word_of block))) }
-{
-    let mut left = block;
-    'words: while let Some(n) = left.next() {
-        push_done_tag(system, word_of(n)?, out)?;
+    if same_part(part, row.part) {
+        return list_blocks(row.words.blocks.as_slice(), out);
     }
     Ok(())
 }
 
-fn append_done_tags(system: &FlowSystem, row: &Row, out: &mut Seq<Item>) -> Result<(), AllocError>
-    ensures { OnOk result (out.new ≡ out.old
-        ++ done_items (tables_of system.now) (in_part Part.Tags (row_words row.now))) }
+fn list_picked(rows: &[Row], part: Part, out: &mut Seq<Element>) -> Result<(), AllocError>
+    ensures { OnOk result (out.new ≡ out.old ++ picked part (flat_map row_items rows.now)) }
 {
-    for block in row.words.blocks.as_slice() {
-        append_done_block(system, Block::new(block.0, block.1), out)?;
+    for row in rows {
+        list_row_picked(row, part, out)?;
     }
     Ok(())
 }
 
-fn append_done_row(system: &FlowSystem, row: &Row, out: &mut Seq<Item>) -> Result<(), AllocError>
+fn append_done_row(system: &FlowSystem, row: &Row, out: &mut ItemRuns) -> Result<(), AllocError>
     ensures { OnOk result (out.new ≡ out.old
         ++ done_items (tables_of system.now) (row_items row.now)) }
 {
-    match row.part {
-        Part::Tags => append_done_tags(system, row, out),
-        Part::Field(t, _) => {
-            if is_done(system, t) {
-                return append_row(row, out);
-            }
-            Ok(())
-        }
-        Part::Word(_) => Ok(()),
+    for block in row.words.blocks.as_slice() {
+        let run = ItemRun {
+            part: row.part,
+            block: *block,
+        };
+        shift_done(system, run, out)?;
     }
+    Ok(())
 }
 
-fn append_done_rows(
-    system: &FlowSystem,
-    rows: &[Row],
-    out: &mut Seq<Item>,
-) -> Result<(), AllocError>
+fn append_done_rows(system: &FlowSystem, rows: &[Row], out: &mut ItemRuns) -> Result<(), AllocError>
     ensures { OnOk result (out.new ≡ out.old
         ++ done_items (tables_of system.now) (flat_map row_items rows.now)) }
 {

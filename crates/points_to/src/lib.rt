@@ -22,6 +22,7 @@ mod pending;
 mod readers;
 mod reads;
 mod rounds;
+mod runs;
 mod tables;
 mod tags;
 mod targets;

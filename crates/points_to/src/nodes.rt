@@ -3,11 +3,14 @@
 ghost use Rattle.std.specs.Prelude.{◌≡◌, [], ◌∷◌, ◌++◌, cond, OnOk};
 ghost use Rattle.std.specs.List.{flat_map};
 ghost use Rattle.flow_system.specs.Shown.{tables_of};
-ghost use Rattle.points_to.specs.Held.{same_part, picked_one, picked, in_part, field_of_tag, fetched, as_word, node_of_word, as_nodes, enough, shifted_word, field_or_zero_of, made_node, done_items};
+ghost use Rattle.points_to.specs.Bits.{block_words};
+ghost use Rattle.points_to.specs.Held.{same_part, picked, in_part, field_of_tag, fetched, as_word, node_of_word, as_nodes, enough, shifted_word, field_or_zero_of, made_node, done_tag, done_items};
 ghost use Rattle.points_to.specs.OneTag.{is_tag, node_if_tag, as_nodes_of};
+ghost use Rattle.points_to.specs.Runs.{run_items};
 ghost use Rattle.points_to.specs.Shift.{shifted};
 
-use crate::facts::Item;
+use crate::bits::{Block, word_of};
+use crate::runs::{ItemRun, ItemRuns, WordRuns};
 use crate::tags::{fields_of, is_done};
 use flow_system::fact::{Element, Part};
 use flow_system::inclusion::FlowSystem;
@@ -48,123 +51,160 @@ pub fn same_part(a: Part, b: Part) -> bool
     }
 }
 
-/// Puts an item at the end of a list, where it is wanted.
-pub fn push_if(wanted: bool, item: Item, out: &mut Seq<Item>) -> Result<(), AllocError>
-    ensures { OnOk result (out.new ≡ out.old ++ cond wanted (item ∷ []) []) }
+// Puts a run at the end of a list, where it is wanted.
+fn push_if(wanted: bool, run: ItemRun, out: &mut ItemRuns) -> Result<(), AllocError>
+    ensures { OnOk result (out.new ≡ out.old ++ cond wanted (run_items run) []) }
 {
     if wanted {
-        out.push(item)?;
+        out.push(run)?;
     }
     Ok(())
 }
 
-fn push_word_if(wanted: bool, word: Element, out: &mut Seq<Element>) -> Result<(), AllocError>
-    ensures { OnOk result (out.new ≡ out.old ++ cond wanted (word ∷ []) []) }
+fn pick(part: Part, run: ItemRun, out: &mut WordRuns) -> Result<(), AllocError>
+    ensures { OnOk result (out.new ≡ out.old ++ picked part (run_items run)) }
 {
-    if wanted {
-        out.push(word)?;
+    if same_part(part, run.part) {
+        return out.push_block(run.block);
     }
     Ok(())
-}
-
-fn pick(part: Part, item: Item, out: &mut Seq<Element>) -> Result<(), AllocError>
-    ensures { OnOk result (out.new ≡ out.old ++ picked_one part item) }
-{
-    push_word_if(same_part(part, item.part), item.word, out)
 }
 
 /// The words in one part.
-pub fn picked(part: Part, items: &[Item], out: &mut Seq<Element>) -> Result<(), AllocError>
+pub fn picked(part: Part, items: &ItemRuns, out: &mut WordRuns) -> Result<(), AllocError>
     ensures { OnOk result (out.new ≡ out.old ++ picked part items.now) }
 {
-    for item in items {
-        pick(part, *item, out)?;
+    for run in items.as_slice() {
+        pick(part, *run, out)?;
     }
     Ok(())
+}
+
+/// The words in one part, one by one.
+pub fn listed(
+    alloc: Global,
+    part: Part,
+    items: &ItemRuns,
+    out: &mut Seq<Element>,
+) -> Result<(), AllocError>
+    ensures { OnOk result (out.new ≡ out.old ++ picked part items.now) }
+{
+    let mut words = WordRuns::new(alloc);
+    picked(part, items, &mut words)?;
+    words.list(out)
 }
 
 /// Words as items of a part.
-pub fn in_part(part: Part, words: &[Element], out: &mut Seq<Item>) -> Result<(), AllocError>
+pub fn in_part(part: Part, words: &WordRuns, out: &mut ItemRuns) -> Result<(), AllocError>
     ensures { OnOk result (out.new ≡ out.old ++ in_part part words.now) }
 {
-    for word in words {
-        out.push(Item { part, word: *word })?;
+    for block in words.blocks() {
+        out.push_block(part, *block)?;
     }
     Ok(())
 }
 
-// A word after the first one, as a field.
-fn field_of_word(
+// Words after the first one, as a field.
+fn field_of_words(
     t: u32,
     m: u32,
     j: u32,
-    word: Element,
-    out: &mut Seq<Item>,
+    block: (u32, u64),
+    out: &mut ItemRuns,
 ) -> Result<(), AllocError>
-    ensures { OnOk result (out.new ≡ out.old ++ shifted_word t m j word) }
+    ensures { OnOk result (out.new ≡ out.old
+        ++ flat_map (shifted_word t m j) (block_words block)) }
 {
     if j == 0 {
         return Ok(());
     }
     let part = Part::Field(t, j - 1);
-    push_if(j - 1 < m, Item { part, word }, out)
+    push_if(j - 1 < m, ItemRun { part, block }, out)
 }
 
-fn shift_done(system: &FlowSystem, item: Item, out: &mut Seq<Item>) -> Result<(), AllocError>
-    ensures { OnOk result (out.new ≡ out.old
-        ++ shifted (tables_of system.now) Shift.Evaluated item) }
+fn push_done_tag(system: &FlowSystem, word: Element, out: &mut ItemRuns) -> Result<(), AllocError>
+    ensures { OnOk result (out.new ≡ out.old ++ done_tag (tables_of system.now) word) }
 {
-    match item.part {
-        Part::Tags => match item.word {
-            Element::Cell(_) => Ok(()),
-            Element::Tag(t) => push_if(is_done(system, t), item, out),
-            Element::Number => Ok(()),
-        },
-        Part::Field(t, _) => push_if(is_done(system, t), item, out),
+    match word {
+        Element::Cell(_) => Ok(()),
+        Element::Tag(t) => {
+            if is_done(system, t) {
+                out.push_word(Part::Tags, word)?;
+            }
+            Ok(())
+        }
+        Element::Number => Ok(()),
+    }
+}
+
+fn push_done_tags(
+    system: &FlowSystem,
+    block: (u32, u64),
+    out: &mut ItemRuns,
+) -> Result<(), AllocError>
+    ensures { OnOk result (out.new ≡ out.old
+        ++ flat_map (done_tag (tables_of system.now)) (block_words block)) }
+{
+    let mut left = Block::new(block.0, block.1);
+    'words: while let Some(n) = left.next() {
+        push_done_tag(system, word_of(n)?, out)?;
+    }
+    Ok(())
+}
+
+/// What stays of a run where evaluated nodes alone are wanted.
+pub fn shift_done(system: &FlowSystem, run: ItemRun, out: &mut ItemRuns) -> Result<(), AllocError>
+    ensures { OnOk result (out.new ≡ out.old
+        ++ done_items (tables_of system.now) (run_items run)) }
+{
+    match run.part {
+        Part::Tags => push_done_tags(system, run.block, out),
+        Part::Field(t, _) => push_if(is_done(system, t), run, out),
         Part::Word(_) => Ok(()),
     }
 }
 
-fn shift_item(
+fn shift_run(
     system: &FlowSystem,
     by: Shift,
-    item: Item,
-    out: &mut Seq<Item>,
+    run: ItemRun,
+    out: &mut ItemRuns,
 ) -> Result<(), AllocError>
-    ensures { OnOk result (out.new ≡ out.old ++ shifted (tables_of system.now) by item) }
+    ensures { OnOk result (out.new ≡ out.old
+        ++ flat_map (shifted (tables_of system.now) by) (run_items run)) }
 {
-    let word = item.word;
+    let block = run.block;
     match by {
-        Shift::Nodes => match item.part {
-            Part::Tags => push_if(true, item, out),
-            Part::Field(_, _) => push_if(true, item, out),
+        Shift::Nodes => match run.part {
+            Part::Tags => push_if(true, run, out),
+            Part::Field(_, _) => push_if(true, run, out),
             Part::Word(_) => Ok(()),
         },
-        Shift::Evaluated => shift_done(system, item, out),
-        Shift::Fields(t, m) => match item.part {
+        Shift::Evaluated => shift_done(system, run, out),
+        Shift::Fields(t, m) => match run.part {
             Part::Tags => Ok(()),
             Part::Field(_, _) => Ok(()),
-            Part::Word(j) => field_of_word(t, m, j, word, out),
+            Part::Word(j) => field_of_words(t, m, j, block, out),
         },
-        Shift::Renamed(t, u) => match item.part {
+        Shift::Renamed(t, u) => match run.part {
             Part::Tags => Ok(()),
             Part::Field(v, j) => push_if(
                 v == t,
-                Item {
+                ItemRun {
                     part: Part::Field(u, j),
-                    word,
+                    block,
                 },
                 out,
             ),
             Part::Word(_) => Ok(()),
         },
-        Shift::Arguments(t) => match item.part {
+        Shift::Arguments(t) => match run.part {
             Part::Tags => Ok(()),
             Part::Field(v, j) => push_if(
                 v == t,
-                Item {
+                ItemRun {
                     part: Part::Word(j),
-                    word,
+                    block,
                 },
                 out,
             ),
@@ -177,14 +217,14 @@ fn shift_item(
 pub fn append_shifted(
     system: &FlowSystem,
     by: Shift,
-    items: &[Item],
-    out: &mut Seq<Item>,
+    items: &ItemRuns,
+    out: &mut ItemRuns,
 ) -> Result<(), AllocError>
     ensures { OnOk result (out.new ≡ out.old
         ++ flat_map (shifted (tables_of system.now) by) items.now) }
 {
-    for item in items {
-        shift_item(system, by, *item, out)?;
+    for run in items.as_slice() {
+        shift_run(system, by, *run, out)?;
     }
     Ok(())
 }
@@ -193,9 +233,9 @@ pub fn append_shifted(
 fn field_of_tag(
     system: &FlowSystem,
     i: u32,
-    items: &[Item],
+    items: &ItemRuns,
     word: Element,
-    out: &mut Seq<Element>,
+    out: &mut WordRuns,
 ) -> Result<(), AllocError>
     ensures { OnOk result (out.new ≡ out.old
         ++ field_of_tag (tables_of system.now) i items.now word) }
@@ -214,8 +254,8 @@ fn field_or_zero(
     i: u32,
     t: u32,
     m: u32,
-    items: &[Item],
-    out: &mut Seq<Element>,
+    items: &ItemRuns,
+    out: &mut WordRuns,
 ) -> Result<(), AllocError>
     ensures { OnOk result (out.new ≡ out.old ++ field_or_zero_of i t items.now m) }
 {
@@ -229,9 +269,9 @@ fn field_or_zero(
 fn fields_of_tags(
     system: &FlowSystem,
     i: u32,
-    items: &[Item],
+    items: &ItemRuns,
     words: &[Element],
-    out: &mut Seq<Element>,
+    out: &mut WordRuns,
 ) -> Result<(), AllocError>
     ensures { OnOk result (out.new ≡ out.old
         ++ flat_map (field_of_tag (tables_of system.now) i items.now) words.now) }
@@ -247,8 +287,8 @@ fn fetched(
     alloc: Global,
     system: &FlowSystem,
     i: u32,
-    items: &[Item],
-    out: &mut Seq<Element>,
+    items: &ItemRuns,
+    out: &mut WordRuns,
 ) -> Result<(), AllocError>
     ensures { OnOk result (out.new ≡ out.old ++ fetched (tables_of system.now) i items.now) }
 {
@@ -256,7 +296,7 @@ fn fetched(
         return picked(Part::Tags, items, out);
     }
     let mut found = Seq::new(alloc);
-    picked(Part::Tags, items, &mut found)?;
+    listed(alloc, Part::Tags, items, &mut found)?;
     fields_of_tags(system, i - 1, items, found.as_slice(), out)
 }
 
@@ -265,8 +305,8 @@ pub fn as_word(
     alloc: Global,
     system: &FlowSystem,
     j: u32,
-    items: &[Item],
-    out: &mut Seq<Element>,
+    items: &ItemRuns,
+    out: &mut WordRuns,
 ) -> Result<(), AllocError>
     ensures { OnOk result (out.new ≡ out.old ++ as_word (tables_of system.now) j items.now) }
 {
@@ -289,14 +329,12 @@ fn node_of_words(
     system: &FlowSystem,
     t: u32,
     m: u32,
-    items: &[Item],
-    out: &mut Seq<Item>,
+    items: &ItemRuns,
+    out: &mut ItemRuns,
 ) -> Result<(), AllocError>
     ensures { OnOk result (out.new ≡ out.old ++ made_node (tables_of system.now) t m items.now) }
 {
-    let part = Part::Tags;
-    let word = Element::Tag(t);
-    out.push(Item { part, word })?;
+    out.push_word(Part::Tags, Element::Tag(t))?;
     if m == 0 {
         return Ok(());
     }
@@ -307,9 +345,9 @@ fn node_of_words(
 fn node_of_word(
     system: &FlowSystem,
     k: Option<usize>,
-    items: &[Item],
+    items: &ItemRuns,
     word: Element,
-    out: &mut Seq<Item>,
+    out: &mut ItemRuns,
 ) -> Result<(), AllocError>
     ensures { OnOk result (out.new ≡ out.old
         ++ node_of_word (tables_of system.now) k items.now word) }
@@ -333,9 +371,9 @@ fn node_of_word(
 pub fn nodes_of_words(
     system: &FlowSystem,
     k: Option<usize>,
-    items: &[Item],
+    items: &ItemRuns,
     words: &[Element],
-    out: &mut Seq<Item>,
+    out: &mut ItemRuns,
 ) -> Result<(), AllocError>
     ensures { OnOk result (out.new ≡ out.old
         ++ flat_map (node_of_word (tables_of system.now) k items.now) words.now) }
@@ -360,9 +398,9 @@ fn node_if_tag(
     system: &FlowSystem,
     t: u32,
     k: Option<usize>,
-    items: &[Item],
+    items: &ItemRuns,
     word: Element,
-    out: &mut Seq<Item>,
+    out: &mut ItemRuns,
 ) -> Result<(), AllocError>
     ensures { OnOk result (out.new ≡ out.old
         ++ node_if_tag (tables_of system.now) t k items.now word) }
@@ -377,9 +415,9 @@ fn nodes_of_tag(
     system: &FlowSystem,
     t: u32,
     k: Option<usize>,
-    items: &[Item],
+    items: &ItemRuns,
     words: &[Element],
-    out: &mut Seq<Item>,
+    out: &mut ItemRuns,
 ) -> Result<(), AllocError>
     ensures { OnOk result (out.new ≡ out.old
         ++ flat_map (node_if_tag (tables_of system.now) t k items.now) words.now) }
@@ -396,15 +434,15 @@ pub fn as_nodes_of(
     system: &FlowSystem,
     t: u32,
     k: Option<usize>,
-    items: &[Item],
-    out: &mut Seq<Item>,
+    items: &ItemRuns,
+    out: &mut ItemRuns,
 ) -> Result<(), AllocError>
     ensures { OnOk result (out.new ≡ out.old
         ++ as_nodes_of (tables_of system.now) t k items.now) }
 {
     append_shifted(system, Shift::Nodes, items, out)?;
     let mut firsts = Seq::new(alloc);
-    picked(Part::Word(0), items, &mut firsts)?;
+    listed(alloc, Part::Word(0), items, &mut firsts)?;
     nodes_of_tag(system, t, k, items, firsts.as_slice(), out)?;
     Ok(())
 }
@@ -414,14 +452,14 @@ pub fn as_nodes(
     alloc: Global,
     system: &FlowSystem,
     k: Option<usize>,
-    items: &[Item],
-    out: &mut Seq<Item>,
+    items: &ItemRuns,
+    out: &mut ItemRuns,
 ) -> Result<(), AllocError>
     ensures { OnOk result (out.new ≡ out.old ++ as_nodes (tables_of system.now) k items.now) }
 {
     append_shifted(system, Shift::Nodes, items, out)?;
     let mut firsts = Seq::new(alloc);
-    picked(Part::Word(0), items, &mut firsts)?;
+    listed(alloc, Part::Word(0), items, &mut firsts)?;
     nodes_of_words(system, k, items, firsts.as_slice(), out)?;
     Ok(())
 }
@@ -431,13 +469,13 @@ pub fn evaluated(
     alloc: Global,
     system: &FlowSystem,
     k: Option<usize>,
-    items: &[Item],
-    out: &mut Seq<Item>,
+    items: &ItemRuns,
+    out: &mut ItemRuns,
 ) -> Result<(), AllocError>
     ensures { OnOk result (out.new ≡ out.old
         ++ done_items (tables_of system.now) (as_nodes (tables_of system.now) k items.now)) }
 {
-    let mut nodes = Seq::new(alloc);
+    let mut nodes = ItemRuns::new(alloc);
     as_nodes(alloc, system, k, items, &mut nodes)?;
-    append_shifted(system, Shift::Evaluated, nodes.as_slice(), out)
+    append_shifted(system, Shift::Evaluated, &nodes, out)
 }

@@ -9,7 +9,8 @@ ghost use Rattle.points_to.specs.Known.{held};
 
 use crate::facts::Facts;
 use crate::give::{elements, value_nodes};
-use crate::nodes::picked;
+use crate::nodes::listed;
+use crate::runs::ItemRuns;
 use crate::tags::{called, delayed};
 use flow_system::fact::{Element, Part, Place};
 use flow_system::inclusion::{FlowSystem, Inclusion, Sink, Source};
@@ -190,7 +191,7 @@ fn forces_reads(
 {
     out.push(Place::Site(s))?;
     let mut found = Seq::new(alloc);
-    facts.append_words(Place::Site(s), Part::Tags, &mut found)?;
+    facts.list_words(Place::Site(s), Part::Tags, &mut found)?;
     all_forced_reads(system, found.as_slice(), out)?;
     Ok(())
 }
@@ -235,10 +236,10 @@ fn applies_reads(
     value_reads(v, out)?;
     word_reads(a, out)?;
     sink_reads(sink, out)?;
-    let mut nodes = Seq::new(alloc);
+    let mut nodes = ItemRuns::new(alloc);
     value_nodes(alloc, system, facts, v, &mut nodes)?;
     let mut found = Seq::new(alloc);
-    picked(Part::Tags, nodes.as_slice(), &mut found)?;
+    listed(alloc, Part::Tags, &nodes, &mut found)?;
     all_applied_reads(system, found.as_slice(), out)?;
     Ok(())
 }

@@ -8,9 +8,9 @@ ghost use Rattle.points_to.specs.Known.{held, Grows, solution_of};
 ghost use Rattle.points_to.specs.Rounds.{InEvery, AllSatisfied, Counted};
 
 use crate::ask::demands;
-use crate::facts::{Fact, Facts};
+use crate::facts::Facts;
+use crate::runs::FactRuns;
 use flow_system::inclusion::{FlowSystem, Inclusion};
-use seq::Seq;
 use std::alloc::{AllocError, Global};
 
 // Whether one of two holds.
@@ -20,20 +20,20 @@ fn either(a: bool, b: bool) -> bool
     a || b
 }
 
-// Adds facts, and says whether one of them is new.
-fn add_all(alloc: Global, facts: &mut Facts, more: &[Fact]) -> Result<bool, AllocError>
+// Adds facts, and says whether some of them may be new.
+fn add_all(alloc: Global, facts: &mut Facts, more: &FactRuns) -> Result<bool, AllocError>
     ensures grown { OnOk result (Grows (held facts.old) (held facts.new) more.now) }
     ensures still { IfOk result (λ added. added ≡ false → facts.new ≡ facts.old) }
     ensures counted { IfOk result (λ added. Counted facts.old facts.new added) }
 {
     let mut added = false;
-    for fact in more {
-        added = either(added, facts.add(alloc, *fact)?);
+    for run in more.as_slice() {
+        added = either(added, facts.add(alloc, *run)?);
     }
     Ok(added)
 }
 
-// Adds all that an inclusion asks for, and says whether some of it is new.
+// Adds all that an inclusion asks for, and says whether some of it may be new.
 fn satisfy(
     alloc: Global,
     system: &FlowSystem,
@@ -46,12 +46,12 @@ fn satisfy(
     ensures still { IfOk result (λ added. added ≡ false → facts.new ≡ facts.old) }
     ensures counted { IfOk result (λ added. Counted facts.old facts.new added) }
 {
-    let mut asked = Seq::new(alloc);
+    let mut asked = FactRuns::new(alloc);
     demands(alloc, system, facts, inclusion, &mut asked)?;
-    add_all(alloc, facts, asked.as_slice())
+    add_all(alloc, facts, &asked)
 }
 
-// One round of all inclusions. Says whether a fact is new; where none is, nothing is wanting.
+// One round of all inclusions. Says whether facts may be new; where none is, nothing is wanting.
 fn round(alloc: Global, system: &FlowSystem, facts: &mut Facts) -> Result<bool, AllocError>
     ensures sound { OnOk result
         (InEvery (tables_of system.now) (inclusions_of system.now) (held facts.old)

@@ -1,11 +1,16 @@
 // Lists of what readers want, place by place.
 
 ghost use Rattle.std.specs.Prelude.{◌≡◌, ◌<◌, ℕ, [], ◌∷◌, ◌++◌, map, length, slice_get, OnOk, IfOk};
+ghost use Rattle.std.specs.List.{flat_map};
 ghost use Rattle.std.specs.List.Sorted.{IsStrictlyIncreasing};
+ghost use Rattle.points_to.specs.Bits.{block_words};
 ghost use Rattle.points_to.specs.Known.{held};
-ghost use Rattle.points_to.specs.Wanted.{tag_in, site_in, wanted_of, wanted, place_of, SameSet, Lists, tag_id, site_id, numbers_by, TagTable, SiteTable};
+ghost use Rattle.points_to.specs.Runs.{run_items};
+ghost use Rattle.points_to.specs.Wanted.{tag_in, site_in, wanted, place_of, SameSet, Lists, tag_id, site_id, numbers_by, TagTable, SiteTable};
 
-use crate::facts::{Facts, Item};
+use crate::bits::{Block, word_of};
+use crate::facts::Facts;
+use crate::runs::{ItemRun, ItemRuns};
 use crate::wanted::{Kind, Wanted};
 use flow_system::fact::{Element, Part, Place};
 use grin_syntax::program::{Site, TagId};
@@ -22,6 +27,16 @@ fn put_tag(word: Element, out: &mut Seq<u32>) -> Result<(), AllocError>
     }
 }
 
+fn put_tags(block: (u32, u64), out: &mut Seq<u32>) -> Result<(), AllocError>
+    ensures { OnOk result (out.new ≡ out.old ++ flat_map tag_in (block_words block)) }
+{
+    let mut left = Block::new(block.0, block.1);
+    'words: while let Some(n) = left.next() {
+        put_tag(word_of(n)?, out)?;
+    }
+    Ok(())
+}
+
 fn put_site(word: Element, out: &mut Seq<u32>) -> Result<(), AllocError>
     ensures { OnOk result (out.new ≡ out.old ++ site_in word) }
 {
@@ -32,31 +47,41 @@ fn put_site(word: Element, out: &mut Seq<u32>) -> Result<(), AllocError>
     }
 }
 
-fn put_wanted(w: Wanted, item: Item, out: &mut Seq<u32>) -> Result<(), AllocError>
-    ensures { OnOk result (out.new ≡ out.old ++ wanted_of w item.part item.word) }
+fn put_sites(block: (u32, u64), out: &mut Seq<u32>) -> Result<(), AllocError>
+    ensures { OnOk result (out.new ≡ out.old ++ flat_map site_in (block_words block)) }
+{
+    let mut left = Block::new(block.0, block.1);
+    'words: while let Some(n) = left.next() {
+        put_site(word_of(n)?, out)?;
+    }
+    Ok(())
+}
+
+fn put_wanted(w: Wanted, run: ItemRun, out: &mut Seq<u32>) -> Result<(), AllocError>
+    ensures { OnOk result (out.new ≡ out.old ++ wanted w (run_items run)) }
 {
     match w {
-        Wanted::NodeTags => match item.part {
-            Part::Tags => put_tag(item.word, out),
+        Wanted::NodeTags => match run.part {
+            Part::Tags => put_tags(run.block, out),
             Part::Field(_, _) => Ok(()),
             Part::Word(_) => Ok(()),
         },
-        Wanted::Tags => match item.part {
-            Part::Tags => put_tag(item.word, out),
+        Wanted::Tags => match run.part {
+            Part::Tags => put_tags(run.block, out),
             Part::Field(_, _) => Ok(()),
             Part::Word(j) => {
                 if j == 0 {
-                    return put_tag(item.word, out);
+                    return put_tags(run.block, out);
                 }
                 Ok(())
             }
         },
-        Wanted::Sites => match item.part {
+        Wanted::Sites => match run.part {
             Part::Tags => Ok(()),
             Part::Field(_, _) => Ok(()),
             Part::Word(j) => {
                 if j == 0 {
-                    return put_site(item.word, out);
+                    return put_sites(run.block, out);
                 }
                 Ok(())
             }
@@ -65,11 +90,11 @@ fn put_wanted(w: Wanted, item: Item, out: &mut Seq<u32>) -> Result<(), AllocErro
 }
 
 // What is wanted of some items.
-fn put_all_wanted(w: Wanted, items: &[Item], out: &mut Seq<u32>) -> Result<(), AllocError>
+fn put_all_wanted(w: Wanted, items: &ItemRuns, out: &mut Seq<u32>) -> Result<(), AllocError>
     ensures { OnOk result (out.new ≡ out.old ++ wanted w items.now) }
 {
-    for item in items {
-        put_wanted(w, *item, out)?;
+    for run in items.as_slice() {
+        put_wanted(w, *run, out)?;
     }
     Ok(())
 }
@@ -89,10 +114,10 @@ pub fn ascending(numbers: Seq<u32>) -> Seq<u32>
 fn numbers_at(alloc: Global, facts: &Facts, place: Place, w: Wanted) -> Result<Seq<u32>, AllocError>
     ensures { IfOk result (λ ns. Lists w (held facts.now place) ns) }
 {
-    let mut items = Seq::new(alloc);
+    let mut items = ItemRuns::new(alloc);
     facts.append(place, &mut items)?;
     let mut numbers = Seq::new(alloc);
-    put_all_wanted(w, items.as_slice(), &mut numbers)?;
+    put_all_wanted(w, &items, &mut numbers)?;
     Ok(ascending(numbers))
 }
 

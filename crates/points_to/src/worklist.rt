@@ -1,24 +1,30 @@
 // The least solution, by a list of the inclusions that may ask for more.
 
-ghost use Rattle.std.specs.Prelude.{◌≡◌, ℕ, ◌||◌, false, [], ◌∷◌, OnOk, IfOk};
+ghost use Rattle.std.specs.Prelude.{◌≡◌, ℕ, ◌||◌, false, [], OnOk, IfOk, IfSome};
 ghost use Rattle.flow_system.specs.declared.fact.Place.{Place as Place'};
-ghost use Rattle.flow_system.specs.Shown.{tables_of, inclusions_of, inclusion_of};
+ghost use Rattle.flow_system.specs.Inclusions.{flows, to};
+ghost use Rattle.flow_system.specs.Shown.{tables_of, inclusions_of, inclusion_of, source_of};
 ghost use Rattle.flow_system.specs.Solution.{IsLeast};
-ghost use Rattle.points_to.specs.Asked.{demands};
+ghost use Rattle.points_to.specs.Asked.{demands, flow_facts};
 ghost use Rattle.points_to.specs.Held.{In};
 ghost use Rattle.points_to.specs.Known.{held, Grows, solution_of};
 ghost use Rattle.points_to.specs.Reads.{reads};
 ghost use Rattle.points_to.specs.Rounds.{Counted};
+ghost use Rattle.points_to.specs.Runs.{run_facts};
 ghost use Rattle.points_to.specs.Waiting.{waiting};
 ghost use Rattle.points_to.specs.Worklist.{IsReader, Wakes, Spreads, Advances, Satisfies, Stands};
 
 use crate::ask::demands;
-use crate::facts::{Fact, Facts};
+use crate::facts::Facts;
+use crate::first::first_words;
 use crate::pending::{Pending, put_all};
 use crate::readers::Readers;
 use crate::reads::reads;
+use crate::runs::{FactRun, FactRuns, WordRuns};
+use crate::targets::words_at_variable;
 use flow_system::fact::Place;
-use flow_system::inclusion::{FlowSystem, Inclusion};
+use flow_system::inclusion::{FlowSystem, Inclusion, Sink, Source};
+use grin_syntax::program::{Target, VarId};
 use seq::Seq;
 use std::alloc::{AllocError, Global};
 
@@ -62,32 +68,32 @@ impl Worklist {
         Ok(())
     }
 
-    // Adds a fact, and says whether it is new.
-    fn add(&mut self, alloc: Global, fact: Fact) -> Result<bool, AllocError>
+    // Adds the facts of a run, and says whether some of them may be new.
+    fn add(&mut self, alloc: Global, run: FactRun) -> Result<bool, AllocError>
         ensures grown { OnOk result
-            (Grows (held self.old.facts) (held self.new.facts) (fact ∷ [])) }
+            (Grows (held self.old.facts) (held self.new.facts) (run_facts run)) }
         ensures spread { OnOk result (Spreads self.old self.new) }
         ensures still { IfOk result (λ added. added ≡ false → self.new ≡ self.old) }
         ensures counted { IfOk result (λ added. Counted self.old.facts self.new.facts added) }
     {
-        let added = self.facts.add(alloc, fact)?;
+        let added = self.facts.add(alloc, run)?;
         if !added {
             return Ok(false);
         }
-        self.wake(fact.place)?;
+        self.wake(run.place)?;
         Ok(true)
     }
 
-    // Adds facts, and says whether one of them is new.
-    fn add_all(&mut self, alloc: Global, more: &[Fact]) -> Result<bool, AllocError>
+    // Adds facts, and says whether some of them may be new.
+    fn add_all(&mut self, alloc: Global, more: &FactRuns) -> Result<bool, AllocError>
         ensures grown { OnOk result (Grows (held self.old.facts) (held self.new.facts) more.now) }
         ensures spread { OnOk result (Spreads self.old self.new) }
         ensures still { IfOk result (λ added. added ≡ false → self.new ≡ self.old) }
         ensures counted { IfOk result (λ added. Counted self.old.facts self.new.facts added) }
     {
         let mut added = false;
-        for fact in more {
-            added = either(added, self.add(alloc, *fact)?);
+        for run in more.as_slice() {
+            added = either(added, self.add(alloc, *run)?);
         }
         Ok(added)
     }
@@ -127,7 +133,49 @@ impl Worklist {
         self.register(alloc, places.as_slice(), n)
     }
 
-    // Adds all that an inclusion asks for, and says whether some of it is new.
+    // Adds the first words that a source gives, at a variable of one word. Many cells give the same words, so each is added once.
+    fn add_first_words(
+        &mut self,
+        alloc: Global,
+        system: &FlowSystem,
+        source: &Source,
+        x: VarId,
+    ) -> Result<bool, AllocError>
+        ensures grown { OnOk result (Grows (held self.old.facts) (held self.new.facts)
+            (flow_facts (tables_of system.now) (held self.old.facts) (source_of source.now)
+            (to (Target.One x)))) }
+        ensures spread { OnOk result (Spreads self.old self.new) }
+        ensures still { IfOk result (λ added. added ≡ false → self.new ≡ self.old) }
+        ensures counted { IfOk result (λ added. Counted self.old.facts self.new.facts added) }
+    {
+        let mut words = WordRuns::new(alloc);
+        first_words(alloc, system, &self.facts, source, &mut words)?;
+        let distinct = words.distinct(alloc)?;
+        let mut asked = FactRuns::new(alloc);
+        words_at_variable(x, &distinct, &mut asked)?;
+        self.add_all(alloc, &asked)
+    }
+
+    // Adds all that an inclusion asks for, one after the other, and says whether some of it may be new.
+    fn add_each(
+        &mut self,
+        alloc: Global,
+        system: &FlowSystem,
+        inclusion: &Inclusion,
+    ) -> Result<bool, AllocError>
+        ensures grown { OnOk result
+            (Grows (held self.old.facts) (held self.new.facts)
+            (demands (tables_of system.now) (held self.old.facts) (inclusion_of inclusion.now))) }
+        ensures spread { OnOk result (Spreads self.old self.new) }
+        ensures still { IfOk result (λ added. added ≡ false → self.new ≡ self.old) }
+        ensures counted { IfOk result (λ added. Counted self.old.facts self.new.facts added) }
+    {
+        let mut asked = FactRuns::new(alloc);
+        demands(alloc, system, &self.facts, inclusion, &mut asked)?;
+        self.add_all(alloc, &asked)
+    }
+
+    // Adds all that an inclusion asks for, and says whether some of it may be new.
     fn add_demands(
         &mut self,
         alloc: Global,
@@ -141,9 +189,10 @@ impl Worklist {
         ensures still { IfOk result (λ added. added ≡ false → self.new ≡ self.old) }
         ensures counted { IfOk result (λ added. Counted self.old.facts self.new.facts added) }
     {
-        let mut asked = Seq::new(alloc);
-        demands(alloc, system, &self.facts, inclusion, &mut asked)?;
-        self.add_all(alloc, asked.as_slice())
+        match words_to_one(inclusion) {
+            Some((source, x)) => self.add_first_words(alloc, system, source, x),
+            None => self.add_each(alloc, system, inclusion),
+        }
     }
 
     // Satisfies an inclusion, registered at the places that it reads.
@@ -180,6 +229,17 @@ impl Worklist {
                 }
             },
         }
+    }
+}
+
+// The source and the variable, where a source flows to a variable of one word.
+fn words_to_one(inclusion: &Inclusion) -> Option<(&Source, VarId)>
+    ensures { IfSome result (λ r.
+        inclusion_of inclusion.now ≡ flows (source_of r.0.now) (to (Target.One r.1))) }
+{
+    match inclusion {
+        Inclusion::Flows(source, Sink::To(Target::One(x))) => Some((source, *x)),
+        _ => None,
     }
 }
 

@@ -1,19 +1,23 @@
-use Rattle.std.proofs.Common.{ap, sym, ◌∙◌, ◌≡◌, ◌++◌}
+use Rattle.std.proofs.Common.{ℕ, List, ◌++◌, sym, ap, ◌∙◌}
+use Rattle.std.specs.List.{flat_map}
 use Rattle.flow_system.specs.Shown.{tables_of}
-use Rattle.points_to.specs.Held.{done_items}
-use Rattle.points_to.specs.Rows.{row_items}
-use Rattle.points_to.proofs.Sets.{on_ok}
-use Rattle.points_to.proofs.Done.{done_row_field, undone_row_field, undone_row_word, appends_none}
+use Rattle.points_to.specs.declared.facts.Item.{Item}
+use Rattle.points_to.specs.Bits.{block_words}
+use Rattle.points_to.specs.Held.{item, in_part, done_part, done_items}
+use Rattle.points_to.proofs.Done.{flat_flat}
+use Rattle.points_to.proofs.FromRuns.{map_flat}
+use Rattle.points_to.proofs.Loops.{flat_next, flat_done}
 use Rattle.points_to.proofs.items.append_done_row.Goals as goal
 
-pub returns-then-is_done : goal.returns-then-is_done
-returns-then-is_done c =
+pub loop-block-preserved : goal.loop-block-preserved
+loop-block-preserved c = flat_next (λ b. done_items (tables_of c.args.system.now) (in_part c.args.row.now.part (block_words b))) _ _ _ _ _ _ c.loop-block-test.true c.loop-block.invariant c.in_ok-shift_done.ensures
+
+pub returns : goal.returns
+returns c =
     let p = tables_of c.args.system.now in
-    on_ok c.append_row.result (c.append_row.new.out ≡ c.args.out.now ++ row_items c.args.row.now) (c.append_row.new.out ≡ c.args.out.now ++ done_items p (row_items c.args.row.now))
-    (λ e. e ∙ ap (λ l. c.args.out.now ++ l) (sym (done_row_field p c.args.row.now _ _ c.in-Field.is (sym c.is_done.ensures ∙ c.if-is_done.true)))) c.append_row.ensures
-
-pub returns-else-is_done : goal.returns-else-is_done
-returns-else-is_done c = appends_none c.args.out.now _ (undone_row_field (tables_of c.args.system.now) c.args.row.now _ _ c.in-Field.is (sym c.is_done.ensures ∙ c.if-is_done.false))
-
-pub returns-in-Word : goal.returns-in-Word
-returns-in-Word c = appends_none c.args.out.now _ (undone_row_word (tables_of c.args.system.now) c.args.row.now _ c.in-Word.is)
+    let part = c.args.row.now.part in
+    let one : ℕ × ℕ → List Item = λ b. done_items p (in_part part (block_words b)) in
+    let bs : List (ℕ × ℕ) = c.args.row.now.words.blocks.items in
+    flat_done one _ _ _ _ c.loop-block-test.false c.loop-block.invariant
+    ∙ ap (λ bs. c.args.out.now ++ flat_map one bs) c.as_slice-block-items.ensures.value
+    ∙ ap (λ l. c.args.out.now ++ l) (sym (ap (done_items p) (map_flat (item part) block_words bs) ∙ flat_flat (λ i. done_part p i.part i.word) (λ b. in_part part (block_words b)) bs))

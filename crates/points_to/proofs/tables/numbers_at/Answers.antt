@@ -7,8 +7,8 @@ use Rattle.points_to.proofs.tables.numbers_at.Goals as goal
 pub returns : goal.returns
 returns c =
     let X = held c.args.facts.now c.args.place in
-    let given : c.as_slice.result.now ≡ X = search rules in
-    let out : c.put_all_wanted.new.out ≡ wanted c.args.w c.as_slice.result.now = search rules in
+    let given : c.append.new.out ≡ X = search rules in
+    let out : c.put_all_wanted.new.out ≡ wanted c.args.w c.append.new.out = search rules in
     lists_of c.args.w X c.ascending.result
     (subst (SameSet c.ascending.result) (out ∙ ap (wanted c.args.w) given) c.ascending.ensures.same)
     c.ascending.ensures.ascending

@@ -1,6 +1,8 @@
-use Rattle.std.proofs.Common.{◌≡◌, ◌++◌, map, take}
-use Rattle.points_to.specs.Asked.{fact}
+use Rattle.std.proofs.Common.{◌≡◌, ◌++◌, take}
+use Rattle.std.specs.List.{flat_map}
+use Rattle.points_to.specs.Asked.{facts_at}
+use Rattle.points_to.specs.Runs.{run_items}
 use Rattle.points_to.proofs.targets.facts_at.Given as goal
 
-abbrev pub invariant-loop-item : goal.invariant-loop-item
-invariant-loop-item l = l.out ≡ l.initial.out ++ map (fact l.place) (take l.item-index l.items)
+abbrev pub invariant-loop-run : goal.invariant-loop-run
+invariant-loop-run l = l.out ≡ l.initial.out ++ flat_map (λ r. facts_at l.place (run_items r)) (take l.run-index l.run-items)

@@ -1,0 +1,60 @@
+-- Blocks as sets: those of one word, those that lie within others, and sets with the same members.
+use Rattle.std.proofs.Common.{◌≡◌, ◌≢◌, ◌+◌, ◌*◌, ◌/◌, ◌%◌, ◌<◌, ℕ, List, [], ◌∷◌, ◌++◌, map, take, length, get_or, refl, sym, ap, ◌∙◌, subst, ⊎_elim, arith}
+use Rattle.std.specs.Int.{bit_at}
+use Rattle.std.specs.List.{flat_map}
+use Rattle.std.proofs.lemmas.Nat.Bits.{bit_at-zero}
+use Rattle.flow_system.specs.declared.fact.Element.{Element}
+use Rattle.points_to.specs.Held.{In}
+use Rattle.points_to.specs.Bits.{numbers, block_numbers, block_words, BitsAt, number_of, word_of}
+use Rattle.points_to.specs.Rows.{GetsAll, SameMembers}
+use Rattle.points_to.proofs.Member.{in_split, in_left, in_right, in_flat, in_map, map_in}
+use Rattle.points_to.proofs.Loops.{flat_next}
+use Rattle.points_to.proofs.Numbers.{no_numbers, bit_in, in_bit, lowest_first}
+use Rattle.points_to.proofs.Rows.{words_are, word_number}
+
+-- a single bit is the block of one number
+pub single : (n w : ℕ) → bit_at w (n % 64) ≡ 1 → ((i : ℕ) → i ≢ n % 64 → bit_at w i ≡ bit_at 0 i) → block_numbers (n / 64, w) ≡ n ∷ []
+single n w one others =
+    lowest_first 64 (n / 64 * 64) w 0 (n % 64) (omega arith) one (λ i lt. let l : i < n % 64 = lt in others i (λ e. absurd (omega (arith, l, e))) ∙ bit_at-zero i) (bit_at-zero (n % 64)) (λ i lt d. sym (others i d))
+    ∙ ap (λ l. (n / 64 * 64 + n % 64) ∷ l) (no_numbers 64 (n / 64 * 64)) ∙ ap (λ m. m ∷ []) n_is
+  where
+    n_is : n / 64 * 64 + n % 64 ≡ n
+    n_is = omega arith
+
+pub single_word : (u : Element) (n w : ℕ) → n ≡ number_of u → bit_at w (n % 64) ≡ 1 → ((i : ℕ) → i ≢ n % 64 → bit_at w i ≡ bit_at 0 i) → block_words (n / 64, w) ≡ u ∷ []
+single_word u n w e one others = ap (map word_of) (single n w one others) ∙ ap (λ m. word_of m ∷ []) e ∙ ap (λ x. x ∷ []) (word_number u)
+
+-- the numbers of a block whose bits are among those that stand there
+pub has_all : (bs : List (ℕ × ℕ)) (b : ℕ × ℕ) (w : ℕ) → BitsAt bs b.0 w → ((i : ℕ) → bit_at b.1 i ≡ 1 → bit_at w i ≡ 1) → (n : ℕ) → In n (block_numbers b) → In n (flat_map block_numbers bs)
+has_all bs b w at within n h =
+    let s = in_bit 64 (b.0 * 64) b.1 n h in
+    ⊎_elim
+    (λ z. let none : bit_at 0 s.0 ≡ 1 = subst (λ v. bit_at v s.0 ≡ 1) z (within s.0 s.3) in absurd (omega (arith, none, bit_at-zero s.0)))
+    (λ k. in_flat block_numbers bs k (subst (λ x. In x (numbers 64 (b.0 * 64) w)) (sym s.2) (bit_in 64 (b.0 * 64) w s.0 s.1 (within s.0 s.3))))
+    at.held
+
+-- a set that has the members of the first lists gets those of the next
+pub same_next : {X Y : Type 0} (f : X → List Y) (xs : List X) (i : ℕ) (d : X) (now new : List Y) → i < length xs → SameMembers now (flat_map f (take i xs)) → GetsAll now new (f (get_or xs i d)) → SameMembers new (flat_map f (take (i + 1) xs))
+same_next f xs i d now new lt s g = record {
+  into = λ y h. subst (In y) (sym all) (⊎_elim (λ a. in_left _ _ (s.into y a)) (λ a. in_right (flat_map f (take i xs)) _ a) (g.only y h));
+  back = λ y h. ⊎_elim (λ a. g.kept y (s.back y a)) (λ a. g.put y a) (in_split (flat_map f (take i xs)) _ (subst (In y) all h));
+}
+  where
+    all : flat_map f (take (i + 1) xs) ≡ flat_map f (take i xs) ++ f (get_or xs i d)
+    all = sym (flat_next f xs i d [] (flat_map f (take i xs)) (flat_map f (take i xs) ++ f (get_or xs i d)) lt refl refl)
+
+-- the words of numbers with the same members
+pub same_map : {X Y : Type 0} (f : X → Y) (xs ys : List X) → SameMembers xs ys → SameMembers (map f xs) (map f ys)
+same_map f xs ys s = record {
+  into = λ y h. let w = map_in f xs h in subst (λ z. In z (map f ys)) (sym w.2) (in_map f ys (s.into w.0 w.1));
+  back = λ y h. let w = map_in f ys h in subst (λ z. In z (map f xs)) (sym w.2) (in_map f xs (s.back w.0 w.1));
+}
+
+pub same_words : (es bs : List (ℕ × ℕ)) → SameMembers (flat_map block_numbers es) (flat_map block_numbers bs) → SameMembers (flat_map block_words es) (flat_map block_words bs)
+same_words es bs s =
+    subst (λ l. SameMembers l (flat_map block_words bs)) (sym (words_are es))
+    (subst (λ l. SameMembers (map word_of (flat_map block_numbers es)) l) (sym (words_are bs)) (same_map word_of (flat_map block_numbers es) (flat_map block_numbers bs) s))
+
+-- the words of a set that was made of blocks
+pub same_of : (ws vs : List Element) (es bs : List (ℕ × ℕ)) → ws ≡ flat_map block_words es → flat_map block_words bs ≡ vs → SameMembers (flat_map block_numbers es) (flat_map block_numbers bs) → SameMembers ws vs
+same_of ws vs es bs e e' s = subst (SameMembers ws) e' (subst (λ l. SameMembers l (flat_map block_words bs)) (sym e) (same_words es bs s))

@@ -1,9 +1,0 @@
-use Rattle.std.proofs.Common.{◌≡◌, ◌++◌, map, length}
-use Rattle.points_to.specs.Bits.{word_of}
-use Rattle.points_to.proofs.items.append_block_words.Given as goal
-
-abbrev pub invariant-words : goal.invariant-words
-invariant-words l = l.out ++ map word_of l.left ≡ l.initial.out ++ map word_of l.fn.block
-
-abbrev pub decreases-words : goal.decreases-words
-decreases-words l = length l.left
