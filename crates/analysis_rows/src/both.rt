@@ -10,7 +10,8 @@ use std::fmt::Write;
 use std::test::Fail;
 use worked_texts::{INTERPRETER, PRIMES, QUEENS, SORT};
 
-/// Programs over lists: with and without delayed calls, waiting functions, global cells, cells that hold themselves, and numbers.
+/// Programs over lists: with and without delayed calls, waiting functions, global cells, cells that
+/// hold themselves, and numbers.
 static TEXTS: [&str; 23] = [
     "main = Nil;",
     "main = Cons 72 (Cons 105 Nil);",
@@ -93,7 +94,8 @@ impl Pair {
             && a.result_of(ProcId(n)) == b.result_of(ProcId(n))
     }
 
-    /// Whether both have the same words for the variable of a number, among a number and these tags.
+    /// Whether both have the same words for the variable of a number, among a number and these
+    /// tags.
     fn has_same_words(&self, n: u32, tags: u32) -> bool {
         let (a, b) = (&self.waiting, &self.rounds);
         let mut same = a.holds_number(VarId(n)) == b.holds_number(VarId(n));
@@ -113,7 +115,8 @@ impl Pair {
     }
 }
 
-/// For how many of the first numbers the two solutions of a program tell something, or none where they differ.
+/// For how many of the first numbers the two solutions of a program tell something, or none where
+/// they differ.
 fn agreed(alloc: Global, g: &Grin, numbers: u32) -> Result<Option<u32>, AllocError> {
     let pair = Pair::of(alloc, g)?;
     let tags = g.tags.len().min(65535) as u32;

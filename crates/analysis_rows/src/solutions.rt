@@ -11,10 +11,11 @@ const NIL: TagId = TagId(1);
 
 const CONS: TagId = TagId(2);
 
-// take xs = case xs of { Nil -> Nil; Cons h t -> Cons h (take t) }; main = take (take (Cons 65 Nil))
+// take xs = case xs of { Nil -> Nil; Cons h t -> Cons h (take t) };
+// main = take (take (Cons 65 Nil))
 //
-// The numbers of the variables are 0 to 4 in `take`, 5 to 8 in `main` and 9 to 14 in `@print`; those of the sites are 0 for the
-// global cell, 1 in `take` and 2 to 5 in `main`.
+// The numbers of the variables are 0 to 4 in `take`, 5 to 8 in `main` and 9 to 14 in `@print`;
+// those of the sites are 0 for the global cell, 1 in `take` and 2 to 5 in `main`.
 const TAKES: &str = "\
 tags CInt/1 CNil/0 CCons/2 Ftake/1 Fmain/0 P1take/0
 global main = (Fmain)
@@ -58,7 +59,8 @@ main =
 
 // k a b = a; app f x = f x; main = let n = Nil; f = k; g = app f n in app g n
 //
-// The numbers of the variables are 0 and 1 in `k`, 2 to 4 in `app` and 5 to 7 in `start`; those of its sites are 0 to 2.
+// The numbers of the variables are 0 and 1 in `k`, 2 to 4 in `app` and 5 to 7 in `start`; those of
+// its sites are 0 to 2.
 const PARTIAL: &str = "\
 tags CInt/1 CNil/0 Fapp/2 P2k/0 P1k/1
 

@@ -16,7 +16,7 @@ use Rattle.flow_system.specs.declared.fact.Part.TheVariants.{Tags as tags, Word 
 use Rattle.flow_system.specs.Solution.{Solution, among, At}
 use Rattle.apply_inline.specs.Inlining.{word_has}
 use Rattle.points_to.specs.Held.{In, here}
-use Rattle.points_to.proofs.Member.{none_in}
+use Rattle.seq.proofs.Member.{none_in}
 use Rattle.apply_inline.specs.Applied.{Candidates}
 use Rattle.apply_inline.proofs.Filtered.{and_left}
 

@@ -12,7 +12,7 @@ use Rattle.flow_system.specs.Solution.{Solution}
 use Rattle.eval_inline.specs.Inlining.{those}
 use Rattle.apply_inline.specs.Inlining.{value_has, is_part_tag, part_tags_of, others_of}
 use Rattle.points_to.specs.Held.{In, here, there}
-use Rattle.points_to.proofs.Member.{none_in}
+use Rattle.seq.proofs.Member.{none_in}
 use Rattle.apply_inline.specs.Applied.{fits, meets_part, meets_other, Candidates}
 
 -- ascending from a number on

@@ -46,4 +46,5 @@ module _ (p : Program) (A : Solution) where
   pub record Candidates (v : V.Val) (ts : List ℕ) : Type 0 where
     pub ascending : IsStrictlyIncreasing ts
     pub all : (t : ℕ) → value_has p A v t ≡ true → In t ts
-    pub fitting : (t : ℕ) (i : Tag) → In t ts → slice_get p.tags t ≡ Some i → fits v t i ≡ value_has p A v t
+    pub fitting : (t : ℕ) (i : Tag) → In t ts → slice_get p.tags t ≡ Some i
+        → fits v t i ≡ value_has p A v t

@@ -1,4 +1,5 @@
--- The size that a program will have once its evaluations and applications are inlined, by the program's own text.
+-- The size that a program will have once its evaluations and applications are inlined, by the
+-- program's own text.
 use Rattle.std.specs.Prelude.{ℕ, zero, suc, ◌+◌, ◌-◌, ◌^◌, min, cond, List, [], ◌∷◌, length, Option, Some, None, slice_get}
 use Rattle.grin_syntax.specs.declared.program.ProcId.{ProcId}
 use Rattle.grin_syntax.specs.declared.program.Tag.{Tag}
@@ -15,7 +16,8 @@ use Rattle.apply_inline.specs.Inlining.{part_tags_of, others_of}
 abbrev pub capped : ℕ → ℕ
 capped n = min n (2 ^ 64 - 1)
 
--- the body of an alternative of an evaluation: a call of the fields, the update and the unit, or a unit alone
+-- the body of an alternative of an evaluation: a call of the fields, the update and the unit, or a
+-- unit alone
 abbrev pub called_size : Option ProcId → ℕ → ℕ
 called_size None k = 1
 called_size (Some f) k = 7 + k
@@ -23,7 +25,8 @@ called_size (Some f) k = 7 + k
 abbrev pub eval_body_size : Tag → ℕ
 eval_body_size t = cond (is_fun_kind t.kind) (called_size t.proc t.fields) 2
 
--- the body of an alternative of an application: a call of the fields and the argument, or a node of them
+-- the body of an alternative of an application: a call of the fields and the argument, or a node of
+-- them
 abbrev pub given_size : ℕ → ℕ → ℕ
 given_size zero k = 1
 given_size (suc r) k = 2 + k
@@ -58,7 +61,8 @@ module _ (p : Program) (A : Solution) where
   else_size (t ∷ ts) = 1
 
   abbrev pub application_size : Val → ℕ
-  application_size v = 1 + val_size v + parts_size (part_tags_of p A v) + else_size (others_of p A v)
+  application_size v =
+      1 + val_size v + parts_size (part_tags_of p A v) + else_size (others_of p A v)
 
   unfoldable mutual
     pub expanded_act : Act → ℕ

@@ -29,7 +29,8 @@ module _ (p : Program) (A : Solution) where
   value_has (NodeVar x) t = among (tag t) (A (var x.0) tags) || among (tag t) (A (var x.0) (word 0))
   value_has (NodeVal t' ws) t = nat_eq t t'.0
   value_has (VectorVal []) t = false
-  value_has (VectorVal (a ∷ ws)) t = word_has t a && is_some_and (slice_get p.tags t) (λ i. nat_le i.fields (length ws))
+  value_has (VectorVal (a ∷ ws)) t =
+      word_has t a && is_some_and (slice_get p.tags t) (λ i. nat_le i.fields (length ws))
   value_has (OneVal a) t = word_has t a && is_some_and (slice_get p.tags t) (λ i. nat_eq i.fields 0)
 
   abbrev pub is_part_tag : ℕ → Bool
@@ -50,12 +51,15 @@ module _ (p : Program) (A : Solution) where
 
   abbrev pub apply_arm : W.Word → ℕ → ℕ → Option Tag → Arms → Arms
   apply_arm a x t None as' = as'
-  apply_arm a x t (Some i) as' = arm (NodeShape (tag_id t) (variables x i.fields)) (part_body x a i i.proc) as'
+  apply_arm a x t (Some i) as' =
+      arm (NodeShape (tag_id t) (variables x i.fields)) (part_body x a i i.proc) as'
 
   -- `last` is an else that fails where the solution has another tag
   abbrev pub apply_arms : W.Word → ℕ → List ℕ → Arms → Arms
   apply_arms a x [] last = last
-  apply_arms a x (t ∷ ts) last = apply_arm a x t (slice_get p.tags t) (apply_arms a (x + fields_at p A (slice_get p.tags t)) ts last)
+  apply_arms a x (t ∷ ts) last =
+      apply_arm a x t (slice_get p.tags t)
+      (apply_arms a (x + fields_at p A (slice_get p.tags t)) ts last)
 
   abbrev pub part_tags_of : V.Val → List ℕ
   part_tags_of v = those (λ t. value_has v t && is_part_tag t) 0 (length p.tags)
@@ -105,7 +109,8 @@ module _ (p : Program) (A : Solution) where
 
   abbrev pub apply_procs : ℕ → List Procedure → List Procedure
   apply_procs x [] = []
-  apply_procs x (q ∷ qs) = record q { body = apply_code x q.body } ∷ apply_procs (x + apply_code_room q.body) qs
+  apply_procs x (q ∷ qs) =
+      record q { body = apply_code x q.body } ∷ apply_procs (x + apply_code_room q.body) qs
 
 -- a program with its applications inlined, and with its evaluations inlined before
 abbrev pub apply_inlined : Solution → Program → Program

@@ -17,8 +17,12 @@ abbrev pub NeverMissing : Program → Type 0
 NeverMissing p = (i : List ℕ) (n : ℕ) → end_of (run p i n) ≢ ended missing
 
 abbrev pub InliningKeeps : Type 0
-InliningKeeps = (p : Program) (A : Solution) → Started p → UsesBound p → Solves (tables p) (system p) A → Keeps p (inlined A p)
+InliningKeeps =
+    (p : Program) (A : Solution) → Started p → UsesBound p
+    → Solves (tables p) (system p) A → Keeps p (inlined A p)
 
 -- inlining of applications, once evaluations are inlined by the same solution of the program before
 abbrev pub ApplyInliningKeeps : Type 0
-ApplyInliningKeeps = (p : Program) (A : Solution) → Started p → UsesBound p → Solves (tables p) (system p) A → NeverMissing p → Keeps (eval_inlined A p) (inlined A p)
+ApplyInliningKeeps =
+    (p : Program) (A : Solution) → Started p → UsesBound p → Solves (tables p) (system p) A
+    → NeverMissing p → Keeps (eval_inlined A p) (inlined A p)

@@ -188,7 +188,8 @@ impl Inlining<'_> {
         Ok(alts)
     }
 
-    // The alternative for a function that lacks arguments: its fields, and what it does with one argument more.
+    // The alternative for a function that lacks arguments: its fields, and what it does with one
+    // argument more.
     fn alternative(
         &self,
         alloc: Global,
@@ -210,7 +211,8 @@ impl Inlining<'_> {
         })
     }
 
-    // A function that lacks arguments, given one more: its call where it lacked this one alone, and otherwise its node with one argument more.
+    // A function that lacks arguments, given one more: its call where it lacked this one alone, and
+    // otherwise its node with one argument more.
     fn applied(&self, alloc: Global, fields: &[VarId], tag: &Tag, a: Word) -> Result<Op, AllocError>
         ensures { IfOk result (λ o. (x : ℕ) → fields.now ≡ variables x tag.now.fields
             → end (act_of o) ≡ part_body (program_of self.now.known.program.now)

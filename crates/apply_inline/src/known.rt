@@ -21,7 +21,8 @@ pub(crate) struct Known<'a> {
 }
 
 impl Known<'_> {
-    /// The tag of this number, where it is that of a function that lacks arguments, and one that the solution has for a value. The number is one of the value's candidates.
+    /// The tag of this number, where it is that of a function that lacks arguments, and one that
+    /// the solution has for a value. The number is one of the value's candidates.
     pub(crate) fn part(&self, v: &Val, t: TagId) -> Option<&Tag>
         ensures { MatchOption result
             (meets_part (program_of self.now.program.now) (found self.now.flow.now) v.now t.0
@@ -40,7 +41,8 @@ impl Known<'_> {
         }
     }
 
-    /// Whether the solution has a tag for a value that is not one of a function that lacks arguments.
+    /// Whether the solution has a tag for a value that is not one of a function that lacks
+    /// arguments.
     pub(crate) fn has_other(&self, v: &Val) -> bool
         ensures { result ≡ has_some
             (others_of (program_of self.now.program.now) (found self.now.flow.now) v.now) }

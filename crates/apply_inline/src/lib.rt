@@ -1,4 +1,5 @@
-// Applications by a case over the functions that they meet, and the size of a program with its evaluations and applications inlined.
+// Applications by a case over the functions that they meet, and the size of a program with its
+// evaluations and applications inlined.
 #![tactic(auto)]
 
 ghost use Rattle.std.specs.Prelude.{◌≡◌, ◌<◌, ◌^◌, IfOk};
@@ -27,8 +28,9 @@ use starts::part_starts;
 use std::alloc::{AllocError, Global};
 use std::mem;
 
-/// The program with each application as a case over the functions that the solution has for the applied value, and with a failing `else` where the solution has another tag for it.
-/// More variables than can be numbered are want of memory.
+/// The program with each application as a case over the functions that the solution has for the
+/// applied value, and with a failing `else` where the solution has another tag for it. More
+/// variables than can be numbered are want of memory.
 pub fn inline(alloc: Global, mut g: Grin, flow: &Flow) -> Result<Grin, AllocError>
     ensures inlined { IfOk result (λ h. program_of h
         ≡ apply_inlined (found flow.now) (program_of g)) }
@@ -49,7 +51,8 @@ pub fn inline(alloc: Global, mut g: Grin, flow: &Flow) -> Result<Grin, AllocErro
     Ok(g)
 }
 
-/// The size that a well-formed program will have once its evaluations and applications are inlined, where it is below 2^64. It takes no memory.
+/// The size that a well-formed program will have once its evaluations and applications are inlined,
+/// where it is below 2^64. It takes no memory.
 pub fn expanded_size(g: &Grin, flow: &Flow) -> u64
     ensures { Formed (program_of g.now) → inlined_size (found flow.now) (program_of g.now) < 2 ^ 64
         → result ≡ inlined_size (found flow.now) (program_of g.now) }

@@ -50,7 +50,8 @@ fn lacking(tag: &Tag) -> Option<ProcId>
     if is_part(tag.kind) { tag.proc } else { None }
 }
 
-/// The first tag of a procedure that lacks so many arguments, where none stands before `start`. Past the numbers of 32 bits there is none, which counts as want of memory.
+/// The first tag of a procedure that lacks so many arguments, where none stands before `start`.
+/// Past the numbers of 32 bits there is none, which counts as want of memory.
 pub(crate) fn part_tag(
     tags: &[Tag],
     start: usize,

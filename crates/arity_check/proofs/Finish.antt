@@ -18,7 +18,7 @@ use Rattle.arity_check.specs.Faults.{also}
 use Rattle.arity_check.specs.Accepted.{IsUnbroken, IsFirstBroken}
 use Rattle.arity_check.specs.First.{IsCause}
 use Rattle.arity_check.specs.Normal.{Pairwise}
-use Rattle.arity_check.proofs.In.{In, Here}
+use Rattle.seq.specs.Lists.{In, here}
 use Rattle.arity_check.proofs.Names.{main_named}
 use Rattle.arity_check.proofs.NoFaults.{no_front, no_back}
 use Rattle.arity_check.proofs.Soundness.{sound}
@@ -48,7 +48,7 @@ text_within names Kind n w = some_within names n w.0 w.1
 
 nothing_in : (rs : List CheckRefusal) → ((r : CheckRefusal) → In r rs → ⊥) → rs ≡ []
 nothing_in [] h = refl
-nothing_in (r ∷ rs) h = absurd (h r Here)
+nothing_in (r ∷ rs) h = absurd (h r here)
 
 pub no_faults : (p : Program) → IsUnbroken p → whole_faults p ≡ []
 no_faults p u = nothing_in (whole_faults p) (λ r i. u (rule r) (place r) (sound p r i))

@@ -9,7 +9,7 @@ use Rattle.arity_check.specs.Order.{rank, IsBefore}
 use Rattle.arity_check.specs.First.{IsFirstRefusal}
 use Rattle.arity_check.specs.Refusal.{rule, rank_of, before, is_before, earlier, least}
 use Rattle.arity_check.specs.Whole.{whole_faults}
-use Rattle.arity_check.proofs.In.{In, Here, There}
+use Rattle.seq.specs.Lists.{In, here, there}
 use Rattle.arity_check.proofs.Names.{two_ways}
 use Rattle.arity_check.proofs.Soundness.{sound, complete, Listed}
 
@@ -79,8 +79,8 @@ pub record Earliest (o r : CheckRefusal) (rs : List CheckRefusal) : Type 0 where
   pub all : (q : CheckRefusal) → In q rs → Le r q
 
 earliest_step : (x r : CheckRefusal) (rs : List CheckRefusal) → Le r x → ((q : CheckRefusal) → In q rs → Le r q) → (q : CheckRefusal) → In q (x ∷ rs) → Le r q
-earliest_step x r rs h all q Here = h
-earliest_step x r rs h all q (There i) = all q i
+earliest_step x r rs h all q here = h
+earliest_step x r rs h all q (there i) = all q i
 
 some_same : (a b : CheckRefusal) → Some a ≡ Some b → a ≡ b
 some_same a b e = cc
@@ -92,14 +92,14 @@ earliest o r (x ∷ rs) e = elim (two_ways (before (rank_of x) (rank_of o))) [
   | inl h ↦
       let w = earliest x r rs (ap (λ b. least (if b then Some x else Some o) rs) (sym h) ∙ e) in
       record {
-        among = elim w.among [ inl s ↦ inr (subst (λ r. In r (x ∷ rs)) s Here) | inr i ↦ inr (There i) ];
+        among = elim w.among [ inl s ↦ inr (subst (λ r. In r (x ∷ rs)) s here) | inr i ↦ inr (there i) ];
         first = before_trans (rank_of r) (rank_of x) (rank_of o) w.first (before_true (rank_of x) (rank_of o) h);
         all = earliest_step x r rs w.first w.all;
       }
   | inr h ↦
       let w = earliest o r rs (ap (λ b. least (if b then Some x else Some o) rs) (sym h) ∙ e) in
       record {
-        among = elim w.among [ inl s ↦ inl s | inr i ↦ inr (There i) ];
+        among = elim w.among [ inl s ↦ inl s | inr i ↦ inr (there i) ];
         first = w.first;
         all = earliest_step x r rs (before_trans (rank_of r) (rank_of o) (rank_of x) w.first (before_false (rank_of x) (rank_of o) h)) w.all;
       }
@@ -123,7 +123,7 @@ unfolding earlier
 first_met [] r e = absurd cc
 first_met (x ∷ rs) r e =
     let w = earliest x r rs e in
-    (elim w.among [ inl s ↦ subst (λ r. In r (x ∷ rs)) s Here | inr i ↦ There i ], earliest_step x r rs w.first w.all)
+    (elim w.among [ inl s ↦ subst (λ r. In r (x ∷ rs)) s here | inr i ↦ there i ], earliest_step x r rs w.first w.all)
 
 -- the earliest refusal that is met is the first broken rule
 pub right : (p : Program) (o : Option CheckRefusal) → o ≡ least None (whole_faults p) → IsFirstRefusal p o

@@ -8,7 +8,7 @@ pub mod Counts
 mod Unique
 mod Steps
 mod Names
-mod In
+mod Noted
 mod Apps
 mod Exprs
 mod Patterns

@@ -23,7 +23,8 @@ use Rattle.arity_check.specs.Broken.{Broken, first_named, Declares}
 use Rattle.arity_check.specs.Known.{Known, is_nameless, is_reserved, meaning, all_entered}
 use Rattle.arity_check.specs.Faults.{noted, meaning_faults, arity_faults, mixed, no_patterns, app_faults, binder_faults, binders_faults, pattern_faults, patterns_faults, expr_faults}
 use Rattle.arity_check.specs.Whole.{known_of, main_kind, int_kind, nil_kind, cons_kind, con_faults, cons_faults, header_faults, body_faults, functions_faults, has_main, has_fields, has_nil, has_cons, lacks_faults, whole_faults}
-use Rattle.arity_check.proofs.In.{In, Here, in_left, in_right, in_cases, from_one, from_noted, to_noted, walked, from_walked, to_walked, to_walked_again}
+use Rattle.seq.specs.Lists.{In, here}
+use Rattle.arity_check.proofs.Noted.{in_left, in_right, in_cases, from_one, from_noted, to_noted, walked, from_walked, to_walked, to_walked_again}
 use Rattle.arity_check.proofs.Names.{two_ways, nameless_named, main_named, int_named, nil_named, cons_named, meaning_means, entered_within, fields_some, fields_none, from_reserved, to_reserved, first_place, first_with}
 use Rattle.arity_check.proofs.Apps.{atom_faults, app_from, to_app, to_contains}
 use Rattle.arity_check.proofs.Exprs.{piece_faults, bound_faults, expr_from, to_expr, to_bound, bound_from}
@@ -147,7 +148,7 @@ module _ (p : Program) where
           Wrong d e (differ n d.fields w.holds) w.is
 
   to_unknown : (c at n : ℕ) → first_named c p.constructors ≡ None → In (refusal.UnknownName at) (arity_faults (k.fields c) at n)
-  to_unknown c at n e = subst (λ o. In (refusal.UnknownName at) (arity_faults o at n)) (sym (fields_none p c p.constructors e)) Here
+  to_unknown c at n e = subst (λ o. In (refusal.UnknownName at) (arity_faults o at n)) (sym (fields_none p c p.constructors e)) here
 
   to_wrong : (c at n : ℕ) (d : Data) → first_named c p.constructors ≡ Some d → n ≢ d.fields → In (refusal.ConstructorArity at) (arity_faults (k.fields c) at n)
   to_wrong c at n d e h = subst (λ o. In (refusal.ConstructorArity at) (arity_faults o at n)) (sym (fields_some p c p.constructors d e)) (to_noted (not (n == d.fields)) (refusal.ConstructorArity at) (to_differ n d.fields h))
@@ -503,7 +504,7 @@ module _ (p : Program) where
       (in_left (body_faults k [] g) (in_right (noted (0 + j == 4096) (refusal.TooManyFunctions g.at)) (in_left _ (to_noted true (refusal.DuplicateFunction g.at) refl))))))
   complete (broken.DuplicateName {xs = xs} {at = at} bl w) = listed (refusal.DuplicateName at) (met_binders (refusal.DuplicateName at) bl (to_repeats xs at w))
   complete (broken.UnknownName {t = t} {x = x} {at = at} {k = n} u e) =
-      listed (refusal.UnknownName at) (met_atom (refusal.UnknownName at) t (Name x at) n u (subst (λ m. In (refusal.UnknownName at) (meaning_faults m at n)) (sym (meaning_means p t x ∙ e)) Here))
+      listed (refusal.UnknownName at) (met_atom (refusal.UnknownName at) t (Name x at) n u (subst (λ m. In (refusal.UnknownName at) (meaning_faults m at n)) (sym (meaning_means p t x ∙ e)) here))
   complete (broken.UnknownConstructor {t = t} {c = c} {at = at} {k = n} u e) = listed (refusal.UnknownName at) (met_atom (refusal.UnknownName at) t (Con c at) n u (to_unknown c at n e))
   complete (broken.UnknownPattern {t = t} {alts = alts} {c = c} {fields = fields} i f is e) =
       listed (refusal.UnknownName c.at) (met_pattern (refusal.UnknownName c.at) t alts i (pattern.Con c fields) f is (in_left _ (to_unknown c.name.0 c.at (length fields) e)))

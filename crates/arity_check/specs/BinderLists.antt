@@ -21,8 +21,11 @@ module _ (p : Program) where
     pub named : is_named p (codes "_") second.name.0 ≡ false
     pub here : second.at ≡ at
 
-  -- a list of binders: the parameters of a function, the binders of a let group, or those of a pattern
+  -- a list of binders: the parameters of a function, the binders of a let group, or those of a
+  -- pattern
   pub data BinderList : List Binder → Type 0 where
     OfFunction : {f : Function} (i : ℕ) → slice_get p.functions i ≡ Some f → BinderList f.params
-    OfGroup : {t : Scope} {group : List Bind} → InFunction p t (AGroup group) → BinderList (binders_of group)
-    OfPattern : {t : Scope} {alts : Alts} {pat : Pattern} (i : ℕ) → InFunction p t (SomeAlts alts) → alt_at alts i ≡ Some pat → BinderList (bound_by pat)
+    OfGroup : {t : Scope} {group : List Bind} → InFunction p t (AGroup group)
+        → BinderList (binders_of group)
+    OfPattern : {t : Scope} {alts : Alts} {pat : Pattern} (i : ℕ) → InFunction p t (SomeAlts alts)
+        → alt_at alts i ≡ Some pat → BinderList (bound_by pat)

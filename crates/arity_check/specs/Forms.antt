@@ -17,14 +17,19 @@ IsKnown k (pattern.Int n at) = Unit {0}
 IsKnown k (pattern.Default x) = Unit {0}
 
 -- the binders of a let group have these locals, under some numbers of them in its scope
-pub record NumbersGroup (k : Known) (group : List Bind) (locals : Locals) (xs : List ℕ) : Type 0 where
+pub record NumbersGroup (k : Known) (group : List Bind) (locals : Locals) (xs : List ℕ)
+    : Type 0 where
   pub others : List ℕ
   pub count : length others ≡ length group
   pub size : length xs ≡ length group
-  pub is : (p : Program) → k ≡ known_of p → (bounds : List Bound) × IsGroup p (all_named k (names_of (binders_of group)) others locals.scope) locals.next group bounds xs
+  pub is : (p : Program) → k ≡ known_of p
+      → (bounds : List Bound)
+      × IsGroup p (all_named k (names_of (binders_of group)) others locals.scope)
+      locals.next group bounds xs
 
 -- the binders of a let group entered the scope, and the members have these bindings
-pub record EntersGroup (k : Known) (group : List Bind) (old new : Locals) (bounds : List Bound) : Type 0 where
+pub record EntersGroup (k : Known) (group : List Bind) (old new : Locals) (bounds : List Bound)
+    : Type 0 where
   pub locals : List ℕ
   pub size : length locals ≡ length group
   pub scope : new.scope ≡ all_named k (names_of (binders_of group)) locals old.scope

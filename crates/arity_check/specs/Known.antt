@@ -6,7 +6,8 @@ use Rattle.arity_check.specs.declared.globals.Kind.TheVariants as kind
 use Rattle.arity_check.specs.Scope.{Scope, Meaning, Local, Function, Primitive, Unbound, unless_primitive}
 use Rattle.arity_check.specs.Locals.{local_in}
 
--- the kind of a name, the number of a function and that of its parameters, a constructor's number of fields and its number
+-- the kind of a name, the number of a function and that of its parameters, a constructor's number
+-- of fields and its number
 pub record Known : Type 0 where
   pub kind : ℕ → Kind
   pub function : ℕ → Option (ℕ × ℕ)
@@ -46,7 +47,9 @@ module _ (k : Known) where
 
   -- what a name stands for
   abbrev pub meaning : Scope → ℕ → Meaning
-  meaning s x = if is_nameless x then Unbound else unless_primitive (kind_meaning (k.kind x)) (local_meaning x (local_in s x))
+  meaning s x =
+      if is_nameless x then Unbound
+      else unless_primitive (kind_meaning (k.kind x)) (local_meaning x (local_in s x))
 
   -- a name stands for a local from here on, but `_` for none
   abbrev pub named : ℕ → ℕ → Scope → Scope

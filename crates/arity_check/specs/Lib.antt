@@ -16,7 +16,8 @@ pub mod First
 -- laws
 pub mod Numbered
 pub mod One
--- devices of the proofs: how the code keeps scopes and names, the broken rules as it meets them, and what it builds
+-- devices of the proofs: how the code keeps scopes and names, the broken rules as it meets them,
+-- and what it builds
 pub mod Locals
 pub mod Trail
 pub mod Known

@@ -1,7 +1,8 @@
 -- The order in which broken rules are named.
 use Rattle.std.specs.Prelude.{◌≡◌, ℕ, ◌<◌, ◌≤◌, ◌⊎◌, nat_le, ◌&&◌, if◌then◌else◌}
 
--- rules 31 to 35 by number; then those with a place by the place, and at one place by number; then 19, 20 and 21
+-- rules 31 to 35 by number; then those with a place by the place, and at one place by number; then
+-- 19, 20 and 21
 abbrev pub rank : ℕ → ℕ → ℕ × ℕ × ℕ
 rank k at =
     if nat_le 31 k then (0, k, at)

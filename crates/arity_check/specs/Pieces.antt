@@ -33,16 +33,25 @@ module _ (p : Program) where
     -- the piece stands in an expression, and t is the scope around it
     pub data Has : Scope → Expr → (t : Scope) → Piece → Type 0 where
       TheApp : {s : Scope} {app : Application} → Has s (App app) s (AnApp app)
-      TheGroup : {s : Scope} {group : List Bind} {body : Expr} → Has s (Let group body) s (AGroup group)
-      InMember : {s : Scope} {group : List Bind} {body : Expr} {b : Bind} (i : ℕ) → slice_get group i ≡ Some b → Has s (Let group body) (within (binders_of group) s) (AnApp b.app)
-      InBody : {s t : Scope} {group : List Bind} {body : Expr} {piece : Piece} → Has (within (binders_of group) s) body t piece → Has s (Let group body) t piece
-      TheAlts : {s : Scope} {tested : Expr} {alts : Alts} → Has s (Case tested alts) s (SomeAlts alts)
-      InTested : {s t : Scope} {tested : Expr} {alts : Alts} {piece : Piece} → Has s tested t piece → Has s (Case tested alts) t piece
-      InAlts : {s t : Scope} {tested : Expr} {alts : Alts} {piece : Piece} → HasAlts s alts t piece → Has s (Case tested alts) t piece
+      TheGroup : {s : Scope} {group : List Bind} {body : Expr}
+          → Has s (Let group body) s (AGroup group)
+      InMember : {s : Scope} {group : List Bind} {body : Expr} {b : Bind} (i : ℕ)
+          → slice_get group i ≡ Some b
+          → Has s (Let group body) (within (binders_of group) s) (AnApp b.app)
+      InBody : {s t : Scope} {group : List Bind} {body : Expr} {piece : Piece}
+          → Has (within (binders_of group) s) body t piece → Has s (Let group body) t piece
+      TheAlts : {s : Scope} {tested : Expr} {alts : Alts}
+          → Has s (Case tested alts) s (SomeAlts alts)
+      InTested : {s t : Scope} {tested : Expr} {alts : Alts} {piece : Piece}
+          → Has s tested t piece → Has s (Case tested alts) t piece
+      InAlts : {s t : Scope} {tested : Expr} {alts : Alts} {piece : Piece}
+          → HasAlts s alts t piece → Has s (Case tested alts) t piece
 
     pub data HasAlts : Scope → Alts → (t : Scope) → Piece → Type 0 where
-      InThis : {s t : Scope} {pat : Pattern} {body : Expr} {rest : Alts} {piece : Piece} → Has (within (bound_by pat) s) body t piece → HasAlts s (AndAlt pat body rest) t piece
-      InLater : {s t : Scope} {pat : Pattern} {body : Expr} {rest : Alts} {piece : Piece} → HasAlts s rest t piece → HasAlts s (AndAlt pat body rest) t piece
+      InThis : {s t : Scope} {pat : Pattern} {body : Expr} {rest : Alts} {piece : Piece}
+          → Has (within (bound_by pat) s) body t piece → HasAlts s (AndAlt pat body rest) t piece
+      InLater : {s t : Scope} {pat : Pattern} {body : Expr} {rest : Alts} {piece : Piece}
+          → HasAlts s rest t piece → HasAlts s (AndAlt pat body rest) t piece
 
   -- the piece stands in a function
   pub record InFunction (t : Scope) (piece : Piece) : Type 0 where

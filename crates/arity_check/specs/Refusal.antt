@@ -52,7 +52,8 @@ abbrev pub rank_of : CheckRefusal → ℕ × ℕ × ℕ
 rank_of r = rank (rule r) (place r)
 
 abbrev pub before : ℕ × ℕ × ℕ → ℕ × ℕ × ℕ → Bool
-before a b = nat_lt a.0 b.0 || ((a.0 == b.0) && (nat_lt a.1 b.1 || ((a.1 == b.1) && nat_lt a.2 b.2)))
+before a b =
+    nat_lt a.0 b.0 || ((a.0 == b.0) && (nat_lt a.1 b.1 || ((a.1 == b.1) && nat_lt a.2 b.2)))
 
 -- one refusal comes before another
 unfoldable pub is_before : CheckRefusal → CheckRefusal → Bool

@@ -15,7 +15,8 @@ Scope = List (ℕ × ℕ)
 -- the primitives by their names
 abbrev pub primitives : List (List ℕ × PrimOp)
 primitives =
-    (codes "add", Add) ∷ ((codes "sub", Sub) ∷ ((codes "mul", Mul) ∷ ((codes "quot", Quot) ∷ ((codes "rem", Rem)
+    (codes "add", Add) ∷ ((codes "sub", Sub) ∷ ((codes "mul", Mul)
+    ∷ ((codes "quot", Quot) ∷ ((codes "rem", Rem)
     ∷ ((codes "eq", Eq) ∷ ((codes "lt", Lt) ∷ []))))))
 
 -- a primitive's name stands for the primitive, whatever else has that name
@@ -34,7 +35,8 @@ module _ (p : tree.Program) where
   -- the first function of this name, from number f on
   abbrev pub function_from : List tree.Function → ℕ → ℕ → Meaning
   function_from [] f x = Unbound
-  function_from (g ∷ gs) f x = if g.name == x then Function f (length g.params) else function_from gs (f + 1) x
+  function_from (g ∷ gs) f x =
+      if g.name == x then Function f (length g.params) else function_from gs (f + 1) x
 
   -- a local hides a function
   abbrev pub found_in : Scope → ℕ → Meaning
@@ -43,7 +45,9 @@ module _ (p : tree.Program) where
 
   -- `_` stands for nothing
   abbrev pub means : Scope → ℕ → Meaning
-  means s x = if is_named (codes "_") x then Unbound else unless_primitive (primitive_from primitives x) (found_in s x)
+  means s x =
+      if is_named (codes "_") x then Unbound
+      else unless_primitive (primitive_from primitives x) (found_in s x)
 
   -- the number of a constructor, that of its first declaration
   abbrev pub con_number : ℕ → Option ℕ

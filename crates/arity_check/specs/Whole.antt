@@ -17,8 +17,10 @@ use Rattle.arity_check.specs.Faults.{noted, also, binders_faults, expr_faults}
 
 abbrev pub kinds : List (List ℕ × Kind)
 kinds =
-    (codes "add", Primitive Add) ∷ ((codes "sub", Primitive Sub) ∷ ((codes "mul", Primitive Mul) ∷ ((codes "quot", Primitive Quot) ∷ ((codes "rem", Primitive Rem)
-    ∷ ((codes "eq", Primitive Eq) ∷ ((codes "lt", Primitive Lt) ∷ ((codes "_", Nameless) ∷ ((codes "main", Main) ∷ ((codes "Int", Int) ∷ ((codes "Nil", Nil) ∷ ((codes "Cons", Cons) ∷ [])))))))))))
+    (codes "add", Primitive Add) ∷ ((codes "sub", Primitive Sub) ∷ ((codes "mul", Primitive Mul)
+    ∷ ((codes "quot", Primitive Quot) ∷ ((codes "rem", Primitive Rem) ∷ ((codes "eq", Primitive Eq)
+    ∷ ((codes "lt", Primitive Lt) ∷ ((codes "_", Nameless) ∷ ((codes "main", Main)
+    ∷ ((codes "Int", Int) ∷ ((codes "Nil", Nil) ∷ ((codes "Cons", Cons) ∷ [])))))))))))
 
 abbrev pub kind_from : List (List ℕ × Kind) → List ℕ → Kind
 kind_from [] text = Plain
@@ -34,7 +36,8 @@ kind_at (Some text) = kind_of text
 -- the first function of this name from number f on, with its number of parameters
 abbrev pub function_at : List Function → ℕ → ℕ → Option (ℕ × ℕ)
 function_at [] f x = None
-function_at (g ∷ gs) f x = if g.name == x then Some (f, length g.params) else function_at gs (f + 1) x
+function_at (g ∷ gs) f x =
+    if g.name == x then Some (f, length g.params) else function_at gs (f + 1) x
 
 -- the number of fields of the first constructor of this name
 abbrev pub fields_at : List Data → ℕ → Option ℕ
@@ -44,10 +47,16 @@ fields_at (d ∷ ds) c = if d.name == c then Some d.fields else fields_at ds c
 -- the first constructor of this name from number i on, with its number of fields
 abbrev pub constructor_at : List Data → ℕ → ℕ → Option (ℕ × ℕ)
 constructor_at [] i c = None
-constructor_at (d ∷ ds) i c = if d.name == c then Some (i, d.fields) else constructor_at ds (i + 1) c
+constructor_at (d ∷ ds) i c =
+    if d.name == c then Some (i, d.fields) else constructor_at ds (i + 1) c
 
 abbrev pub known_of : Program → Known
-known_of p = record { kind = λ x. kind_at (slice_get p.names x); function = function_at p.functions 0; fields = fields_at p.constructors; number = con_number p }
+known_of p = record {
+  kind = λ x. kind_at (slice_get p.names x);
+  function = function_at p.functions 0;
+  fields = fields_at p.constructors;
+  number = con_number p;
+}
 
 -- ---- the faults
 
@@ -77,7 +86,9 @@ module _ (k : Known) where
   abbrev pub con_faults : ℕ → (ℕ → Bool) → Data → List CheckRefusal
   con_faults i seen d =
       noted (i == 1024) (TooManyConstructors d.at)
-      ++ (noted (seen d.name) (DuplicateConstructor d.at) ++ (noted (nat_lt 12 d.fields) (TooManyFields d.at) ++ noted (int_kind (k.kind d.name)) (ReservedName d.at)))
+      ++ (noted (seen d.name) (DuplicateConstructor d.at)
+      ++ (noted (nat_lt 12 d.fields) (TooManyFields d.at)
+      ++ noted (int_kind (k.kind d.name)) (ReservedName d.at)))
 
   abbrev pub cons_faults : ℕ → (ℕ → Bool) → List Data → List CheckRefusal
   cons_faults i seen [] = []
@@ -88,14 +99,18 @@ module _ (k : Known) where
       noted (i == 4096) (TooManyFunctions f.at)
       ++ (noted (seen f.name) (DuplicateFunction f.at)
       ++ (noted (nat_lt 12 (length f.params)) (TooManyParameters f.at)
-      ++ (noted (is_reserved k f.name) (ReservedName f.at) ++ noted (main_kind (k.kind f.name) && nat_lt 1 (length f.params)) (MainHasParameters f.at))))
+      ++ (noted (is_reserved k f.name) (ReservedName f.at)
+      ++ noted (main_kind (k.kind f.name) && nat_lt 1 (length f.params)) (MainHasParameters f.at))))
 
   abbrev pub body_faults : Scope → Function → List CheckRefusal
-  body_faults s f = binders_faults k (λ x. false) f.params ++ expr_faults k (all_entered k f.params s) f.body
+  body_faults s f =
+      binders_faults k (λ x. false) f.params ++ expr_faults k (all_entered k f.params s) f.body
 
   abbrev pub functions_faults : Scope → ℕ → (ℕ → Bool) → List Function → List CheckRefusal
   functions_faults s i seen [] = []
-  functions_faults s i seen (f ∷ fs) = (header_faults i seen f ++ body_faults s f) ++ functions_faults s (i + 1) (also f.name seen) fs
+  functions_faults s i seen (f ∷ fs) =
+      (header_faults i seen f ++ body_faults s f)
+      ++ functions_faults s (i + 1) (also f.name seen) fs
 
   -- the number of the first function named `main`
   abbrev pub main_at : List Function → Option ℕ
@@ -105,16 +120,20 @@ module _ (k : Known) where
   has_main fs = list_any (λ (f : Function). main_kind (k.kind f.name)) fs
 
   abbrev pub has_nil : List Data → Bool
-  has_nil ds = list_any (λ (d : Data). nil_kind (k.kind d.name) && has_fields (k.fields d.name) 0) ds
+  has_nil ds =
+      list_any (λ (d : Data). nil_kind (k.kind d.name) && has_fields (k.fields d.name) 0) ds
 
   abbrev pub has_cons : List Data → Bool
-  has_cons ds = list_any (λ (d : Data). cons_kind (k.kind d.name) && has_fields (k.fields d.name) 2) ds
+  has_cons ds =
+      list_any (λ (d : Data). cons_kind (k.kind d.name) && has_fields (k.fields d.name) 2) ds
 
   abbrev pub lacks_faults : List Data → List Function → List CheckRefusal
-  lacks_faults ds fs = noted (not (has_main fs)) NoMain ++ noted (not (has_nil ds && has_cons ds)) NoListConstructors
+  lacks_faults ds fs =
+      noted (not (has_main fs)) NoMain ++ noted (not (has_nil ds && has_cons ds)) NoListConstructors
 
 abbrev pub whole_faults : Program → List CheckRefusal
 whole_faults p =
     cons_faults (known_of p) 0 (λ x. false) p.constructors
     ++ (functions_faults (known_of p) [] 0 (λ x. false) p.functions
-    ++ (lacks_faults (known_of p) p.constructors p.functions ++ noted (nat_lt 16384 (program_size p)) (CoreTooLarge (program_size p))))
+    ++ (lacks_faults (known_of p) p.constructors p.functions
+    ++ noted (nat_lt 16384 (program_size p)) (CoreTooLarge (program_size p))))

@@ -72,8 +72,8 @@ fn normal_form(alloc: Global, globals: &Globals, core: &Core) -> Result<Checked,
     Ok(Checked { cons, funs, main })
 }
 
-/// The normal form of a program, or the first rule that it breaks. Want of numbers for locals, functions or constructors counts
-/// as want of memory.
+/// The normal form of a program, or the first rule that it breaks. Want of numbers for locals,
+/// functions or constructors counts as want of memory.
 pub fn check(alloc: Global, core: Core) -> Result<Checked, CheckRefusal>
     requires { IsReadable (program core) }
     ensures unbroken { IfOk result (λ q. IsUnbroken (program core)) }

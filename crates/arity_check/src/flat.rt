@@ -17,7 +17,8 @@ use core_reader::{Atom, Bind};
 use seq::Seq;
 use std::alloc::{AllocError, Global};
 
-/// New bindings, and the number of the next local. Want of numbers for locals counts as want of memory.
+/// New bindings, and the number of the next local. Want of numbers for locals counts as want of
+/// memory.
 #[derive(Drop)]
 pub struct Builder {
     pub news: Seq<Bound>,
@@ -264,7 +265,8 @@ impl Builder {
         }
     }
 
-    /// The members of a let group, each behind the new bindings that it needs; the locals of their binders.
+    /// The members of a let group, each behind the new bindings that it needs; the locals of their
+    /// binders.
     pub fn members(
         &mut self,
         alloc: Global,

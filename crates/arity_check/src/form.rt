@@ -20,7 +20,8 @@ use core_reader::{Alt, App, Bind, Binder, Expr, Function, Pattern};
 use seq::{Seq, Text};
 use std::alloc::{AllocError, Global};
 
-/// The locals in scope, and the number of the next one. Want of numbers for locals counts as want of memory.
+/// The locals in scope, and the number of the next one. Want of numbers for locals counts as want
+/// of memory.
 #[derive(Drop)]
 pub struct Locals {
     pub scope: Scope,
@@ -139,8 +140,9 @@ impl Locals {
         Ok(Body::Let(builder.news, body))
     }
 
-    /// The locals of the binders of a let group. Which they are hangs on the new bindings before each, and these do not hang on
-    /// the numbers of the locals: so the group is built once under other numbers.
+    /// The locals of the binders of a let group. Which they are hangs on the new bindings before
+    /// each, and these do not hang on the numbers of the locals: so the group is built once under
+    /// other numbers.
     fn group_locals(
         &mut self,
         alloc: Global,

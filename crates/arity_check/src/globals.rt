@@ -27,8 +27,8 @@ pub enum Kind {
     Plain,
 }
 
-/// The kind of each name; of each function its number and its number of parameters; of each constructor its number and its
-/// number of fields.
+/// The kind of each name; of each function its number and its number of parameters; of each
+/// constructor its number and its number of fields.
 #[derive(Drop)]
 pub struct Globals {
     pub kinds: Vec<Kind>,
@@ -177,7 +177,8 @@ fn kinds(alloc: Global, names: &[Seq<u8>]) -> Result<Vec<Kind>, AllocError>
     Ok(kinds)
 }
 
-/// The number of each function and its number of parameters, by its name. The first of a name stands.
+/// The number of each function and its number of parameters, by its name. The first of a name
+/// stands.
 fn functions(
     alloc: Global,
     functions: &[Function],
@@ -197,7 +198,8 @@ fn functions(
     Ok(table)
 }
 
-/// The number of each constructor and its number of fields, by its name. The first of a name stands.
+/// The number of each constructor and its number of fields, by its name. The first of a name
+/// stands.
 fn constructors(
     alloc: Global,
     constructors: &[Data],

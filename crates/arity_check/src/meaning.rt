@@ -10,7 +10,8 @@ use crate::normal::PrimOp;
 use crate::scope::Scope;
 use core_reader::NameId;
 
-/// A local with its number, a function with its number and its number of parameters, a primitive, or nothing.
+/// A local with its number, a function with its number and its number of parameters, a primitive,
+/// or nothing.
 #[derive(Clone, Copy, Debug)]
 pub enum Meaning {
     Local(u32),
@@ -19,8 +20,8 @@ pub enum Meaning {
     Unbound,
 }
 
-/// What a name stands for where these locals are in scope. A primitive's name stands for the primitive everywhere, and `_` for
-/// nothing.
+/// What a name stands for where these locals are in scope. A primitive's name stands for the
+/// primitive everywhere, and `_` for nothing.
 pub fn stands_for(globals: &Globals, scope: &Scope, name: NameId) -> Meaning
     ensures { result ≡ meaning (known globals.now) scope.now name.0 }
 {
@@ -31,7 +32,8 @@ pub fn stands_for(globals: &Globals, scope: &Scope, name: NameId) -> Meaning
     }
 }
 
-/// What a name other than `_` and those of the primitives stands for: the innermost local, and else a function.
+/// What a name other than `_` and those of the primitives stands for: the innermost local, and else
+/// a function.
 fn local_or_global(globals: &Globals, scope: &Scope, name: NameId) -> Meaning
     ensures { result ≡ local_meaning (known globals.now) name.0 (local_in scope.now name.0) }
 {

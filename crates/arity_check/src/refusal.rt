@@ -8,7 +8,8 @@ ghost use Rattle.arity_check.specs.Refusal.{rule, place, rank_of, is_before};
 use std::alloc::AllocError;
 use thiserror::Error;
 
-/// The first rule that a program breaks, with the place of its token in bytes or the size of the program, or want of memory.
+/// The first rule that a program breaks, with the place of its token in bytes or the size of the
+/// program, or want of memory.
 #[derive(Clone, Copy, Debug, Error)]
 pub enum CheckRefusal {
     /// Rule 11: a constructor is declared again; its name.
@@ -17,7 +18,8 @@ pub enum CheckRefusal {
     /// Rule 12: a function is declared again; its name.
     #[error("the function at byte {0} is declared again")]
     DuplicateFunction(u32),
-    /// Rule 13: a name other than `_` stands again in one parameter list, pattern or let group; the second one.
+    /// Rule 13: a name other than `_` stands again in one parameter list, pattern or let group; the
+    /// second one.
     #[error("the name at byte {0} is bound again")]
     DuplicateName(u32),
     /// Rule 14: a name, also `_` as an expression, or a constructor is not bound; the use.
@@ -32,10 +34,12 @@ pub enum CheckRefusal {
     /// Rule 17: a case names a constructor or an integer twice; the second alternative.
     #[error("the alternative at byte {0} stands again")]
     DuplicateAlternative(u32),
-    /// Rule 18: a pattern's kind differs from that of the first pattern that is no default; that pattern.
+    /// Rule 18: a pattern's kind differs from that of the first pattern that is no default; that
+    /// pattern.
     #[error("the alternative at byte {0} is of another kind than the first")]
     MixedAlternatives(u32),
-    /// Rule 22: a function or a binder has the name of a primitive, or a constructor is named `Int`; the name.
+    /// Rule 22: a function or a binder has the name of a primitive, or a constructor is named
+    /// `Int`; the name.
     #[error("the name at byte {0} is reserved")]
     ReservedName(u32),
     /// Rule 23: a primitive stands without exactly two arguments; the primitive.
@@ -56,8 +60,8 @@ pub enum CheckRefusal {
     /// Rule 32: there are more than 1,024 constructors; the name of the next one.
     #[error("the constructor at byte {0} is one too many")]
     TooManyConstructors(u32),
-    /// Rule 33: a function has more than 12 parameters, or an application as it is written more than 12 arguments; the
-    /// function's name, or the application's head.
+    /// Rule 33: a function has more than 12 parameters, or an application as it is written more
+    /// than 12 arguments; the function's name, or the application's head.
     #[error("more than 12 parameters or arguments at byte {0}")]
     TooManyParameters(u32),
     /// Rule 34: a constructor has more than 12 fields; its name.

@@ -27,7 +27,8 @@ pub struct Walk {
     pub first: Option<CheckRefusal>,
 }
 
-/// The patterns of a case that were seen: the constructors, the integers, and whether the first of either was a constructor.
+/// The patterns of a case that were seen: the constructors, the integers, and whether the first of
+/// either was a constructor.
 #[derive(Drop)]
 struct SeenPatterns {
     cons: BTreeSet<u32>,
@@ -55,7 +56,8 @@ fn kind_after(first: Option<bool>, is_con: bool) -> Option<bool>
     }
 }
 
-/// The number of arguments of the head in a bracket with so many arguments of its own, where the bracket stands with others.
+/// The number of arguments of the head in a bracket with so many arguments of its own, where the
+/// bracket stands with others.
 fn applied_to(own: usize, outer: usize) -> usize
     ensures { result ≡ (if own == 0 then outer else own) }
 {

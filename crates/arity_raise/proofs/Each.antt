@@ -3,7 +3,7 @@ use Rattle.std.proofs.Common.{◌≡◌, ℕ, zero, suc, ◌+◌, ◌<◌, ◌�
 use Rattle.std.proofs.lemmas.List.{take_more, take_all}
 use Rattle.grin_syntax.proofs.Pieces.{map_push}
 use Rattle.points_to.specs.Held.{In, here, there}
-use Rattle.points_to.proofs.Member.{none_in, one_in, in_split}
+use Rattle.seq.proofs.Member.{none_in, one_in, in_split}
 
 pub record Each (P : ℕ → Type 0) (ns : List ℕ) : Type 0 where
   pub by : (n : ℕ) → In n ns → P n

@@ -10,7 +10,7 @@ use Rattle.grin_meaning.specs.Checks.{is_given}
 use Rattle.grin_meaning.specs.Keeps.{world_of}
 use Rattle.grin_meaning.specs.Looking.{look}
 use Rattle.grin_meaning.specs.Follows.{Every}
-use Rattle.grin_meaning.specs.Ready.{Any, Inlined, EachAct, EachCode, EachArms, IsInlined}
+use Rattle.grin_meaning.specs.Ready.{EachAct, EachCode, EachArms, IsInlined, inlined_kind}
 use Rattle.grin_meaning.proofs.Back.{Back, need_back, looking_back, every_front, every_last, CallsBack, code_by_back, calls_by_back}
 use Rattle.flow_system.specs.declared.fact.Element.TheVariants.{Cell as cell_of}
 use Rattle.flow_system.specs.Tables.{tables}
@@ -168,7 +168,7 @@ module _ (g : Program) (A : Solution) where
     mutual
       unfolding act_by EachAct act_updated
 
-      act_moves : (env : Env) (d : ℕ) (o : Act) (w : World) → Lies g A (state env w) → EachAct Inlined Any Any Any o → Apart (act_updated o) → Moves w (act_by g c looks env d o w)
+      act_moves : (env : Env) (d : ℕ) (o : Act) (w : World) → Lies g A (state env w) → EachAct inlined_kind o → Apart (act_updated o) → Moves w (act_by g c looks env d o w)
       act_moves env d (unit v) w lies l ap' = need_moves (value_of g env v) w _ (λ y e. looking_moves looks _ w _ (λ all. still w))
       act_moves env d (fetch a) w lies l ap' = need_moves (and_then (word_of g env a) place_of) w _ (λ i e. need_moves (slice_get w.cells i) w _ (λ y q all. still w))
       act_moves env d (fetch_word a k) w lies l ap' = need_moves (and_then (word_of g env a) place_of) w _ (λ i e. need_moves (slice_get w.cells i) w _ (λ y q all. still w))
@@ -184,7 +184,7 @@ module _ (g : Program) (A : Solution) where
       act_moves env d (nested b) w lies l ap' = code_moves env d b w lies l.1 ap'
       act_moves env d fail w lies l ap' = λ all. still w
 
-      code_moves : (env : Env) (d : ℕ) (b : Code) (w : World) → Lies g A (state env w) → EachCode Inlined Any Any Any b → Apart (code_updated b) → Moves w (code_by g c looks env d b w)
+      code_moves : (env : Env) (d : ℕ) (b : Code) (w : World) → Lies g A (state env w) → EachCode inlined_kind b → Apart (code_updated b) → Moves w (code_by g c looks env d b w)
       code_moves env d (end o) w lies l ap' = act_moves env d o w lies l ap'
       code_moves env d (store cs b) w lies l ap' = need_moves (cells_of g (with_vars (places (length w.cells) cs) env) cs) w _ (λ hs e. looking_moves looks _ w _
           (chain w (with_cells hs w) (code_by g c looks (with_vars (places (length w.cells) cs) env) d b (passing (with_vars (places (length w.cells) cs) env) (with_cells hs w))) (λ good. record { cells = later_more w.cells hs; seen = good_on w.cells (w.cells ++ hs) (later_more w.cells hs) w.seen good })
@@ -195,7 +195,7 @@ module _ (g : Program) (A : Solution) where
           (λ v w'. looking_moves looks _ w' _ (need_moves (bindings_of g t v) w' _ (λ bs e.
           entering (with_vars bs env) d b w' (λ at. code_moves (with_vars bs env) d b (passing (with_vars bs env) w') at l.2 (apart_back (act_updated o) (code_updated b) ap')))))
 
-      arms_move : (env : Env) (d : ℕ) (v : Value) (as' : Arms) (w : World) → Lies g A (state env w) → EachArms Inlined Any Any Any as' → Apart (arms_updated as') → Moves w (arms_by g c looks env d v as' w)
+      arms_move : (env : Env) (d : ℕ) (v : Value) (as' : Arms) (w : World) → Lies g A (state env w) → EachArms inlined_kind as' → Apart (arms_updated as') → Moves w (arms_by g c looks env d v as' w)
       arms_move env d v no_arm w lies l ap' = λ all. still w
       arms_move env d v (arm s b as') w lies l ap' = choose_moves (fit_of g s v) w _ _
           (λ bs. entering (with_vars bs env) d b w (λ at. code_moves (with_vars bs env) d b (passing (with_vars bs env) w) at l.1 (apart_front (code_updated b) (arms_updated as') ap')))
@@ -227,7 +227,7 @@ module _ (g : Program) (A : Solution) where
           (chain w (spent f d m w) (code_by g (calls_by g looks n) looks env d q.body (passing env (spent f d m w))) (λ good. record { cells = later_self w.cells; seen = good })
           (entering looks (calls_by g looks n) (calls_by_back (Lies g A) g looks n) (calls_move looks n) env d q.body (spent f d m w)
           (λ at. code_moves looks (calls_by g looks n) (calls_by_back (Lies g A) g looks n) (calls_move looks n) env d q.body (passing env (spent f d m w)) at
-          (all_get (λ q. EachCode Inlined Any Any Any q.body) g.procs f q inlined e)
+          (all_get (λ q. EachCode inlined_kind q.body) g.procs f q inlined e)
           (λ s never. updated_at (λ a. StandsFor (tables g) A a (cell_of s) → ⊥) g.procs f q e never)))))));
     }
 

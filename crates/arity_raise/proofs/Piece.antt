@@ -11,7 +11,7 @@ use Rattle.grin_syntax.specs.Tree.{Code, end, store, bind, Act, case, nested, Ar
 use Rattle.grin_syntax.specs.Binders.{target_vars, shape_vars, cell_vars, act_vars, code_vars, arms_vars}
 use Rattle.grin_syntax.specs.Formed.{AllOf}
 use Rattle.grin_meaning.specs.Names.{WordOk, WordsOk, ValOk, CellsOk}
-use Rattle.grin_meaning.specs.Ready.{Any, Inlined, ByWords, EachAct, EachCode, EachArms}
+use Rattle.grin_meaning.specs.Ready.{EachAct, EachCode, EachArms, inlined_kind, by_words_kind}
 use Rattle.flow_system.specs.Inclusions.{Sink, to}
 use Rattle.flow_system.specs.Tables.{tables}
 use Rattle.flow_system.specs.System.{cells_flow, shape_flows, act_flows, code_flows, arms_flow}
@@ -65,22 +65,22 @@ module _ (N : ℕ → Option Raising) where
     pub record PieceAct (k : Sink) (o : Act) : Type 0 where
       pub free : Free (λ y. act_takes y o)
       pub plain : AllOf (Plain base N) (act_vars o)
-      pub inlined : EachAct Inlined Any Any Any o
-      pub by_words : EachAct ByWords Any Any Any o
+      pub inlined : EachAct inlined_kind o
+      pub by_words : EachAct by_words_kind o
       pub met : AllMet (tables g) A (act_flows g k o)
 
     pub record PieceCode (k : Sink) (b : Code) : Type 0 where
       pub free : Free (λ y. code_takes y b)
       pub plain : AllOf (Plain base N) (code_vars b)
-      pub inlined : EachCode Inlined Any Any Any b
-      pub by_words : EachCode ByWords Any Any Any b
+      pub inlined : EachCode inlined_kind b
+      pub by_words : EachCode by_words_kind b
       pub met : AllMet (tables g) A (code_flows g k b)
 
     pub record PieceArms (k : Sink) (v : V.Val) (as' : Arms) : Type 0 where
       pub free : Free (λ y. arms_take y as')
       pub plain : AllOf (Plain base N) (arms_vars as')
-      pub inlined : EachArms Inlined Any Any Any as'
-      pub by_words : EachArms ByWords Any Any Any as'
+      pub inlined : EachArms inlined_kind as'
+      pub by_words : EachArms by_words_kind as'
       pub met : AllMet (tables g) A (arms_flow g k v as')
 
     pub of_nested : (k : Sink) (b : Code) → PieceAct k (nested b) → PieceCode k b

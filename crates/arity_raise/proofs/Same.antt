@@ -3,14 +3,14 @@ use Rattle.std.proofs.Common.{◌≡◌, ℕ, zero, suc, ◌+◌, ◌<◌, ◌�
 use Rattle.grin_syntax.specs.declared.program.VarId.{VarId}
 use Rattle.grin_syntax.specs.Tree.{Procedure, Program}
 use Rattle.grin_syntax.specs.Binders.{times, numbers_of, code_vars, procs_vars}
-use Rattle.grin_syntax.specs.Formed.{AllOf, InScope}
+use Rattle.grin_syntax.specs.Formed.{InScope}
 use Rattle.grin_syntax.specs.Fresh.{past_vars, past_code, past_procs}
 use Rattle.grin_syntax.proofs.Counted.{times_append}
 use Rattle.grin_syntax.proofs.Unbound.{past_vars_none, past_code_none}
 use Rattle.grin_meaning.specs.Values.{Datum, Value, HeapCell, Binding, with_vars, one_each}
 use Rattle.grin_meaning.specs.Run.{Calls, start_words}
 use Rattle.grin_meaning.specs.Checks.{is_given}
-use Rattle.grin_meaning.specs.Ready.{Any, Inlined, ByWords, EachCode, IsFetchedByWords}
+use Rattle.grin_meaning.specs.Ready.{EachCode, IsFetchedByWords, EachBody, inlined_kind, by_words_kind}
 use Rattle.grin_meaning.specs.Keeps.{world_of, Keeps}
 use Rattle.grin_meaning.specs.Looking.{look, NeverMissed}
 use Rattle.grin_meaning.specs.Follows.{Same, same, Every}
@@ -99,8 +99,8 @@ module _ (g : Program) (A : Solution) (D : List Decisions) (n : ℕ) (of : OfVec
   record Rest (f : ℕ) (qs : List Procedure) (dss : List Decisions) : Type 0 where
     pub so : AllDecided A g f qs dss
     pub at : (j : ℕ) → slice_get D (f + j) ≡ slice_get dss j
-    pub inlined : AllOf (λ q. EachCode Inlined Any Any Any q.body) qs
-    pub by_words : AllOf (λ q. EachCode ByWords Any Any Any q.body) qs
+    pub inlined : EachBody inlined_kind qs
+    pub by_words : EachBody by_words_kind qs
     pub once : (y : ℕ) → times y (procs_vars qs) ≤ 1
     pub past : past_procs qs ≤ first
     pub met : AllMet (tables g) A (procs_flow g f qs)
@@ -109,7 +109,7 @@ module _ (g : Program) (A : Solution) (D : List Decisions) (n : ℕ) (of : OfVec
     given_too : {v v' : Value} → Same v v' → Seen true (is_given g v) → Seen true (is_given g v') × Same v v'
     given_too (same {a = v}) s = (s, same)
 
-    body_follows : (f m : ℕ) (q : Procedure) (ds : Decisions) → n ≤ m → slice_get D f ≡ Some ds → AllRaisable g A q q.params ds → EachCode Inlined Any Any Any q.body → EachCode ByWords Any Any Any q.body
+    body_follows : (f m : ℕ) (q : Procedure) (ds : Decisions) → n ≤ m → slice_get D f ≡ Some ds → AllRaisable g A q q.params ds → EachCode inlined_kind q.body → EachCode by_words_kind q.body
         → ((y : ℕ) → times y (numbers_of q.params) + times y (code_vars q.body) ≤ 1) → past_vars q.params ≤ first → past_code q.body ≤ first → AllMet (tables g) A (code_flows g (into_result f) q.body)
         → BodyFollows (it g A D n F c c' cb cf) f q (raised_procedure D m ds q)
     body_follows f m q ds le at ra iq bq once pq pb met = record {

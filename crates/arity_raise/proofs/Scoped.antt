@@ -15,7 +15,7 @@ use Rattle.grin_syntax.specs.Formed.{AllOf, Scope, InScope, with_words, with_tar
 use Rattle.grin_syntax.specs.Fresh.{variable, variables}
 use Rattle.grin_syntax.proofs.Counted.{times_append, counts, one_at}
 use Rattle.grin_syntax.proofs.Scopes.{Within, within_self, within_chain, within_words, still_in, with_procs, known_again, word_stays, words_stay, shape_stays}
-use Rattle.grin_meaning.specs.Ready.{Any, ByWords, EachAct, EachCode, EachArms}
+use Rattle.grin_meaning.specs.Ready.{EachAct, EachCode, EachArms, by_words_kind}
 use Rattle.pass_ground.specs.Uses.{word_is, words_use, val_uses, cells_use, act_takes, code_takes, arms_take, act_mentions}
 use Rattle.arity_raise.specs.Raising.{Raising, Decisions, raised_param, raised_params, decided, word_at, fetched_of, fetched, new_of, field_fetches, fetches_for, argument_for, arguments_for, decisions_at, new_before, fetches_before, new_act, new_code, raised_act, raised_code, raised_arms}
 use Rattle.pass_ground.proofs.Tests.{no_left, no_right, equal_self, all_both}
@@ -219,7 +219,7 @@ module _ (g : Program) (procs : List Procedure) (same_count : length procs ≡ l
     mutual
       unfolding raised_act ActFormed EachAct act_mentions new_act
 
-      act_formed : (o : Act) (n : ℕ) (s s' : Scope) → Fits N s s' → EachAct ByWords Any Any Any o → Spared N (λ y. act_takes y o) → ActFormed g s o → Made n o s'
+      act_formed : (o : Act) (n : ℕ) (s s' : Scope) → Fits N s s' → EachAct by_words_kind o → Spared N (λ y. act_takes y o) → ActFormed g s o → Made n o s'
       act_formed (unit v) n s s' x e p h = λ c k. k s' (within_self s') (val_formed s s' x v p h)
       act_formed (fetch a) n s s' x e p h = absurd e
       act_formed (fetch_word a i) n s s' x e p h = λ c k. k s' (within_self s') (fetched_formed s s' x a i h)
@@ -246,7 +246,7 @@ module _ (g : Program) (procs : List Procedure) (same_count : length procs ≡ l
       act_formed (nested b) n s s' x e p h = λ c k. k s' (within_self s') (code_formed b n s s' x e.1 p h)
       act_formed fail n s s' x e p h = λ c k. k s' (within_self s') tt
 
-      pub code_formed : (b : Code) (n : ℕ) (s s' : Scope) → Fits N s s' → EachCode ByWords Any Any Any b → Spared N (λ y. code_takes y b) → CodeFormed g s b → CodeFormed after s' (raised_code D N n b)
+      pub code_formed : (b : Code) (n : ℕ) (s s' : Scope) → Fits N s s' → EachCode by_words_kind b → Spared N (λ y. code_takes y b) → CodeFormed g s b → CodeFormed after s' (raised_code D N n b)
       code_formed (end o) n s s' x e p h = act_formed o n s s' x e p h (end (raised_act D N n o)) (λ s2 w k. k)
       code_formed (store cs b) n s s' x e p h =
           let y : Fits N (with_words (cell_vars cs) s) (with_words (cell_vars cs) s') = fits_words N (cell_vars cs) s s' x in (
@@ -257,7 +257,7 @@ module _ (g : Program) (procs : List Procedure) (same_count : length procs ≡ l
           (bind t (raised_act D N n o) (raised_code D N (n + (new_before D o + new_act D o)) b))
           (λ s2 w k. (k, code_formed b (n + (new_before D o + new_act D o)) (with_target t s) (with_target t s2) (fits_target N t s s2 (fits_within N s s' s2 x w)) e.2 (right_spared N (λ z. act_takes z o) (λ z. code_takes z b) p) h.1))
 
-      arms_formed : (as' : Arms) (n : ℕ) (s s' : Scope) → Fits N s s' → EachArms ByWords Any Any Any as' → Spared N (λ y. arms_take y as') → ArmsFormed g s as' → ArmsFormed after s' (raised_arms D N n as')
+      arms_formed : (as' : Arms) (n : ℕ) (s s' : Scope) → Fits N s s' → EachArms by_words_kind as' → Spared N (λ y. arms_take y as') → ArmsFormed g s as' → ArmsFormed after s' (raised_arms D N n as')
       arms_formed no_arm n s s' x e p h = tt
       arms_formed (arm t b as') n s s' x e p h = (
         shape_stays g procs same_count t h.0,

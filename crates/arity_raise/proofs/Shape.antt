@@ -9,31 +9,31 @@ use Rattle.grin_syntax.specs.declared.program.Val.TheVariants.{One}
 use Rattle.grin_syntax.specs.declared.program.Target as T
 use Rattle.grin_syntax.specs.declared.program.Target.TheVariants as to
 use Rattle.grin_syntax.specs.Tree.{Code, end, store, bind, Act, unit, fetch, fetch_word, update, eval, apply, call, prim, read, write, case, nested, fail, Arms, no_arm, arm, Procedure}
-use Rattle.grin_syntax.specs.Binders.{target_vars, act_sites, code_sites, arms_sites, procs_sites}
+use Rattle.grin_syntax.specs.Binders.{act_sites, code_sites, arms_sites, procs_sites}
 use Rattle.grin_syntax.specs.Formed.{AllOf}
 use Rattle.grin_syntax.specs.SameOutside.{names_of}
-use Rattle.grin_meaning.specs.Ready.{Any, Inlined, ByWords, NoNodeTarget, NoNodeVar, BindsNothing, EachAct, EachCode, EachArms, NarrowAct, NarrowCode, NarrowArms}
+use Rattle.grin_meaning.specs.Ready.{EachAct, EachCode, EachArms, NarrowAct, NarrowCode, NarrowArms, Kind, EachBody, inlined_kind, by_words_kind, vectorised_kind, narrow_kind}
 use Rattle.pass_ground.specs.OpenUpdates.{act_sum, code_sum, arms_sum, procs_sum}
 use Rattle.arity_raise.specs.Raising.{Raising, Decisions, decided, fetched_of, fetched, new_of, field_fetches, fetches_for, decisions_at, new_before, fetches_before, new_act, new_code, raised_act, raised_code, raised_arms, raised_procs}
 
 -- what is asked of an operation doesn't look into its blocks and the words of a call, and a fetch of a
 -- word, a unit of a word and a target of one variable meet it
-pub record Blind (OpOk : Act → Type 0) (TargetOk : T.Target → Type 0) (ValOk : V.Val → Type 0) : Type 0 where
-  pub cases : (v : V.Val) (as' bs : Arms) → OpOk (case v as') → OpOk (case v bs)
-  pub blocks : (b c : Code) → OpOk (nested b) → OpOk (nested c)
-  pub calls : (f : ProcId) (ws vs : List W.Word) → OpOk (call f ws) → OpOk (call f vs)
-  pub words : (a : W.Word) (i : ℕ) → OpOk (fetch_word a i)
-  pub units : (a : W.Word) → OpOk (unit (One a))
-  pub one : (x : VarId) → TargetOk (to.One x)
-  pub word : (a : W.Word) → ValOk (One a)
+pub record Blind (K : Kind) : Type 0 where
+  pub cases : (v : V.Val) (as' bs : Arms) → K.operation (case v as') → K.operation (case v bs)
+  pub blocks : (b c : Code) → K.operation (nested b) → K.operation (nested c)
+  pub calls : (f : ProcId) (ws vs : List W.Word) → K.operation (call f ws) → K.operation (call f vs)
+  pub words : (a : W.Word) (i : ℕ) → K.operation (fetch_word a i)
+  pub units : (a : W.Word) → K.operation (unit (One a))
+  pub one : (x : VarId) → K.target (to.One x)
+  pub word : (a : W.Word) → K.value (One a)
 
 module _ (D : List Decisions) where
-  module _ (OpOk : Act → Type 0) (TargetOk : T.Target → Type 0) (ValOk : V.Val → Type 0) (ShapeOk : List ℕ → Type 0) (ok : Blind OpOk TargetOk ValOk) where
+  module _ (K : Kind) (ok : Blind K) where
     abbrev Acts : Act → Type 0
-    Acts = EachAct OpOk TargetOk ValOk ShapeOk
+    Acts = EachAct K
 
     abbrev Codes : Code → Type 0
-    Codes = EachCode OpOk TargetOk ValOk ShapeOk
+    Codes = EachCode K
 
     fields_each : (a : W.Word) (n i k : ℕ) (c : Code) → Codes c → Codes (field_fetches a n i k c)
     unfolding EachAct
@@ -84,7 +84,7 @@ module _ (D : List Decisions) where
         code_each (store cs b) n h = (h.0, code_each b n h.1)
         code_each (bind t o b) n h = before_each n o (bind t (raised_act D N n o) (raised_code D N (n + (new_before D o + new_act D o)) b)) (h.0, act_each o n h.1, code_each b (n + (new_before D o + new_act D o)) h.2)
 
-        arms_each : (as' : Arms) (n : ℕ) → EachArms OpOk TargetOk ValOk ShapeOk as' → EachArms OpOk TargetOk ValOk ShapeOk (raised_arms D N n as')
+        arms_each : (as' : Arms) (n : ℕ) → EachArms K as' → EachArms K (raised_arms D N n as')
         arms_each no_arm n h = tt
         arms_each (arm s b as') n h = (h.0, code_each b n h.1, arms_each as' (n + new_code D b) h.2)
 
@@ -93,19 +93,19 @@ module _ (D : List Decisions) where
     procs_each (ds ∷ dss) [] n h = tt
     procs_each (ds ∷ dss) (q ∷ qs) n h = (code_each (decided ds q.params) q.body n h.0, procs_each dss qs (n + new_code D q.body) h.1)
 
-  pub procs_inlined : (dss : List Decisions) (qs : List Procedure) (n : ℕ) → AllOf (λ q. EachCode Inlined Any Any Any q.body) qs → AllOf (λ q. EachCode Inlined Any Any Any q.body) (raised_procs D n dss qs)
-  procs_inlined = procs_each Inlined Any Any Any (record { cases = λ v as' bs h. tt; blocks = λ b c h. tt; calls = λ f ws vs h. tt; words = λ a i. tt; units = λ a. tt; one = λ x. tt; word = λ a. tt })
+  pub procs_inlined : (dss : List Decisions) (qs : List Procedure) (n : ℕ) → EachBody inlined_kind qs → EachBody inlined_kind (raised_procs D n dss qs)
+  procs_inlined = procs_each inlined_kind (record { cases = λ v as' bs h. tt; blocks = λ b c h. tt; calls = λ f ws vs h. tt; words = λ a i. tt; units = λ a. tt; one = λ x. tt; word = λ a. tt })
 
-  pub procs_vectorised : (dss : List Decisions) (qs : List Procedure) (n : ℕ) → AllOf (λ q. EachCode Any NoNodeTarget NoNodeVar BindsNothing q.body) qs
-      → AllOf (λ q. EachCode Any NoNodeTarget NoNodeVar BindsNothing q.body) (raised_procs D n dss qs)
-  procs_vectorised = procs_each Any NoNodeTarget NoNodeVar BindsNothing (record { cases = λ v as' bs h. tt; blocks = λ b c h. tt; calls = λ f ws vs h. tt; words = λ a i. tt; units = λ a. tt; one = λ x. tt; word = λ a. tt })
+  pub procs_vectorised : (dss : List Decisions) (qs : List Procedure) (n : ℕ) → EachBody vectorised_kind qs
+      → EachBody vectorised_kind (raised_procs D n dss qs)
+  procs_vectorised = procs_each vectorised_kind (record { cases = λ v as' bs h. tt; blocks = λ b c h. tt; calls = λ f ws vs h. tt; words = λ a i. tt; units = λ a. tt; one = λ x. tt; word = λ a. tt })
 
-  pub procs_by_words : (dss : List Decisions) (qs : List Procedure) (n : ℕ) → AllOf (λ q. EachCode ByWords Any Any Any q.body) qs → AllOf (λ q. EachCode ByWords Any Any Any q.body) (raised_procs D n dss qs)
-  procs_by_words = procs_each ByWords Any Any Any (record { cases = λ v as' bs h. tt; blocks = λ b c h. tt; calls = λ f ws vs h. tt; words = λ a i. tt; units = λ a. tt; one = λ x. tt; word = λ a. tt })
+  pub procs_by_words : (dss : List Decisions) (qs : List Procedure) (n : ℕ) → EachBody by_words_kind qs → EachBody by_words_kind (raised_procs D n dss qs)
+  procs_by_words = procs_each by_words_kind (record { cases = λ v as' bs h. tt; blocks = λ b c h. tt; calls = λ f ws vs h. tt; words = λ a i. tt; units = λ a. tt; one = λ x. tt; word = λ a. tt })
 
-  pub procs_narrow : (most : ℕ) → 1 ≤ most → (dss : List Decisions) (qs : List Procedure) (n : ℕ) → AllOf (λ q. EachCode Any (λ t. length (target_vars t) ≤ most) Any Any q.body) qs
-      → AllOf (λ q. EachCode Any (λ t. length (target_vars t) ≤ most) Any Any q.body) (raised_procs D n dss qs)
-  procs_narrow most le = procs_each Any (λ t. length (target_vars t) ≤ most) Any Any (record { cases = λ v as' bs h. tt; blocks = λ b c h. tt; calls = λ f ws vs h. tt; words = λ a i. tt; units = λ a. tt; one = λ x. le; word = λ a. tt })
+  pub procs_narrow : (most : ℕ) → 1 ≤ most → (dss : List Decisions) (qs : List Procedure) (n : ℕ) → EachBody (narrow_kind most) qs
+      → EachBody (narrow_kind most) (raised_procs D n dss qs)
+  procs_narrow most le = procs_each (narrow_kind most) (record { cases = λ v as' bs h. tt; blocks = λ b c h. tt; calls = λ f ws vs h. tt; words = λ a i. tt; units = λ a. tt; one = λ x. le; word = λ a. tt })
 
   -- ---- how many words are given
 

@@ -31,7 +31,7 @@ use Rattle.flow_system.specs.Tables.{tables}
 use Rattle.flow_system.specs.Solution.{Solution, At, StandsFor, variable, global}
 use Rattle.points_to.specs.Held.{In, here, there}
 use Rattle.points_to.specs.Joined.{Joined}
-use Rattle.points_to.proofs.Member.{none_in, cons_in, one_in, in_split, in_left, in_right}
+use Rattle.seq.proofs.Member.{none_in, cons_in, one_in, in_split, in_left, in_right}
 use Rattle.arity_raise.specs.UpdatedCells.{act_updated, code_updated, arms_updated, updated_of}
 use Rattle.arity_raise.specs.Raisable.{NeverUpdated}
 use Rattle.arity_raise.specs.Fixed.{SitesJoin, UpdatedSites}

@@ -4,7 +4,7 @@ use Rattle.grin_syntax.specs.Tree.{Procedure, Program}
 use Rattle.grin_syntax.specs.Formed.{AllOf, params_scope, ProcedureFormed, Formed, argument_words}
 use Rattle.grin_syntax.specs.SameOutside.{SameOutside}
 use Rattle.grin_syntax.proofs.Scopes.{with_procs, same_sites, formed_with}
-use Rattle.grin_meaning.specs.Ready.{Any, ByWords, EachCode, IsFetchedByWords}
+use Rattle.grin_meaning.specs.Ready.{IsFetchedByWords, EachBody, by_words_kind}
 use Rattle.flow_system.specs.Solution.{Solution}
 use Rattle.arity_raise.specs.Raising.{Decisions, decided, new_code, raised_procedure, raised_procs, raised}
 use Rattle.arity_raise.specs.Decided.{AllDecided, IsDecided}
@@ -15,7 +15,7 @@ use Rattle.arity_raise.proofs.Choices.{raisable, tag_there, start_of}
 
 module _ (A : Solution) (g : Program) (D : List Decisions) where
   module _ (procs : List Procedure) (same_count : length procs ≡ length g.procs) where
-    bodies_formed : (dss : List Decisions) (qs : List Procedure) (n f : ℕ) → AllDecided A g f qs dss → AllOf (λ q. EachCode ByWords Any Any Any q.body) qs → AllOf (ProcedureFormed g) qs
+    bodies_formed : (dss : List Decisions) (qs : List Procedure) (n f : ℕ) → AllDecided A g f qs dss → EachBody by_words_kind qs → AllOf (ProcedureFormed g) qs
         → AllOf (ProcedureFormed (with_procs g procs same_count)) (raised_procs D n dss qs)
     bodies_formed [] [] n f d e h = tt
     bodies_formed [] (q ∷ qs) n f d e h = absurd d

@@ -75,7 +75,8 @@ fn put_argument(
     Ok(())
 }
 
-/// The arguments of a call, by what is decided of the parameters; the fields of cells are fetched before it.
+/// The arguments of a call, by what is decided of the parameters; the fields of cells are fetched
+/// before it.
 pub(crate) fn arguments(
     alloc: Global,
     fresh: &mut Fresh,

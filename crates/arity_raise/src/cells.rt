@@ -128,7 +128,8 @@ impl Known<'_> {
         }
     }
 
-    /// The one tag of the cells that a variable stands for, where it is one of values, and nothing updates these cells.
+    /// The one tag of the cells that a variable stands for, where it is one of values, and nothing
+    /// updates these cells.
     pub(crate) fn node_of(&self, x: VarId) -> Option<Node>
         ensures { MatchOption result ((t k : ℕ)
             → Fixed (found self.now.flow.now) (program_of self.now.g.now) x.0 t k

@@ -21,7 +21,8 @@ use std::alloc::{AllocError, Global};
 /// What is decided of each parameter of a procedure: whether it stays, or what stands in its place.
 pub(crate) type Decisions = Seq<Option<Raising>>;
 
-/// What is decided of the parameters of each procedure, and a supply of variables past the new parameters.
+/// What is decided of the parameters of each procedure, and a supply of variables past the new
+/// parameters.
 #[derive(Drop)]
 pub(crate) struct Planned {
     pub procs: Seq<Decisions>,
@@ -172,7 +173,8 @@ fn next_number(f: u32) -> Result<u32, AllocError>
     f.checked_add(1).ok_or(AllocError)
 }
 
-/// What is decided of the parameters of each procedure. Running out of procedure numbers counts as want of memory.
+/// What is decided of the parameters of each procedure. Running out of procedure numbers counts as
+/// want of memory.
 pub(crate) fn plan(alloc: Global, g: &Grin, flow: &Flow) -> Result<Planned, AllocError>
     ensures decided { IfOk result (λ p.
         IsDecided (found flow.now) (program_of g.now) p.procs p.fresh.next) }

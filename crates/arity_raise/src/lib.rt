@@ -1,4 +1,5 @@
-//! A pass: a parameter that stands for a cell whose node never changes is replaced by the fields of the node.
+//! A pass: a parameter that stands for a cell whose node never changes is replaced by the fields of
+//! the node.
 #![tactic(auto)]
 
 mod blocks;

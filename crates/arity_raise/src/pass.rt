@@ -19,10 +19,11 @@ use least_flow::least;
 use seq::Seq;
 use std::alloc::{AllocError, Global};
 
-/// A parameter that is used as the cell of fetches alone, and whose cells have exactly one tag, one of values, by the least
-/// solution of the program's own flow system, and are never updated, is replaced by the fields of its cell. A caller fetches
-/// them before the call. Parameters are looked at from the left; none is replaced where that would leave more than sixteen,
-/// and the start keeps its parameters.
+/// A parameter that is used as the cell of fetches alone, and whose cells have exactly one tag, one
+/// of values, by the least solution of the program's own flow system, and are never updated, is
+/// replaced by the fields of its cell. A caller fetches them before the call. Parameters are looked
+/// at from the left; none is replaced where that would leave more than sixteen, and the start keeps
+/// its parameters.
 pub struct Raise;
 
 impl Pass for Raise {
@@ -46,7 +47,8 @@ pub fn with_raised_params(alloc: Global, g: Grin) -> Result<Grin, AllocError>
     Ok(h)
 }
 
-// A procedure with its parameters raised, where this is decided of those of all procedures, and of its own.
+// A procedure with its parameters raised, where this is decided of those of all procedures, and of
+// its own.
 fn raised_proc(
     alloc: Global,
     fresh: &mut Fresh,

@@ -4,11 +4,11 @@ use Rattle.std.proofs.lemmas.List.{length-map}
 use Rattle.std.proofs.lemmas.Option.{slice_get-map}
 use Rattle.std.specs.Option.{option_map}
 use Rattle.grin_syntax.specs.Tree.{Procedure, Program}
-use Rattle.grin_syntax.specs.Binders.{times, procs_vars, procs_sites, program_sites, target_vars}
+use Rattle.grin_syntax.specs.Binders.{times, procs_vars, procs_sites, program_sites}
 use Rattle.grin_syntax.specs.Formed.{Formed}
 use Rattle.grin_syntax.proofs.Counted.{times_append}
 use Rattle.grin_syntax.proofs.Scopes.{with_procs, formed_with}
-use Rattle.grin_meaning.specs.Ready.{Any, Inlined, ByWords, NoNodeTarget, NoNodeVar, BindsNothing, Ready, IsVectorised, most_value_fields}
+use Rattle.grin_meaning.specs.Ready.{Ready, IsVectorised, most_value_fields, inlined_kind, by_words_kind, vectorised_kind, narrow_kind}
 use Rattle.grin_meaning.specs.Keeps.{Keeps}
 use Rattle.grin_meaning.specs.Looking.{NeverMissed}
 use Rattle.grin_meaning.proofs.Looked.{looking_law}
@@ -51,12 +51,12 @@ module _ (g : Program) (formed : Formed g) (ready : Ready g) (vectorised : IsVec
 
   simplified_ready : Ready (simplified g)
   simplified_ready = record {
-    inlined = procs_each Inlined Any Any Any (λ b. tt) (λ v as'. tt) tt g.procs ready.inlined;
+    inlined = procs_each inlined_kind (λ b. tt) (λ v as'. tt) tt g.procs ready.inlined;
     few_params = procs_params 16 g.procs ready.few_params;
     few_results = procs_narrow (1 + most_value_fields g.tags) 13 g.procs ready.few_results;
     few_fields = ready.few_fields;
-    never_missing = (looking_law (simplified g) (procs_each Inlined Any Any Any (λ b. tt) (λ v as'. tt) tt g.procs ready.inlined)).never_missing kept.0;
-    runs = (looking_law (simplified g) (procs_each Inlined Any Any Any (λ b. tt) (λ v as'. tt) tt g.procs ready.inlined)).runs_well kept.0;
+    never_missing = (looking_law (simplified g) (procs_each inlined_kind (λ b. tt) (λ v as'. tt) tt g.procs ready.inlined)).never_missing kept.0;
+    runs = (looking_law (simplified g) (procs_each inlined_kind (λ b. tt) (λ v as'. tt) tt g.procs ready.inlined)).runs_well kept.0;
   }
 
   pub simplified_simple : Simplified g (simplified g)
@@ -65,11 +65,11 @@ module _ (g : Program) (formed : Formed g) (ready : Ready g) (vectorised : IsVec
       of_vectors = record {
         formed = simplified_formed;
         ready = simplified_ready;
-        vectorised = procs_each Any NoNodeTarget NoNodeVar BindsNothing (λ b. tt) (λ v as'. tt) tt g.procs vectorised;
+        vectorised = procs_each vectorised_kind (λ b. tt) (λ v as'. tt) tt g.procs vectorised;
       };
       outside = record { same_tags = refl; same_globals = refl; same_start = refl; same_argument = refl; same_names = names_stay g.procs };
-      narrow = λ most. procs_each Any (λ t. length (target_vars t) ≤ most) Any Any (λ b. tt) (λ v as'. tt) tt g.procs;
-      by_words = procs_each ByWords Any Any Any (λ b. tt) (λ v as'. tt) tt g.procs;
+      narrow = λ most. procs_each (narrow_kind most) (λ b. tt) (λ v as'. tt) tt g.procs;
+      by_words = procs_each by_words_kind (λ b. tt) (λ v as'. tt) tt g.procs;
     };
     simple = procs_simple g.procs;
   }

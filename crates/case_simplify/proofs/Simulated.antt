@@ -11,7 +11,7 @@ use Rattle.grin_syntax.proofs.Counted.{times_append}
 use Rattle.grin_meaning.specs.Values.{Datum, Value, Env, HeapCell, Binding, with_vars, one_each, bindings_of}
 use Rattle.grin_meaning.specs.Run.{Calls, places, cells_of}
 use Rattle.grin_meaning.specs.Checks.{has_block, is_fetch, is_node_target, not_delayed, is_given, all_fill, is_bound_well}
-use Rattle.grin_meaning.specs.Ready.{EachAct, EachCode, EachArms, Any as Whichever, NoNodeTarget, NoNodeVar, BindsNothing, IsVectorised}
+use Rattle.grin_meaning.specs.Ready.{EachAct, EachCode, EachArms, NoNodeTarget, IsVectorised, EachBody, vectorised_kind}
 use Rattle.grin_meaning.specs.Rewritten.{rewritten_procedure}
 use Rattle.grin_meaning.specs.Keeps.{Keeps}
 use Rattle.grin_meaning.specs.Looking.{look, NeverMissed}
@@ -82,20 +82,20 @@ module _ (g : Program) (vectorised : IsVectorised g) (procs : List Procedure) wh
     record GoodAct (facts : Facts) (scope : Scope) (o : Act) : Type 0 where
       inside_act : Inside facts scope
       formed_act : ActFormed g scope o
-      vector_act : EachAct Whichever NoNodeTarget NoNodeVar BindsNothing o
+      vector_act : EachAct vectorised_kind o
       once_act : Once scope (act_vars o)
 
     record GoodCode (facts : Facts) (scope : Scope) (b : Code) : Type 0 where
       inside_code : Inside facts scope
       formed_code : CodeFormed g scope b
-      vector_code : EachCode Whichever NoNodeTarget NoNodeVar BindsNothing b
+      vector_code : EachCode vectorised_kind b
       once_code : Once scope (code_vars b)
 
     record GoodArms (facts : Facts) (scope : Scope) (v : Val) (as' : Arms) : Type 0 where
       inside_arms : Inside facts scope
       formed_val : ValFormed g scope v
       formed_arms : ArmsFormed g scope as'
-      vector_arms : EachArms Whichever NoNodeTarget NoNodeVar BindsNothing as'
+      vector_arms : EachArms vectorised_kind as'
       once_arms : Once scope (arms_vars as')
 
     same_cells : {w : _} (b : Beside no_deeper w) → b.cells ≡ w.cells
@@ -204,7 +204,7 @@ module _ (g : Program) (vectorised : IsVectorised g) (procs : List Procedure) wh
     nothing_inside : (scope : Scope) → Inside nothing_known scope
     nothing_inside scope y k e = none_is_some e
 
-    body_goes : (f : ℕ) (q : Procedure) → ProcedureFormed g q → EachCode Whichever NoNodeTarget NoNodeVar BindsNothing q.body → ((y : ℕ) → times y (numbers_of q.params ++ code_vars q.body) ≤ 1) → BodyFollows st f q (rewritten_procedure (simple_code nothing_known) q)
+    body_goes : (f : ℕ) (q : Procedure) → ProcedureFormed g q → EachCode vectorised_kind q.body → ((y : ℕ) → times y (numbers_of q.params ++ code_vars q.body) ≤ 1) → BodyFollows st f q (rewritten_procedure (simple_code nothing_known) q)
     body_goes f q fq vq once = record {
       R = Knowing g nothing_known;
       V = Same;
@@ -221,7 +221,7 @@ module _ (g : Program) (vectorised : IsVectorised g) (procs : List Procedure) wh
         given_too : {v v' : Value} → Same v v' → Seen true (is_given g v) → Seen true (is_given g v') × Same v v'
         given_too same seen = (seen, same)
 
-    bodies_go : (f : ℕ) (qs : List Procedure) → AllOf (ProcedureFormed g) qs → AllOf (λ q. EachCode Whichever NoNodeTarget NoNodeVar BindsNothing q.body) qs → ((y : ℕ) → times y (procs_vars qs) ≤ 1) → BodiesFollow st f qs (map (rewritten_procedure (simple_code nothing_known)) qs)
+    bodies_go : (f : ℕ) (qs : List Procedure) → AllOf (ProcedureFormed g) qs → EachBody vectorised_kind qs → ((y : ℕ) → times y (procs_vars qs) ≤ 1) → BodiesFollow st f qs (map (rewritten_procedure (simple_code nothing_known)) qs)
     bodies_go f [] fq vq once = no_more
     bodies_go f (q ∷ qs) fq vq once = one_more {f = f} {q = q} {r = rewritten_procedure (simple_code nothing_known) q} (body_goes f q fq.0 vq.0 (λ y. (first y (once y)))) (bodies_go (suc f) qs fq.1 vq.1 (λ y. later y (once y)))
       where

@@ -9,7 +9,7 @@ use Rattle.grin_syntax.specs.Formed.{AllOf, Scope, with_words, with_target, para
 use Rattle.grin_syntax.specs.SameOutside.{names_of}
 use Rattle.grin_syntax.proofs.Counted.{times_append}
 use Rattle.grin_syntax.proofs.Scopes.{with_procs, known_again}
-use Rattle.grin_meaning.specs.Ready.{EachAct, EachCode, EachArms, Any, NoNodeTarget, NoNodeVar, BindsNothing, NarrowAct, NarrowCode, NarrowArms}
+use Rattle.grin_meaning.specs.Ready.{EachAct, EachCode, EachArms, NarrowAct, NarrowCode, NarrowArms, Kind, EachBody, vectorised_kind}
 use Rattle.grin_meaning.specs.Rewritten.{rewritten_procedure}
 use Rattle.case_simplify.specs.Known.{Facts, nothing_known, noted}
 use Rattle.case_simplify.specs.Simple.{as_act, simple_act, simple_code, simple_arms}
@@ -134,29 +134,29 @@ module _ (y : ℕ) where
 
 -- ---- each operation
 
-module _ (OpOk : Act → Type 0) (TargetOk : T.Target → Type 0) (ValOk : Val → Type 0) (ShapeOk : List ℕ → Type 0)
-    (of_nested : (b : Code) → OpOk (nested b)) (of_case : (v : Val) (as' : Arms) → OpOk (case v as')) (of_fail : OpOk fail) where
-  each_block : (b : Code) → EachCode OpOk TargetOk ValOk ShapeOk b → EachAct OpOk TargetOk ValOk ShapeOk (as_act b)
+module _ (K : Kind)
+    (of_nested : (b : Code) → K.operation (nested b)) (of_case : (v : Val) (as' : Arms) → K.operation (case v as')) (of_fail : K.operation fail) where
+  each_block : (b : Code) → EachCode K b → EachAct K (as_act b)
   unfolding EachAct
   each_block (end o) h = h
   each_block (store cs b) h = (of_nested (store cs b), h)
   each_block (bind t o b) h = (of_nested (bind t o b), h)
 
-  each_fail : EachCode OpOk TargetOk ValOk ShapeOk (end fail)
+  each_fail : EachCode K (end fail)
   unfolding EachAct
   each_fail = of_fail
 
-  each_split : (s : Shape) (b : Code) (as' : Arms) → EachArms OpOk TargetOk ValOk ShapeOk (arm s b as') → EachCode OpOk TargetOk ValOk ShapeOk b × EachArms OpOk TargetOk ValOk ShapeOk as'
+  each_split : (s : Shape) (b : Code) (as' : Arms) → EachArms K (arm s b as') → EachCode K b × EachArms K as'
   unfolding EachAct
   each_split s b as' h = (h.1, h.2)
 
   mutual
     unfolding simple_act EachAct
 
-    act_each : (o : Act) (facts : Facts) → EachAct OpOk TargetOk ValOk ShapeOk o → EachAct OpOk TargetOk ValOk ShapeOk (simple_act facts o)
+    act_each : (o : Act) (facts : Facts) → EachAct K o → EachAct K (simple_act facts o)
     act_each (case v as') facts h =
-        let k : EachArms OpOk TargetOk ValOk ShapeOk (simple_arms facts v as') = arms_each v as' facts h.2 in
-        case_has (EachAct OpOk TargetOk ValOk ShapeOk) (EachCode OpOk TargetOk ValOk ShapeOk) (EachArms OpOk TargetOk ValOk ShapeOk) each_block each_fail each_split facts v (simple_arms facts v as') k (of_case v (simple_arms facts v as'), h.1, k)
+        let k : EachArms K (simple_arms facts v as') = arms_each v as' facts h.2 in
+        case_has (EachAct K) (EachCode K) (EachArms K) each_block each_fail each_split facts v (simple_arms facts v as') k (of_case v (simple_arms facts v as'), h.1, k)
     act_each (nested b) facts h = (of_nested (simple_code facts b), code_each b facts h.1)
     act_each (unit v) facts h = h
     act_each (fetch a) facts h = h
@@ -170,16 +170,16 @@ module _ (OpOk : Act → Type 0) (TargetOk : T.Target → Type 0) (ValOk : Val �
     act_each (write a) facts h = h
     act_each fail facts h = h
 
-    code_each : (b : Code) (facts : Facts) → EachCode OpOk TargetOk ValOk ShapeOk b → EachCode OpOk TargetOk ValOk ShapeOk (simple_code facts b)
+    code_each : (b : Code) (facts : Facts) → EachCode K b → EachCode K (simple_code facts b)
     code_each (end o) facts h = act_each o facts h
     code_each (store cs b) facts h = (h.0, code_each b facts h.1)
     code_each (bind t o b) facts h = (h.0, act_each o facts h.1, code_each b facts h.2)
 
-    pub arms_each : (v : Val) (as' : Arms) (facts : Facts) → EachArms OpOk TargetOk ValOk ShapeOk as' → EachArms OpOk TargetOk ValOk ShapeOk (simple_arms facts v as')
+    pub arms_each : (v : Val) (as' : Arms) (facts : Facts) → EachArms K as' → EachArms K (simple_arms facts v as')
     arms_each v no_arm facts h = tt
     arms_each v (arm s b as') facts h = (h.0, code_each b (noted v s facts) h.1, arms_each v as' facts h.2)
 
-  pub procs_each : (qs : List Procedure) → AllOf (λ q. EachCode OpOk TargetOk ValOk ShapeOk q.body) qs → AllOf (λ q. EachCode OpOk TargetOk ValOk ShapeOk q.body) (map simple_procedure qs)
+  pub procs_each : (qs : List Procedure) → EachBody K qs → EachBody K (map simple_procedure qs)
   procs_each [] h = tt
   procs_each (q ∷ qs) h = (code_each q.body nothing_known h.0, procs_each qs h.1)
 
@@ -242,13 +242,13 @@ names_stay (q ∷ qs) = ap (λ ns. q.name ∷ ns) (names_stay qs)
 -- ---- well formed again
 
 abbrev VectorAct : Act → Type 0
-VectorAct = EachAct Any NoNodeTarget NoNodeVar BindsNothing
+VectorAct = EachAct vectorised_kind
 
 abbrev VectorCode : Code → Type 0
-VectorCode = EachCode Any NoNodeTarget NoNodeVar BindsNothing
+VectorCode = EachCode vectorised_kind
 
 abbrev VectorArms : Arms → Type 0
-VectorArms = EachArms Any NoNodeTarget NoNodeVar BindsNothing
+VectorArms = EachArms vectorised_kind
 
 module _ (p : Program) (procs : List Procedure) (same_count : length procs ≡ length p.procs) where
   abbrev after : Program
@@ -276,7 +276,7 @@ module _ (p : Program) (procs : List Procedure) (same_count : length procs ≡ l
     act_formed (case v as') facts scope n h =
         let k : ArmsFormed after scope (simple_arms facts v as') = arms_formed v as' facts scope n.2 h.1 in
         case_has (ActFormed after scope) (CodeFormed after scope) (λ bs. ArmsFormed after scope bs × VectorArms bs) (formed_block scope) (formed_fail scope) (formed_split scope) facts v (simple_arms facts v as')
-        (k, arms_each Any NoNodeTarget NoNodeVar BindsNothing (λ b. tt) (λ v as'. tt) tt v as' facts n.2) (h.0, k)
+        (k, arms_each vectorised_kind (λ b. tt) (λ v as'. tt) tt v as' facts n.2) (h.0, k)
     act_formed (nested b) facts scope n h = code_formed b facts scope n.1 h
     act_formed (unit v) facts scope n h = h
     act_formed (fetch a) facts scope n h = h

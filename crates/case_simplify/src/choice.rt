@@ -150,7 +150,8 @@ fn all_give(u: &Val, alts: &[Alt]) -> bool
     true
 }
 
-// Whether this block gives back the value of a case, or its first words, and all alternatives the same.
+// Whether this block gives back the value of a case, or its first words, and all alternatives the
+// same.
 fn all_like(v: &Val, block: &Block, alts: &[Alt]) -> bool
     ensures { result ≡ is_some_and (value_given (code_of block.now)) (λ u.
         is_front_val u v.now && all_give u (arms_of (map arm_of alts.now))) }
@@ -161,7 +162,8 @@ fn all_like(v: &Val, block: &Block, alts: &[Alt]) -> bool
     }
 }
 
-/// Whether each alternative only gives back the value `v` of its case, or the same first words of it.
+/// Whether each alternative only gives back the value `v` of its case, or the same first words of
+/// it.
 #[tactic(auto, using(crate::proofs::Loops::gives_first, crate::proofs::Loops::gives_none))]
 pub(crate) fn gives_back(v: &Val, alts: &[Alt]) -> bool
     ensures { result ≡ gives_back v.now (arms_of (map arm_of alts.now)) }

@@ -112,8 +112,8 @@ fn note_word(facts: &mut Seq<Fact>, word: Option<Word>, known: Known) -> Result<
     }
 }
 
-/// What is known in an alternative of a case on `v`. There are at most two facts for each case that stands around the
-/// place, so that few are copied.
+/// What is known in an alternative of a case on `v`. There are at most two facts for each case that
+/// stands around the place, so that few are copied.
 pub(crate) fn noted(
     alloc: Global,
     facts: &[Fact],

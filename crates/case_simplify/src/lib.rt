@@ -1,5 +1,5 @@
-//! A pass over programs of vectors: a case on a known tag becomes the alternative that it takes, and a case that only gives
-//! back its vector a unit.
+//! A pass over programs of vectors: a case on a known tag becomes the alternative that it takes,
+//! and a case that only gives back its vector a unit.
 #![tactic(auto)]
 
 mod blocks;

@@ -13,9 +13,10 @@ use grin_syntax::{Grin, Proc};
 use seq::Seq;
 use std::alloc::{AllocError, Global};
 
-/// Where the text tells which tag a case meets, by a literal or by an alternative around it on the same vector, the case
-/// becomes the alternative that it takes, unless an integer pattern tests a number that is not told so. A case each of
-/// whose alternatives only gives its vector back becomes a unit. It takes programs of vectors.
+/// Where the text tells which tag a case meets, by a literal or by an alternative around it on the
+/// same vector, the case becomes the alternative that it takes, unless an integer pattern tests a
+/// number that is not told so. A case each of whose alternatives only gives its vector back becomes
+/// a unit. It takes programs of vectors.
 pub struct Simplify;
 
 impl Pass for Simplify {

@@ -12,7 +12,8 @@ use std::test::Fail;
 /// `Nil` and `Cons`, 25 bytes.
 const LISTS: &str = "data Nil 0; data Cons 2; ";
 
-/// What the check says of a program: the number of its functions, or the rule that it breaks first and that rule's number.
+/// What the check says of a program: the number of its functions, or the rule that it breaks first
+/// and that rule's number.
 #[derive(Clone, Copy, PartialEq, Eq, Debug)]
 enum Verdict {
     Accepted(usize),

@@ -97,7 +97,8 @@ fn names_the_first_broken_rule(rt: HostRuntime) -> Result<(), AllocError> {
     first_broken_are(&rt, rt.alloc(), PRELUDE, &BEHIND)
 }
 
-/// A program whose `main` has so many brackets, and one with so many bindings, break this rule first.
+/// A program whose `main` has so many brackets, and one with so many bindings, break this rule
+/// first.
 fn nested_break(
     rt: &impl Abort,
     alloc: Global,

@@ -54,13 +54,15 @@ operands (Operand text ∷ parts) = text ∷ operands parts
 -- the values that the parts give an option, in order
 abbrev pub values : (option : List ℕ) → List Part → List (List ℕ)
 values option [] = []
-values option (Setting name value ∷ parts) = if bytes_eq name option then value ∷ values option parts else values option parts
+values option (Setting name value ∷ parts) =
+    if bytes_eq name option then value ∷ values option parts else values option parts
 values option (Operand text ∷ parts) = values option parts
 
 -- every option of the parts is among these
 abbrev pub takes_only : (options : List (List ℕ)) → List Part → Bool
 takes_only options [] = true
-takes_only options (Setting name value ∷ parts) = list_any (bytes_eq name) options && takes_only options parts
+takes_only options (Setting name value ∷ parts) =
+    list_any (bytes_eq name) options && takes_only options parts
 takes_only options (Operand text ∷ parts) = takes_only options parts
 
 -- the one item of a list that has exactly one
@@ -105,7 +107,8 @@ pub record Form : Type 0 where
   pub asks : Given → (operands : List (List ℕ)) → Option CommandLine
 
 -- what is asked for of exactly one operand
-abbrev pub of_operand : (List ℕ → Option CommandLine) → (operands : List (List ℕ)) → Option CommandLine
+abbrev pub of_operand : (List ℕ → Option CommandLine) → (operands : List (List ℕ))
+    → Option CommandLine
 of_operand asks operands = option_and_then asks (only operands)
 
 -- what is asked for of no operand
@@ -129,14 +132,18 @@ check_form = record { options = []; asks = λ given. of_operand (λ file. Some (
 abbrev pub list_form : Form
 list_form = record {
   options = codes "after" ∷ [];
-  asks = λ given. of_operand (λ file. option_map (ListFile file) (option_and_then listing_of (only (given (codes "after")))));
+  asks =
+      λ given. of_operand (λ file.
+      option_map (ListFile file) (option_and_then listing_of (only (given (codes "after")))));
 }
 
 -- `build FILE`, with or without `--heap N` and `--stack N`
 abbrev pub build_form : Form
 build_form = record {
   options = codes "heap" ∷ codes "stack" ∷ [];
-  asks = λ given. of_operand (λ file. option_and_then (λ cells. option_map (BuildFile file cells) (stack_of given)) (cells_of given));
+  asks =
+      λ given. of_operand (λ file. option_and_then (λ cells.
+      option_map (BuildFile file cells) (stack_of given)) (cells_of given));
 }
 
 -- `exec IMAGE`, with or without `--steps N`
@@ -150,7 +157,9 @@ exec_form = record {
 abbrev pub gen_form : Form
 gen_form = record {
   options = codes "seed" ∷ codes "size" ∷ [];
-  asks = λ given. without_operand (option_and_then (λ seed. option_map (GenRun seed) (size_of given)) (seed_of given));
+  asks =
+      λ given. without_operand
+      (option_and_then (λ seed. option_map (GenRun seed) (size_of given)) (seed_of given));
 }
 
 -- what a function says of the form that has this name, if there is one
@@ -167,7 +176,8 @@ by_name ask name =
 -- what parts with options of the form alone ask for
 abbrev pub asked : List Part → Form → Option CommandLine
 asked parts form =
-    if takes_only form.options parts then form.asks (λ option. values option parts) (operands parts) else None
+    if takes_only form.options parts then form.asks (λ option. values option parts) (operands parts)
+    else None
 
 -- the command of this name with these parts
 abbrev pub command_from : (name : List ℕ) → List Part → Option CommandLine
@@ -177,10 +187,11 @@ command_from name parts = by_name (asked parts) name
 abbrev pub is_empty : List ℕ → Bool
 is_empty word = length word == 0
 
--- What a command line asks for, if it asks for anything. The first word is the program's name, the second the command's; no
--- word behind the first is empty.
+-- What a command line asks for, if it asks for anything. The first word is the program's name, the
+-- second the command's; no word behind the first is empty.
 abbrev pub command_of : List (List ℕ) → Option CommandLine
 command_of [] = None
 command_of (program ∷ []) = None
 command_of (program ∷ name ∷ words) =
-    if list_any is_empty (name ∷ words) then None else option_and_then (command_from name) (parts_of words)
+    if list_any is_empty (name ∷ words) then None
+    else option_and_then (command_from name) (parts_of words)

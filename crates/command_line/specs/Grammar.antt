@@ -16,12 +16,15 @@ IsName name = list_any is_equals name ≡ false
 -- The words say these parts, in this order.
 pub data Says : List (List ℕ) → List Part → Type 0 where
   Nothing : Says [] []
-  AnOperand : {words : List (List ℕ)} {parts : List Part} (text : List ℕ) → is_operand text ≡ true → Says words parts → Says (text ∷ words) (Operand text ∷ parts)
+  AnOperand : {words : List (List ℕ)} {parts : List Part} (text : List ℕ) → is_operand text ≡ true
+      → Says words parts → Says (text ∷ words) (Operand text ∷ parts)
   -- an option in one word, `--name=value`
-  OneWord : {words : List (List ℕ)} {parts : List Part} (name value : List ℕ) → IsName name → Says words parts
+  OneWord : {words : List (List ℕ)} {parts : List Part} (name value : List ℕ)
+      → IsName name → Says words parts
       → Says ((codes "--" ++ (name ++ (codes "=" ++ value))) ∷ words) (Setting name value ∷ parts)
   -- an option in two words, `--name value`
-  TwoWords : {words : List (List ℕ)} {parts : List Part} (name value : List ℕ) → name ≢ [] → IsName name → begins_with_dash value ≡ false → Says words parts
+  TwoWords : {words : List (List ℕ)} {parts : List Part} (name value : List ℕ) → name ≢ []
+      → IsName name → begins_with_dash value ≡ false → Says words parts
       → Says ((codes "--" ++ name) ∷ value ∷ words) (Setting name value ∷ parts)
   -- behind `--` all words are operands
   Operands : (words : List (List ℕ)) → Says (codes "--" ∷ words) (map Operand words)

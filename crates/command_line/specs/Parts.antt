@@ -46,7 +46,8 @@ option_of (b ∷ bs) =
 abbrev pub word_of : List ℕ → Word
 word_of [] = Plain []
 word_of (b ∷ []) = Plain (b ∷ [])
-word_of (b ∷ c ∷ bs) = if is_dash b then (if is_dash c then option_of bs else Unknown) else Plain (b ∷ c ∷ bs)
+word_of (b ∷ c ∷ bs) =
+    if is_dash b then (if is_dash c then option_of bs else Unknown) else Plain (b ∷ c ∷ bs)
 
 -- the parts with one more before them
 abbrev pub with_part : Part → Option (List Part) → Option (List Part)

@@ -1,4 +1,5 @@
--- What the functions inside the crate compute: the walk over the words, one at a time, and the table over what it has gathered.
+-- What the functions inside the crate compute: the walk over the words, one at a time, and the
+-- table over what it has gathered.
 use Rattle.std.specs.Prelude.{ℕ, ◌&&◌, ◌||◌, Bool, true, List, [], ◌∷◌, map, codes, Option, Some, None, is_none, option_to_list, if◌then◌else◌}
 use Rattle.std.specs.List.{list_any}
 use Rattle.std.specs.Option.{option_map, option_and_then, option_copied}
@@ -36,7 +37,8 @@ unset name = record { name = name; value = None }
 
 -- the options of all commands
 abbrev pub option_names : List (List ℕ)
-option_names = codes "after" ∷ codes "heap" ∷ codes "stack" ∷ codes "steps" ∷ codes "seed" ∷ codes "size" ∷ []
+option_names =
+    codes "after" ∷ codes "heap" ∷ codes "stack" ∷ codes "steps" ∷ codes "seed" ∷ codes "size" ∷ []
 
 abbrev pub nothing_said : Said
 nothing_said = record { operand = None; entries = map unset option_names }
@@ -55,20 +57,25 @@ said a = record {
 
 -- with one operand more
 abbrev pub with_operand : Said → (text : List ℕ) → Option Said
-with_operand s text = if is_none s.operand then Some (record { operand = Some text; entries = s.entries }) else None
+with_operand s text =
+    if is_none s.operand then Some (record { operand = Some text; entries = s.entries }) else None
 
 -- the entries with the value of one option more, which has none and stands among them
 abbrev pub with_value : List Entry → (name value : List ℕ) → Option (List Entry)
 with_value [] name value = None
 with_value (entry ∷ entries) name value =
     if bytes_eq name entry.name
-    then (if is_none entry.value then Some (record { name = entry.name; value = Some value } ∷ entries) else None)
+    then (if is_none entry.value
+    then Some (record { name = entry.name; value = Some value } ∷ entries) else None)
     else option_map (λ others. entry ∷ others) (with_value entries name value)
 
 -- with the value of one option more
 abbrev pub with_setting : Said → (name value : List ℕ) → Option Said
 with_setting s name value =
-    option_map (λ entries. record { operand = s.operand; entries = entries }) (with_value s.entries name value)
+    option_map (λ entries. record {
+      operand = s.operand;
+      entries = entries;
+    }) (with_value s.entries name value)
 
 -- with one part more
 abbrev pub with_part : Said → Part → Option Said
@@ -115,19 +122,23 @@ begun s Unknown = None
 abbrev pub walked : Place → (text : List ℕ) → Option Place
 walked p text = elim p.next [
   | Any ↦ begun p.arguments (word_of text)
-  | Value name ↦ if begins_with_dash text then None else option_map (before Any) (with_setting p.arguments name text)
+  | Value name ↦
+      if begins_with_dash text then None
+      else option_map (before Any) (with_setting p.arguments name text)
   | Rest ↦ option_map (before Rest) (with_operand p.arguments text)
 ]
 
 -- the value of an option, if it has one
 abbrev pub value_of : List Entry → (option : List ℕ) → Option (List ℕ)
 value_of [] option = None
-value_of (entry ∷ entries) option = if bytes_eq option entry.name then entry.value else value_of entries option
+value_of (entry ∷ entries) option =
+    if bytes_eq option entry.name then entry.value else value_of entries option
 
 -- no option has a value but these
 abbrev pub sets_only : (options : List (List ℕ)) → List Entry → Bool
 sets_only options [] = true
-sets_only options (entry ∷ entries) = (list_any (bytes_eq entry.name) options || is_none entry.value) && sets_only options entries
+sets_only options (entry ∷ entries) =
+    (list_any (bytes_eq entry.name) options || is_none entry.value) && sets_only options entries
 
 -- what is asked by a form with what is said
 abbrev pub asked_said : Said → Form → Option CommandLine

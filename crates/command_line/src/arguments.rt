@@ -26,8 +26,8 @@ pub(crate) struct Arguments<'a> {
 }
 
 impl<'a> Arguments<'a> {
-    /// What words say, or `None` where they are not options and operands, an option is no command's, or one of them or the operand
-    /// stands twice.
+    /// What words say, or `None` where they are not options and operands, an option is no
+    /// command's, or one of them or the operand stands twice.
     pub(crate) fn read(words: &'a [String]) -> Option<Arguments<'a>>
         ensures { option_map said result
             ≡ option_and_then (gathered nothing_said) (parts_of (map string_bytes words.now)) }

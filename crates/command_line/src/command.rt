@@ -41,8 +41,9 @@ pub enum Listing {
 /// A command. Its file or its image is the operand as it stands in the line.
 #[derive(Clone, Copy, Debug, PartialEq, Eq)]
 pub enum Command<'a> {
-    /// `run FILE --heap N --stack N --steps N`: compile the file and run it with a heap of so many cells and a stack of so many
-    /// bytes, for at most so many instructions. The stack is as the line says, a multiple of four or not.
+    /// `run FILE --heap N --stack N --steps N`: compile the file and run it with a heap of so many
+    /// cells and a stack of so many bytes, for at most so many instructions. The stack is as the
+    /// line says, a multiple of four or not.
     Run {
         file: &'a str,
         cells: u32,
@@ -58,8 +59,8 @@ pub enum Command<'a> {
         file: &'a str,
         after: Listing,
     },
-    /// `build FILE --heap N --stack N`: write the image of the file with a heap of so many cells and a stack of so many bytes, a
-    /// multiple of four or not.
+    /// `build FILE --heap N --stack N`: write the image of the file with a heap of so many cells
+    /// and a stack of so many bytes, a multiple of four or not.
     Build {
         file: &'a str,
         cells: u32,
@@ -70,7 +71,8 @@ pub enum Command<'a> {
         image: &'a str,
         steps: u64,
     },
-    /// `gen --seed N --size N`: compile and run the text that is generated from the seed in so many rounds.
+    /// `gen --seed N --size N`: compile and run the text that is generated from the seed in so many
+    /// rounds.
     Gen {
         seed: u32,
         size: u32,

@@ -35,7 +35,8 @@ impl Line {
         }
     }
 
-    /// Adds one word at the end. `AllocError` where its memory is wanting; then nothing has changed.
+    /// Adds one word at the end. `AllocError` where its memory is wanting; then nothing has
+    /// changed.
     pub fn add(&mut self, word: &str) -> Result<(), AllocError>
         ensures added { OnOk result (self.new ≡ self.old ++ word.now ∷ []) }
         ensures kept { OnErr result (self.new ≡ self.old) }
@@ -45,7 +46,8 @@ impl Line {
         Ok(())
     }
 
-    /// The command that the words stand for, or `None` where they stand for none. It takes no memory.
+    /// The command that the words stand for, or `None` where they stand for none. It takes no
+    /// memory.
     pub fn command(&self) -> Option<Command<'_>>
         ensures { option_map asked_by result ≡ command_of self.now }
     {

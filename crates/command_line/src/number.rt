@@ -36,8 +36,8 @@ pub(crate) struct Numbers {
 }
 
 impl Numbers {
-    /// The number that the value of the option writes, or the default where it has no value. `None` where the value writes no
-    /// number of the range.
+    /// The number that the value of the option writes, or the default where it has no value. `None`
+    /// where the value writes no number of the range.
     pub(crate) fn read(self, value: Option<&str>) -> Option<u64>
         ensures { result ≡ number_of self.default self.least self.most
             (option_to_list (option_copied value.entry)) }

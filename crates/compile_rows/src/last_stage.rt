@@ -6,20 +6,15 @@ ghost use Rattle.arity_check.specs.Accepted.{IsValid};
 ghost use Rattle.grin_syntax.specs.Tree.{program_of};
 ghost use Rattle.grin_meaning.specs.Slim.{Slim};
 ghost use Rattle.grin_compile.specs.Lowerable.{IsLowerable};
-ghost use Rattle.grin_compile.specs.Parts.{AreSizes};
 
 use crate::tests::checked;
 use arity_check::normal::Checked;
-use grin_compile::{Options, compile};
+use grin_compile::{Options, compile, layers_below};
 use grin_measure::{Sizes, is_slim, sizes_of};
 use grin_opt::PassName;
 use grin_stages::stage;
 use grin_syntax::Grin;
-use low_translate::lower;
-use register_alloc::allocate;
-use rv32_layout::place;
-use rv32_select::{select, selected_items_do};
-use std::alloc::{AllocError, Global};
+use std::alloc::Global;
 use std::test::Fail;
 use vectorised_form::vectorise_takes_inlined;
 use worked_texts::QUEENS;
@@ -63,20 +58,6 @@ fn last_stage(alloc: Global, p: &Checked) -> Result<Grin, Fail>
     Ok(last)
 }
 
-/// The words that the layers below GRIN make of a program, one layer after the other.
-fn words_of(alloc: Global, g: &Grin, cells: u32, stack: u32) -> Result<Vec<u32>, AllocError>
-    requires lowerable { IsLowerable (program_of g.now) }
-    requires sizes { AreSizes cells stack }
-{
-    // A law: selected items do what the low code does.
-    selected_items_do();
-    let low = lower(alloc, g)?;
-    let places = allocate(alloc, &low)?;
-    let asm = select(alloc, &low, &places, cells, stack)?;
-    let code = place(alloc, &asm)?;
-    Ok(code)
-}
-
 #[test]
 fn code_is_that_of_the_last_stage(rt: HostRuntime) -> Result<(), Fail> {
     let alloc = rt.alloc();
@@ -86,8 +67,8 @@ fn code_is_that_of_the_last_stage(rt: HostRuntime) -> Result<(), Fail> {
         stack: 4096,
     };
     let last = last_stage(alloc, &p)?;
-    let words = words_of(alloc, &last, options.cells, options.stack)?;
+    let layers = layers_below(alloc, &last, options.cells, options.stack)?;
     let made = compile(alloc, &p, options)?;
-    assert_eq!(rt; made.code(), words.as_slice());
+    assert_eq!(rt; made.code(), layers.code.as_slice());
     Ok(())
 }

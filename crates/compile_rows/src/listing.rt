@@ -4,8 +4,8 @@ use low_code::{Low, LowArm, LowBlock, LowEnd, LowProc, LowStmt, Operand};
 use std::alloc::{AllocError, Global};
 use std::fmt::Write;
 
-/// A text of low code. Variables are numbered anew in each procedure, and sites of calls in the whole program, in the order
-/// in which they stand.
+/// A text of low code. Variables are numbered anew in each procedure, and sites of calls in the
+/// whole program, in the order in which they stand.
 #[derive(Drop)]
 struct Listing {
     text: String,

@@ -107,8 +107,9 @@ const TAKES: &str =
 //         else ->
 //           fail
 //
-// Its tags are Int, Nil, Cons, the delayed calls of take and of main, and take without its argument, from 0 on. The last
-// alternative of each case is not tested. All three procedures give the three words of a node.
+// Its tags are Int, Nil, Cons, the delayed calls of take and of main, and take without its
+// argument, from 0 on. The last alternative of each case is not tested. All three procedures give
+// the three words of a node.
 const TAKES_IN_WORDS: &str = "\
 proc v0 gives 3
 load v1 v0 0

@@ -17,7 +17,7 @@ use Rattle.grin_syntax.specs.SameOutside.{names_of, SameOutside}
 use Rattle.grin_syntax.proofs.Counted.{times_append}
 use Rattle.grin_syntax.proofs.Scopes.{with_procs, known_again, shape_stays, same_sites, formed_with}
 use Rattle.grin_meaning.specs.Names.{WordOk, WordsOk, ValOk, CellsOk, ActOk, CodeOk, ArmsOk}
-use Rattle.grin_meaning.specs.Ready.{Any, Inlined, ByWords, NoNodeTarget, NoNodeVar, BindsNothing, EachAct, EachCode, EachArms, NarrowAct, NarrowCode, NarrowArms}
+use Rattle.grin_meaning.specs.Ready.{Inlined, ByWords, NoNodeTarget, NoNodeVar, EachAct, EachCode, EachArms, NarrowAct, NarrowCode, NarrowArms, Kind, EachBody, vectorised_kind}
 use Rattle.grin_meaning.specs.Rewritten.{rewritten_procedure}
 use Rattle.copy_prop.specs.Lean.{word_uses, words_uses, val_uses, cells_uses, act_uses, code_uses, arms_uses, stands, none_stands, is_still, is_idle, unless, lean_act, lean_code, lean_arms, lean}
 use Rattle.copy_prop.specs.Copied.{IsCopy, IsStill, Unused, IsNeeded, BoundAct, BoundCode, BoundArms}
@@ -28,8 +28,8 @@ use Rattle.copy_prop.proofs.ResolvedFormed.{NoCopy, more}
 
 -- ---- what a piece has of its kind
 
-module _ (OpOk : Act → Type 0) (TargetOk : Target → Type 0) (ValOk : V.Val → Type 0) (ShapeOk : List ℕ → Type 0) (op_stays : (o : Act) → OpOk o → OpOk (lean_act o)) where
-  bind_stays : (t : Target) (o' : Act) (c : Code) (q : Bool) → TargetOk t → EachAct OpOk TargetOk ValOk ShapeOk o' → EachCode OpOk TargetOk ValOk ShapeOk c → EachCode OpOk TargetOk ValOk ShapeOk (unless q (bind t o') c)
+module _ (K : Kind) (op_stays : (o : Act) → K.operation o → K.operation (lean_act o)) where
+  bind_stays : (t : Target) (o' : Act) (c : Code) (q : Bool) → K.target t → EachAct K o' → EachCode K c → EachCode K (unless q (bind t o') c)
   unfolding EachAct
   bind_stays t o' c false h k l = (h, k, l)
   bind_stays t o' c true h k l = l
@@ -37,7 +37,7 @@ module _ (OpOk : Act → Type 0) (TargetOk : Target → Type 0) (ValOk : V.Val �
   mutual
     unfolding lean_act EachAct
 
-    act_each : (o : Act) → EachAct OpOk TargetOk ValOk ShapeOk o → EachAct OpOk TargetOk ValOk ShapeOk (lean_act o)
+    act_each : (o : Act) → EachAct K o → EachAct K (lean_act o)
     act_each (case v as') h = (op_stays (case v as') h.0, h.1, arms_each as' h.2)
     act_each (nested b) h = (op_stays (nested b) h.0, code_each b h.1)
     act_each (unit v) h = h
@@ -52,16 +52,16 @@ module _ (OpOk : Act → Type 0) (TargetOk : Target → Type 0) (ValOk : V.Val �
     act_each (write a) h = h
     act_each fail h = h
 
-    code_each : (b : Code) → EachCode OpOk TargetOk ValOk ShapeOk b → EachCode OpOk TargetOk ValOk ShapeOk (lean_code b)
+    code_each : (b : Code) → EachCode K b → EachCode K (lean_code b)
     code_each (end o) h = act_each o h
     code_each (store cs b) h = (h.0, code_each b h.1)
     code_each (bind t o b) h = bind_stays t (lean_act o) (lean_code b) (is_idle t o (code_uses (lean_code b))) h.0 (act_each o h.1) (code_each b h.2)
 
-    arms_each : (as' : Arms) → EachArms OpOk TargetOk ValOk ShapeOk as' → EachArms OpOk TargetOk ValOk ShapeOk (lean_arms as')
+    arms_each : (as' : Arms) → EachArms K as' → EachArms K (lean_arms as')
     arms_each no_arm h = tt
     arms_each (arm s b as') h = (h.0, code_each b h.1, arms_each as' h.2)
 
-  pub procs_each : (qs : List Procedure) → AllOf (λ q. EachCode OpOk TargetOk ValOk ShapeOk q.body) qs → AllOf (λ q. EachCode OpOk TargetOk ValOk ShapeOk q.body) (map (rewritten_procedure lean_code) qs)
+  pub procs_each : (qs : List Procedure) → EachBody K qs → EachBody K (map (rewritten_procedure lean_code) qs)
   procs_each [] h = tt
   procs_each (q ∷ qs) h = (code_each q.body h.0, procs_each qs h.1)
 
@@ -455,7 +455,7 @@ module _ (g : Program) (procs : List Procedure) (same_count : length procs ≡ l
   mutual
     unfolding lean_act act_uses ActFormed EachAct
 
-    act_formed : (o : Act) (scope : Scope) (scope' : List ℕ) → Covers (Carried scope scope') (act_uses (lean_act o)) → ActFormed g scope o → EachAct Any NoNodeTarget NoNodeVar BindsNothing o → ActFormed there (as_scope scope') (lean_act o)
+    act_formed : (o : Act) (scope : Scope) (scope' : List ℕ) → Covers (Carried scope scope') (act_uses (lean_act o)) → ActFormed g scope o → EachAct vectorised_kind o → ActFormed there (as_scope scope') (lean_act o)
     act_formed (case v as') scope scope' c f n = (val_formed scope scope' v n.1 (covers_left (Carried scope scope') (val_uses v) (arms_uses (lean_arms as')) c) f.0, arms_formed as' scope scope' (covers_right (Carried scope scope') (val_uses v) (arms_uses (lean_arms as')) c) f.1 n.2)
     act_formed (nested b) scope scope' c f n = code_formed b scope scope' c f n.1
     act_formed (unit v) scope scope' c f n = val_formed scope scope' v n.1 c f
@@ -470,7 +470,7 @@ module _ (g : Program) (procs : List Procedure) (same_count : length procs ≡ l
     act_formed (write a) scope scope' c f n = word_formed scope scope' a c f
     act_formed fail scope scope' c f n = tt
 
-    code_formed : (b : Code) (scope : Scope) (scope' : List ℕ) → Covers (Carried scope scope') (code_uses (lean_code b)) → CodeFormed g scope b → EachCode Any NoNodeTarget NoNodeVar BindsNothing b → CodeFormed there (as_scope scope') (lean_code b)
+    code_formed : (b : Code) (scope : Scope) (scope' : List ℕ) → Covers (Carried scope scope') (code_uses (lean_code b)) → CodeFormed g scope b → EachCode vectorised_kind b → CodeFormed there (as_scope scope') (lean_code b)
     code_formed (end o) scope scope' c f n = act_formed o scope scope' c f n
     code_formed (store cs b) scope scope' c f n = (
       cells_formed (with_words (cell_vars cs) scope) (cell_vars cs ++ scope') cs n.0 (λ x h. carried_more (cell_vars cs) scope scope' x (covers_right (Carried scope scope') (code_uses (lean_code b)) (cells_uses cs) c x h)) f.0,
@@ -478,7 +478,7 @@ module _ (g : Program) (procs : List Procedure) (same_count : length procs ≡ l
     )
     code_formed (bind t o b) scope scope' c f n = bind_formed scope scope' t o b n.0 f.1 (λ d. act_formed o scope scope' d f.0 n.1) (λ s s' d fb. code_formed b s s' d fb n.2) (is_idle t o (code_uses (lean_code b))) refl c
 
-    arms_formed : (as' : Arms) (scope : Scope) (scope' : List ℕ) → Covers (Carried scope scope') (arms_uses (lean_arms as')) → ArmsFormed g scope as' → EachArms Any NoNodeTarget NoNodeVar BindsNothing as' → ArmsFormed there (as_scope scope') (lean_arms as')
+    arms_formed : (as' : Arms) (scope : Scope) (scope' : List ℕ) → Covers (Carried scope scope') (arms_uses (lean_arms as')) → ArmsFormed g scope as' → EachArms vectorised_kind as' → ArmsFormed there (as_scope scope') (lean_arms as')
     arms_formed no_arm scope scope' c f n = tt
     arms_formed (arm s b as') scope scope' c f n = (
       shape_stays g procs same_count s f.0,
@@ -486,11 +486,11 @@ module _ (g : Program) (procs : List Procedure) (same_count : length procs ≡ l
       arms_formed as' scope scope' (covers_right (Carried scope scope') (code_uses (lean_code b)) (arms_uses (lean_arms as')) c) f.2 n.2,
     )
 
-  bodies_formed : (qs : List Procedure) → AllOf (ProcedureFormed g) qs → AllOf (λ q. EachCode Any NoNodeTarget NoNodeVar BindsNothing q.body) qs → AllOf (ProcedureFormed there) (map (rewritten_procedure lean_code) qs)
+  bodies_formed : (qs : List Procedure) → AllOf (ProcedureFormed g) qs → EachBody vectorised_kind qs → AllOf (ProcedureFormed there) (map (rewritten_procedure lean_code) qs)
   bodies_formed [] f n = tt
   bodies_formed (q ∷ qs) f n = (code_formed q.body (params_scope q) (numbers_of q.params) (λ x h i. i) f.0 n.0, bodies_formed qs f.1 n.1)
 
-pub lean_formed : (g : Program) → Formed g → AllOf (λ q. EachCode Any NoNodeTarget NoNodeVar BindsNothing q.body) g.procs → Formed (lean g)
+pub lean_formed : (g : Program) → Formed g → EachBody vectorised_kind g.procs → Formed (lean g)
 lean_formed g f n =
     let procs : List Procedure = map (rewritten_procedure lean_code) g.procs in
     let many : length procs ≡ length g.procs = length-map g.procs (rewritten_procedure lean_code) in

@@ -1,9 +1,8 @@
 -- That the pass meets its contract: the shape of what it makes, and that this keeps the program.
-use Rattle.std.proofs.Common.{◌≡◌, ◌+◌, ◌≤◌, [], length, ◌∙◌, sym, ap, subst}
+use Rattle.std.proofs.Common.{◌≡◌, ◌+◌, [], ◌∙◌, sym, ap, subst}
 use Rattle.grin_syntax.specs.Tree.{Program}
-use Rattle.grin_syntax.specs.Binders.{target_vars}
 use Rattle.grin_syntax.specs.SameOutside.{SameOutside}
-use Rattle.grin_meaning.specs.Ready.{Any, Inlined, ByWords, NoNodeTarget, NoNodeVar, BindsNothing, most_value_fields, Ready}
+use Rattle.grin_meaning.specs.Ready.{most_value_fields, Ready, inlined_kind, by_words_kind, vectorised_kind, narrow_kind}
 use Rattle.grin_meaning.specs.Keeps.{Keeps}
 use Rattle.grin_meaning.specs.Looking.{NeverMissed}
 use Rattle.grin_meaning.proofs.Looked.{looking_law}
@@ -28,7 +27,7 @@ module _ (g : Program) (g_is : OfVectors g) where
 
   resolved_ready : Ready (resolved g)
   resolved_ready =
-      let inl = plain.procs_each Inlined Any Any Any plain.inlined_stays (λ k v h. tt) [] g.procs g_is.ready.inlined in
+      let inl = plain.procs_each inlined_kind plain.inlined_stays (λ k v h. tt) [] g.procs g_is.ready.inlined in
       record {
         inlined = inl;
         few_params = plain.procs_params 16 [] g.procs g_is.ready.few_params;
@@ -43,11 +42,11 @@ module _ (g : Program) (g_is : OfVectors g) where
     of_vectors = record {
       formed = plain.resolved_formed g g_is.formed g_is.vectorised;
       ready = resolved_ready;
-      vectorised = plain.procs_each Any NoNodeTarget NoNodeVar BindsNothing (λ k o h. tt) plain.no_node_var_stays [] g.procs g_is.vectorised;
+      vectorised = plain.procs_each vectorised_kind (λ k o h. tt) plain.no_node_var_stays [] g.procs g_is.vectorised;
     };
     outside = plain.resolved_outside g;
-    narrow = λ most h. plain.procs_each Any (λ t. length (target_vars t) ≤ most) Any Any (λ k o u. tt) (λ k v u. tt) [] g.procs h;
-    by_words = λ h. plain.procs_each ByWords Any Any Any plain.by_words_stays (λ k v u. tt) [] g.procs h;
+    narrow = λ most h. plain.procs_each (narrow_kind most) (λ k o u. tt) (λ k v u. tt) [] g.procs h;
+    by_words = λ h. plain.procs_each by_words_kind plain.by_words_stays (λ k v u. tt) [] g.procs h;
   }
 
 -- ---- idle statements
@@ -58,7 +57,7 @@ module _ (g : Program) (g_is : OfVectors g) where
 
   lean_ready : Ready (lean g)
   lean_ready =
-      let inl = thin.procs_each Inlined Any Any Any thin.inlined_stays g.procs g_is.ready.inlined in
+      let inl = thin.procs_each inlined_kind thin.inlined_stays g.procs g_is.ready.inlined in
       record {
         inlined = inl;
         few_params = thin.procs_params 16 g.procs g_is.ready.few_params;
@@ -73,11 +72,11 @@ module _ (g : Program) (g_is : OfVectors g) where
     of_vectors = record {
       formed = thin.lean_formed g g_is.formed g_is.vectorised;
       ready = lean_ready;
-      vectorised = thin.procs_each Any NoNodeTarget NoNodeVar BindsNothing (λ o h. tt) g.procs g_is.vectorised;
+      vectorised = thin.procs_each vectorised_kind (λ o h. tt) g.procs g_is.vectorised;
     };
     outside = thin.lean_outside g;
-    narrow = λ most h. thin.procs_each Any (λ t. length (target_vars t) ≤ most) Any Any (λ o u. tt) g.procs h;
-    by_words = λ h. thin.procs_each ByWords Any Any Any thin.by_words_stays g.procs h;
+    narrow = λ most h. thin.procs_each (narrow_kind most) (λ o u. tt) g.procs h;
+    by_words = λ h. thin.procs_each by_words_kind thin.by_words_stays g.procs h;
   }
 
 -- ---- both

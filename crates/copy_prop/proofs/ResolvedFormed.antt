@@ -13,7 +13,7 @@ use Rattle.grin_syntax.specs.Formed.{AllOf, Scope, with_words, with_target, para
 use Rattle.grin_syntax.specs.SameOutside.{names_of, SameOutside}
 use Rattle.grin_syntax.proofs.Counted.{times_append}
 use Rattle.grin_syntax.proofs.Scopes.{with_procs, known_again, shape_stays, same_sites, formed_with}
-use Rattle.grin_meaning.specs.Ready.{Any, Inlined, ByWords, NoNodeTarget, NoNodeVar, BindsNothing, EachAct, EachCode, EachArms, val_width, NarrowAct, NarrowCode, NarrowArms}
+use Rattle.grin_meaning.specs.Ready.{Inlined, ByWords, NoNodeTarget, NoNodeVar, EachAct, EachCode, EachArms, val_width, NarrowAct, NarrowCode, NarrowArms, Kind, EachBody, vectorised_kind}
 use Rattle.copy_prop.specs.Resolved.{Table, Alias, as_word, as_words, as_val, as_cells, alias_of, noted_alias, unless_alias, noted_act, noted_code, resolved_act, resolved_code, resolved_arms, resolved_procs, resolved}
 use Rattle.copy_prop.specs.Copied.{IsCopy, BoundAct, BoundCode, BoundArms}
 use Rattle.copy_prop.proofs.Held.{as_scope, alias_is, target_scope, Held, word_held, held_more, held_alias}
@@ -21,13 +21,13 @@ use Rattle.copy_prop.proofs.ResolvedSame.{held_bound, held_arms, held_middle, pa
 
 -- ---- what a piece has of its kind
 
-module _ (OpOk : Act → Type 0) (TargetOk : Target → Type 0) (ValOk : V.Val → Type 0) (ShapeOk : List ℕ → Type 0)
-    (op_stays : (k : Table) (o : Act) → OpOk o → OpOk (resolved_act k o)) (val_stays : (k : Table) (v : V.Val) → ValOk v → ValOk (as_val k v)) where
-  cells_stay : (k : Table) (cs : List Cell) → AllOf (λ c. ValOk c.val) cs → AllOf (λ c. ValOk c.val) (as_cells k cs)
+module _ (K : Kind)
+    (op_stays : (k : Table) (o : Act) → K.operation o → K.operation (resolved_act k o)) (val_stays : (k : Table) (v : V.Val) → K.value v → K.value (as_val k v)) where
+  cells_stay : (k : Table) (cs : List Cell) → AllOf (λ c. K.value c.val) cs → AllOf (λ c. K.value c.val) (as_cells k cs)
   cells_stay k [] h = tt
   cells_stay k (c ∷ cs) h = (val_stays k c.val h.0, cells_stay k cs h.1)
 
-  bind_stays : (t : Target) (o' : Act) (c : Code) (q : Option Alias) → TargetOk t → EachAct OpOk TargetOk ValOk ShapeOk o' → EachCode OpOk TargetOk ValOk ShapeOk c → EachCode OpOk TargetOk ValOk ShapeOk (unless_alias q (bind t o') c)
+  bind_stays : (t : Target) (o' : Act) (c : Code) (q : Option Alias) → K.target t → EachAct K o' → EachCode K c → EachCode K (unless_alias q (bind t o') c)
   unfolding EachAct
   bind_stays t o' c None h k l = (h, k, l)
   bind_stays t o' c (Some a) h k l = l
@@ -35,7 +35,7 @@ module _ (OpOk : Act → Type 0) (TargetOk : Target → Type 0) (ValOk : V.Val �
   mutual
     unfolding resolved_act EachAct
 
-    act_each : (k : Table) (o : Act) → EachAct OpOk TargetOk ValOk ShapeOk o → EachAct OpOk TargetOk ValOk ShapeOk (resolved_act k o)
+    act_each : (k : Table) (o : Act) → EachAct K o → EachAct K (resolved_act k o)
     act_each k (case v as') h = (op_stays k (case v as') h.0, val_stays k v h.1, arms_each k as' h.2)
     act_each k (nested b) h = (op_stays k (nested b) h.0, code_each k b h.1)
     act_each k (unit v) h = (op_stays k (unit v) h.0, val_stays k v h.1)
@@ -50,16 +50,16 @@ module _ (OpOk : Act → Type 0) (TargetOk : Target → Type 0) (ValOk : V.Val �
     act_each k (write a) h = op_stays k (write a) h
     act_each k fail h = op_stays k fail h
 
-    pub code_each : (k : Table) (b : Code) → EachCode OpOk TargetOk ValOk ShapeOk b → EachCode OpOk TargetOk ValOk ShapeOk (resolved_code k b)
+    pub code_each : (k : Table) (b : Code) → EachCode K b → EachCode K (resolved_code k b)
     code_each k (end o) h = act_each k o h
     code_each k (store cs b) h = (cells_stay k cs h.0, code_each k b h.1)
     code_each k (bind t o b) h = bind_stays t (resolved_act k o) (resolved_code (noted_alias (alias_of t o) (noted_act o k)) b) (alias_of t o) h.0 (act_each k o h.1) (code_each (noted_alias (alias_of t o) (noted_act o k)) b h.2)
 
-    arms_each : (k : Table) (as' : Arms) → EachArms OpOk TargetOk ValOk ShapeOk as' → EachArms OpOk TargetOk ValOk ShapeOk (resolved_arms k as')
+    arms_each : (k : Table) (as' : Arms) → EachArms K as' → EachArms K (resolved_arms k as')
     arms_each k no_arm h = tt
     arms_each k (arm s b as') h = (h.0, code_each k b h.1, arms_each (noted_code b k) as' h.2)
 
-  pub procs_each : (k : Table) (qs : List Procedure) → AllOf (λ q. EachCode OpOk TargetOk ValOk ShapeOk q.body) qs → AllOf (λ q. EachCode OpOk TargetOk ValOk ShapeOk q.body) (resolved_procs k qs)
+  pub procs_each : (k : Table) (qs : List Procedure) → EachBody K qs → EachBody K (resolved_procs k qs)
   procs_each k [] h = tt
   procs_each k (q ∷ qs) h = (code_each k q.body h.0, procs_each (noted_code q.body k) qs h.1)
 
@@ -388,7 +388,7 @@ module _ (g : Program) (procs : List Procedure) (same_count : length procs ≡ l
   mutual
     unfolding resolved_act noted_act act_vars ActFormed EachAct
 
-    act_formed : (o : Act) (k : Table) (scope : Scope) (scope' : List ℕ) → Held g k scope scope' (act_vars o) → ActFormed g scope o → EachAct Any NoNodeTarget NoNodeVar BindsNothing o → ActFormed there (as_scope scope') (resolved_act k o)
+    act_formed : (o : Act) (k : Table) (scope : Scope) (scope' : List ℕ) → Held g k scope scope' (act_vars o) → ActFormed g scope o → EachAct vectorised_kind o → ActFormed there (as_scope scope') (resolved_act k o)
     act_formed (case v as') k scope scope' held f n = (val_formed k scope scope' (arms_vars as') held v n.1 f.0, arms_formed as' k scope scope' held f.1 n.2)
     act_formed (nested b) k scope scope' held f n = code_formed b k scope scope' held f n.1
     act_formed (unit v) k scope scope' held f n = val_formed k scope scope' [] held v n.1 f
@@ -403,7 +403,7 @@ module _ (g : Program) (procs : List Procedure) (same_count : length procs ≡ l
     act_formed (write a) k scope scope' held f n = word_held g k scope scope' [] held a f
     act_formed fail k scope scope' held f n = tt
 
-    pub code_formed : (b : Code) (k : Table) (scope : Scope) (scope' : List ℕ) → Held g k scope scope' (code_vars b) → CodeFormed g scope b → EachCode Any NoNodeTarget NoNodeVar BindsNothing b → CodeFormed there (as_scope scope') (resolved_code k b)
+    pub code_formed : (b : Code) (k : Table) (scope : Scope) (scope' : List ℕ) → Held g k scope scope' (code_vars b) → CodeFormed g scope b → EachCode vectorised_kind b → CodeFormed there (as_scope scope') (resolved_code k b)
     code_formed (end o) k scope scope' held f n = act_formed o k scope scope' held f n
     code_formed (store cs b) k scope scope' held f n =
         let h : Held g k (with_words (cell_vars cs) scope) (cell_vars cs ++ scope') (code_vars b) = held_more g k scope scope' (cell_vars cs) (code_vars b) held in
@@ -412,7 +412,7 @@ module _ (g : Program) (procs : List Procedure) (same_count : length procs ≡ l
     code_formed (bind t o b) k scope scope' held f n = bind_formed k scope scope' t o b held n.0 f.0 f.1 (act_formed o k scope scope' (held_middle g k scope scope' (target_vars t) (act_vars o) (code_vars b) held) f.0 n.1)
         (λ k' s s' h fb. code_formed b k' s s' h fb n.2) (alias_of t o) refl
 
-    arms_formed : (as' : Arms) (k : Table) (scope : Scope) (scope' : List ℕ) → Held g k scope scope' (arms_vars as') → ArmsFormed g scope as' → EachArms Any NoNodeTarget NoNodeVar BindsNothing as' → ArmsFormed there (as_scope scope') (resolved_arms k as')
+    arms_formed : (as' : Arms) (k : Table) (scope : Scope) (scope' : List ℕ) → Held g k scope scope' (arms_vars as') → ArmsFormed g scope as' → EachArms vectorised_kind as' → ArmsFormed there (as_scope scope') (resolved_arms k as')
     arms_formed no_arm k scope scope' held f n = tt
     arms_formed (arm s b as') k scope scope' held f n = (
       shape_stays g procs same_count s f.0,
@@ -421,7 +421,7 @@ module _ (g : Program) (procs : List Procedure) (same_count : length procs ≡ l
       arms_formed as' (noted_code b k) scope scope' (held_arms g k scope scope' (shape_vars s) b (arms_vars as') held) f.2 n.2,
     )
 
-  bodies_formed : (k : Table) (qs : List Procedure) → AllOf (ProcedureFormed g) qs → AllOf (λ q. EachCode Any NoNodeTarget NoNodeVar BindsNothing q.body) qs → ((y : ℕ) → times y (procs_vars qs) ≤ 1) → Fresh k (procs_vars qs)
+  bodies_formed : (k : Table) (qs : List Procedure) → AllOf (ProcedureFormed g) qs → EachBody vectorised_kind qs → ((y : ℕ) → times y (procs_vars qs) ≤ 1) → Fresh k (procs_vars qs)
       → AllOf (ProcedureFormed there) (resolved_procs k qs)
   bodies_formed k [] f n once fresh = tt
   bodies_formed k (q ∷ qs) f n once fresh = (
@@ -429,7 +429,7 @@ module _ (g : Program) (procs : List Procedure) (same_count : length procs ≡ l
     bodies_formed (noted_code q.body k) qs f.1 n.1 (once_next q qs once) (fresh_next k q qs once fresh),
   )
 
-pub resolved_formed : (g : Program) → Formed g → AllOf (λ q. EachCode Any NoNodeTarget NoNodeVar BindsNothing q.body) g.procs → Formed (resolved g)
+pub resolved_formed : (g : Program) → Formed g → EachBody vectorised_kind g.procs → Formed (resolved g)
 resolved_formed g f n =
     let procs : List Procedure = resolved_procs [] g.procs in
     let many : length procs ≡ length g.procs = as_many [] g.procs in

@@ -15,7 +15,7 @@ use Rattle.grin_meaning.specs.Values.{Datum, cell, Value, words, Env, HeapCell, 
 use Rattle.grin_meaning.specs.Run.{Calls, act_by, places, cells_of, place_of}
 use Rattle.grin_meaning.specs.Checks.{has_block, is_fetch, is_given, all_fill, is_bound_well}
 use Rattle.grin_meaning.specs.Follows.{Same, same}
-use Rattle.grin_meaning.specs.Ready.{Any, Inlined, NoNodeTarget, NoNodeVar, BindsNothing, EachAct, EachCode, EachArms, IsInlined, IsVectorised}
+use Rattle.grin_meaning.specs.Ready.{NoNodeTarget, NoNodeVar, BindsNothing, EachAct, EachCode, EachArms, IsInlined, IsVectorised, EachBody, inlined_kind, vectorised_kind}
 use Rattle.grin_meaning.specs.Keeps.{Keeps}
 use Rattle.grin_meaning.specs.Looking.{look, NeverMissed}
 use Rattle.grin_meaning.proofs.Back.{CallsBack}
@@ -299,7 +299,7 @@ module _ (g : Program) (formed : Formed g) (inlined : IsInlined g) (vectorised :
     mutual
       unfolding resolved_act noted_act act_vars ActFormed EachAct
 
-      act_goes : (o : Act) (k : Table) (scope : Scope) (scope' : List ℕ) → Held g k scope scope' (act_vars o) → ActFormed g scope o → EachAct Inlined Any Any Any o → EachAct Any NoNodeTarget NoNodeVar BindsNothing o → ActFollows it (R k scope) Same o (resolved_act k o)
+      act_goes : (o : Act) (k : Table) (scope : Scope) (scope' : List ℕ) → Held g k scope scope' (act_vars o) → ActFormed g scope o → EachAct inlined_kind o → EachAct vectorised_kind o → ActFollows it (R k scope) Same o (resolved_act k o)
       act_goes (case v as') k scope scope' held f i n = case_follows it {U = On (R k scope)} v (as_val k v) as' (resolved_arms k as') (arms_goes as' k scope scope' held f.1 i.2 n.2)
           (λ x y e. (y, value_via g k x.env' v n.1 ∙ value_has g (InScope scope.words) x.env (via g k x.env') x.related v (val_ok g scope v n.1 f.0) y e, (same, x.related)))
       act_goes (nested b) k scope scope' held f i n = nested_follows it b (resolved_code k b) (code_goes b k scope scope' held f i.1 n.1)
@@ -315,14 +315,14 @@ module _ (g : Program) (formed : Formed g) (inlined : IsInlined g) (vectorised :
       act_goes (write a) k scope scope' held f i n = write_follows it a (as_word k a) (λ x. word_too k scope a f x.env x.env' x.related) same
       act_goes fail k scope scope' held f i n = fail_follows it
 
-      code_goes : (b : Code) (k : Table) (scope : Scope) (scope' : List ℕ) → Held g k scope scope' (code_vars b) → CodeFormed g scope b → EachCode Inlined Any Any Any b → EachCode Any NoNodeTarget NoNodeVar BindsNothing b → CodeFollows it (R k scope) Same b (resolved_code k b)
+      code_goes : (b : Code) (k : Table) (scope : Scope) (scope' : List ℕ) → Held g k scope scope' (code_vars b) → CodeFormed g scope b → EachCode inlined_kind b → EachCode vectorised_kind b → CodeFollows it (R k scope) Same b (resolved_code k b)
       code_goes (end o) k scope scope' held f i n = end_follows it o (resolved_act k o) (act_goes o k scope scope' held f i n)
       code_goes (store cs b) k scope scope' held f i n = store_goes k scope scope' cs b (resolved_code k b) n.0 f.0 held
           (code_goes b k (with_words (cell_vars cs) scope) (cell_vars cs ++ scope') (held_more g k scope scope' (cell_vars cs) (code_vars b) held) f.1 i.1 n.1)
       code_goes (bind t o b) k scope scope' held f i n = bind_goes k scope scope' t o b held n.0 f.0 f.1 (act_goes o k scope scope' (held_middle g k scope scope' (target_vars t) (act_vars o) (code_vars b) held) f.0 i.1 n.1)
           (λ k' s s' h fb. code_goes b k' s s' h fb i.2 n.2) (alias_of t o) refl
 
-      arms_goes : (as' : Arms) (k : Table) (scope : Scope) (scope' : List ℕ) → Held g k scope scope' (arms_vars as') → ArmsFormed g scope as' → EachArms Inlined Any Any Any as' → EachArms Any NoNodeTarget NoNodeVar BindsNothing as' → ArmsFollow it (On (R k scope)) Same as' (resolved_arms k as')
+      arms_goes : (as' : Arms) (k : Table) (scope : Scope) (scope' : List ℕ) → Held g k scope scope' (arms_vars as') → ArmsFormed g scope as' → EachArms inlined_kind as' → EachArms vectorised_kind as' → ArmsFollow it (On (R k scope)) Same as' (resolved_arms k as')
       arms_goes no_arm k scope scope' held f i n = no_arm_follows it no_arm
       arms_goes (arm s b as') k scope scope' held f i n = arm_goes k scope scope' s b as' held n.0
           (code_goes b k scope scope' (held_middle g k scope scope' (shape_vars s) (code_vars b) (arms_vars as') held) (subst (λ xs. CodeFormed g (with_words xs scope) b) n.0 f.1) i.1 n.1)
@@ -341,7 +341,7 @@ module _ (g : Program) (formed : Formed g) (inlined : IsInlined g) (vectorised :
     abbrev with_body : Procedure → Code → Procedure
     with_body q b = record { name = q.name; params = q.params; body = b }
 
-    bodies_go : (f : ℕ) (k : Table) (qs : List Procedure) → AllOf (ProcedureFormed g) qs → AllOf (λ q. EachCode Inlined Any Any Any q.body) qs → AllOf (λ q. EachCode Any NoNodeTarget NoNodeVar BindsNothing q.body) qs
+    bodies_go : (f : ℕ) (k : Table) (qs : List Procedure) → AllOf (ProcedureFormed g) qs → EachBody inlined_kind qs → EachBody vectorised_kind qs
         → ((y : ℕ) → times y (procs_vars qs) ≤ 1) → Fresh k (procs_vars qs) → BodiesFollow it f qs (resolved_procs k qs)
     bodies_go f k [] fs is ns once fresh = no_more
     bodies_go f k (q ∷ qs) fs is ns once fresh = one_more {f = f} {q = q} {r = with_body q (resolved_code k q.body)} (record {

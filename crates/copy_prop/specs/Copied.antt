@@ -26,7 +26,8 @@ IsStill _ = ⊥
 abbrev pub Unused : Code → ℕ → Type 0
 Unused b x = CodeOk (λ y. y ≢ x) b
 
--- a statement before a block: it is no copy, and where it changes nothing the block uses what it binds
+-- a statement before a block: it is no copy, and where it changes nothing the block uses what it
+-- binds
 pub record IsNeeded (t : Target) (o : Act) (b : Code) : Type 0 where
   pub no_copy : IsCopy t o → ⊥
   pub not_idle : IsStill o → AllOf (Unused b) (target_vars t) → ⊥

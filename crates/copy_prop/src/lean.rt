@@ -114,7 +114,8 @@ fn thin_stmt(
     }
 }
 
-/// A block without its idle statements. It is walked from its end, so that what comes after a statement is known.
+/// A block without its idle statements. It is walked from its end, so that what comes after a
+/// statement is known.
 #[cycle(thin)]
 pub(crate) fn thin_block(uses: &mut Uses, alloc: Global, block: Block) -> Result<Block, AllocError>
     ensures tree { IfOk result (λ b. code_of b ≡ lean_code (code_of block)) }
@@ -138,7 +139,8 @@ pub(crate) fn thin_block(uses: &mut Uses, alloc: Global, block: Block) -> Result
     })
 }
 
-// Whether a bound operation changes nothing, and none of its target's variables was used after the first `from` uses.
+// Whether a bound operation changes nothing, and none of its target's variables was used after the
+// first `from` uses.
 fn idle(uses: &Uses, from: u64, target: &Target, op: &Op) -> bool
     ensures { result ≡ is_idle target.now (act_of op.now) (drop from uses.now) }
 {

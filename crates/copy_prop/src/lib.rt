@@ -1,4 +1,5 @@
-//! A pass: copies of words are replaced by the words, and statements that change nothing and bind what nobody uses go.
+//! A pass: copies of words are replaced by the words, and statements that change nothing and bind
+//! what nobody uses go.
 #![tactic(auto)]
 
 mod lean;

@@ -9,7 +9,8 @@ use grin_syntax::{Cell, Target, Val, VarId, Word};
 use std::alloc::{AllocError, Global};
 use std::marker::Model;
 
-/// The variables that were used so far, in the order of their uses. Whether one was used after a place is known at once.
+/// The variables that were used so far, in the order of their uses. Whether one was used after a
+/// place is known at once.
 #[derive(Drop)]
 pub(crate) struct Uses {
     seen: Vec<u32>,

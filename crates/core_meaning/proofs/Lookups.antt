@@ -17,7 +17,7 @@ use Rattle.core_meaning.specs.Looking as looking
 use Rattle.core_meaning.specs.Evaluation.{State, Answer, Gives, NoAlternative, OutOfBound, and_then, with_number, is_con, fields_of, is_int, spend_of, append, update, taken, Onward, nil, global, params_of, params, name, names, binding, with_group, give, give_all, next_byte, globals, start, parameters, force_binding, force, apply, prim, form, eval, select, enter_body, proceed, within}
 use Rattle.core_meaning.specs.Printing.{Printed, on_value, on_list, on_byte, print, printed}
 use Rattle.core_meaning.proofs.Shared.{global_below}
-use Rattle.core_meaning.specs.WellFormed.{In, InGroup, AllOf, HasFields, HasParams, VarOk, FormOk, TermOk, BranchesOk, FunOk, WellFormed}
+use Rattle.core_meaning.specs.WellFormed.{InLocals, InGroup, AllOf, HasFields, HasParams, VarOk, FormOk, TermOk, BranchesOk, FunOk, WellFormed}
 
 -- ---- lists
 
@@ -183,7 +183,7 @@ module _ (p : Program) where
       turn x (inr (inr i)) = inr i
 
   scope_fields : (xs as' : List ℕ) (S : ℕ → Type 0) (m : ℕ) (env' env : Env) → length as' ≡ length xs → NamesIn m as' → Scope S m env' env
-      → Scope (λ x. S x ⊎ In xs x) m (with_locals env' xs as') (with_locals env xs as')
+      → Scope (λ x. S x ⊎ InLocals xs x) m (with_locals env' xs as') (with_locals env xs as')
   scope_fields [] as' S m env' env e g k = scope_as S _ m m env' env out (omega arith) k
     where
       out : (x : ℕ) → S x ⊎ ⊥ → S x
@@ -193,7 +193,7 @@ module _ (p : Program) where
   scope_fields (x ∷ xs) (a ∷ as') S m env' env e g k =
       scope_as _ _ m m _ _ turn (omega arith) (scope_fields xs as' (λ y. S y ⊎ (y ≡ x)) m (with_local env' x a) (with_local env x a) (omega (arith, e)) g.1 (scope_local S m env' env x a g.0 k))
     where
-      turn : (y : ℕ) → S y ⊎ ((y ≡ x) ⊎ In xs y) → (S y ⊎ (y ≡ x)) ⊎ In xs y
+      turn : (y : ℕ) → S y ⊎ ((y ≡ x) ⊎ InLocals xs y) → (S y ⊎ (y ≡ x)) ⊎ InLocals xs y
       turn y (inl s) = inl (inl s)
       turn y (inr (inl e)) = inl (inr e)
       turn y (inr (inr i)) = inr i
@@ -400,7 +400,7 @@ module _ (p : Program) where
         selecting NoMore S v env' env d s h ok i k = record { same = refl; kept = tt }
         selecting (OnCon c fields body rest) S v env' env d s h ok i k =
             found_cases _ (is_con c v) _ _ _ _
-            (λ e. let f = fields_fit _ c fields v e i h.0 in evaluating body (λ x. S x ⊎ In fields x) (with_locals env' fields (fields_of v)) (with_locals env fields (fields_of v)) d s h.1 ok (scope_fields fields (fields_of v) S _ env' env f.0 f.1 k))
+            (λ e. let f = fields_fit _ c fields v e i h.0 in evaluating body (λ x. S x ⊎ InLocals fields x) (with_locals env' fields (fields_of v)) (with_locals env fields (fields_of v)) d s h.1 ok (scope_fields fields (fields_of v) S _ env' env f.0 f.1 k))
             (λ e. selecting rest S v env' env d s h.2 ok i k)
         selecting (OnInt c body rest) S v env' env d s h ok i k =
             found_cases _ (is_int c v) _ _ _ _ (λ e. evaluating body S env' env d s h.0 ok k) (λ e. selecting rest S v env' env d s h.1 ok i k)

@@ -27,7 +27,7 @@ use Rattle.arity_check.specs.Program as normal
 use Rattle.arity_check.specs.Program.{Program}
 use Rattle.core_meaning.specs.Evaluation.{nil, cons, con_named}
 use Rattle.std.specs.Str.{bytes_eq}
-use Rattle.core_meaning.specs.WellFormed.{WellFormed, FunOk, AllOf, In, InGroup, HasFields, HasParams, VarOk, FormOk, TermOk, BranchesOk}
+use Rattle.core_meaning.specs.WellFormed.{WellFormed, FunOk, AllOf, InLocals, InGroup, HasFields, HasParams, VarOk, FormOk, TermOk, BranchesOk}
 
 true_not_false : {A : Type 0} (b : Bool) → b ≡ true → b ≡ false → A
 true_not_false b e f = let c : true ≡ false = sym e ∙ f in cc
@@ -328,7 +328,7 @@ module _ (p : tree.Program) (q : Program) (nf : IsNormalForm p q) where
   in_group_right [] bounds x h = h
   in_group_right (b ∷ news) bounds x h = inr (in_group_right news bounds x h)
 
-  group_names : {s : Scope} {n : ℕ} {group : List Bind} {bounds : List Bound} {xs : List ℕ} → IsGroup p s n group bounds xs → (x : ℕ) → In xs x → InGroup bounds x
+  group_names : {s : Scope} {n : ℕ} {group : List Bind} {bounds : List Bound} {xs : List ℕ} → IsGroup p s n group bounds xs → (x : ℕ) → InLocals xs x → InGroup bounds x
   group_names NoMembers x h = absurd h
   group_names (AndMember news bounds form t a e more is) x (inl i) = subst (λ g. InGroup g x) (sym is) (in_group_right news (bound t form ∷ bounds) x (inl i))
   group_names (AndMember news bounds form t a e more is) x (inr h) = subst (λ g. InGroup g x) (sym is) (in_group_right news (bound t form ∷ bounds) x (inr (group_names more x h)))
@@ -345,16 +345,16 @@ module _ (p : tree.Program) (q : Program) (nf : IsNormalForm p q) where
       by_test false (inl e) = inr e
       by_test false (inr h) = inl h
 
-  binds_all_scope : (xs ys : List ℕ) (s : Scope) (z : ℕ) → InScope (binds_all p xs ys s) z → InScope s z ⊎ In ys z
+  binds_all_scope : (xs ys : List ℕ) (s : Scope) (z : ℕ) → InScope (binds_all p xs ys s) z → InScope s z ⊎ InLocals ys z
   binds_all_scope [] ys s z h = inl h
   binds_all_scope (x ∷ xs) [] s z h = inl h
   binds_all_scope (x ∷ xs) (y ∷ ys) s z h = turn (binds_all_scope xs ys (binds p x y s) z h)
     where
-      first : InScope s z ⊎ (z ≡ y) → InScope s z ⊎ In (y ∷ ys) z
+      first : InScope s z ⊎ (z ≡ y) → InScope s z ⊎ InLocals (y ∷ ys) z
       first (inl h) = inl h
       first (inr e) = inr (inl e)
 
-      turn : InScope (binds p x y s) z ⊎ In ys z → InScope s z ⊎ In (y ∷ ys) z
+      turn : InScope (binds p x y s) z ⊎ InLocals ys z → InScope s z ⊎ InLocals (y ∷ ys) z
       turn (inl h) = first (binds_scope x y s z h)
       turn (inr i) = inr (inr i)
 
@@ -378,10 +378,10 @@ module _ (p : tree.Program) (q : Program) (nf : IsNormalForm p q) where
   or_else f (inl a) = inl (f a)
   or_else f (inr b) = inr b
 
-  group_sub : (inner s : Scope) (names xs : List ℕ) (bounds : List Bound) (S : ℕ → Type 0) → ((x : ℕ) → InScope s x → S x) → inner ≡ binds_all p names xs s → ((x : ℕ) → In xs x → InGroup bounds x) → (x : ℕ) → InScope inner x → S x ⊎ InGroup bounds x
+  group_sub : (inner s : Scope) (names xs : List ℕ) (bounds : List Bound) (S : ℕ → Type 0) → ((x : ℕ) → InScope s x → S x) → inner ≡ binds_all p names xs s → ((x : ℕ) → InLocals xs x → InGroup bounds x) → (x : ℕ) → InScope inner x → S x ⊎ InGroup bounds x
   group_sub inner s names xs bounds S sub e names_in x i = turn (binds_all_scope names xs s x (subst (λ t. InScope t x) e i))
     where
-      turn : InScope s x ⊎ In xs x → S x ⊎ InGroup bounds x
+      turn : InScope s x ⊎ InLocals xs x → S x ⊎ InGroup bounds x
       turn (inl h) = inl (sub x h)
       turn (inr h) = inr (names_in x h)
 
@@ -408,7 +408,7 @@ module _ (p : tree.Program) (q : Program) (nf : IsNormalForm p q) where
         let d : PairAt (IsConstructor p) q.cons number k.found = pair_at (IsConstructor p) p.constructors q.cons number k.found nf.cons k.is in
         let many : length xs ≡ length fields = ap length r ∙ length-range_with_len _ (length fields) in
         let has : HasFields q number (length xs) = (d.other, d.is, d.related.fields ∙ sym (g 0 at fields k.found refl k.first) ∙ sym many) in
-        (has, term_ok a (λ x. S x ⊎ In xs x) (λ x i. or_else (sub x) (binds_all_scope (map (λ y. y.name.0) fields) xs s x i)) (broken.within p fields t0) (λ t pc h. f t pc (broken.InThis h)), branches_ok b S sub t0 (λ t pc h. f t pc (broken.InLater h)) (λ i c fs d x y. g (suc i) c fs d x y))
+        (has, term_ok a (λ x. S x ⊎ InLocals xs x) (λ x i. or_else (sub x) (binds_all_scope (map (λ y. y.name.0) fields) xs s x i)) (broken.within p fields t0) (λ t pc h. f t pc (broken.InThis h)), branches_ok b S sub t0 (λ t pc h. f t pc (broken.InLater h)) (λ i c fs d x y. g (suc i) c fs d x y))
     branches_ok (IntBranch a b) S sub t0 f g = (term_ok a S sub (broken.within p [] t0) (λ t pc h. f t pc (broken.InThis h)), branches_ok b S sub t0 (λ t pc h. f t pc (broken.InLater h)) (λ i c fs d x y. g (suc i) c fs d x y))
     branches_ok (NamelessBranch {x = x} e a b) S sub t0 f g = (term_ok a S sub (broken.within p (x ∷ []) t0) (λ t pc h. f t pc (broken.InThis h)), branches_ok b S sub t0 (λ t pc h. f t pc (broken.InLater h)) (λ i c fs d x y. g (suc i) c fs d x y))
     branches_ok {s = s} {n = n} (NamedBranch {x = x} e a b) S sub t0 f g =
@@ -447,7 +447,7 @@ module _ (p : tree.Program) (q : Program) (nf : IsNormalForm p q) where
     piece_fine t (AGroup group) f = tt
     piece_fine t (SomeAlts alts) f = alts_fine t alts f
 
-    in_range : (a n x : ℕ) → In (range_with_len a n) x → x < a + n
+    in_range : (a n x : ℕ) → InLocals (range_with_len a n) x → x < a + n
     in_range a zero x h = absurd h
     in_range a (suc n) x (inl e) = omega (arith, e)
     in_range a (suc n) x (inr h) = let l = in_range (a + 1) n x h in omega (arith, l)
@@ -456,7 +456,7 @@ module _ (p : tree.Program) (q : Program) (nf : IsNormalForm p q) where
     fun_ok i f g is w =
         term_ok w.body (λ x. x < g.params) (λ x h. from (binds_all_scope (map (λ x. x.name.0) f.params) (range_with_len 0 (length f.params)) [] x h)) (broken.within p f.params []) (λ t piece h. piece_fine t piece (record { number = i; function = f; is = is; has = h }))
       where
-        from : {x : ℕ} → InScope [] x ⊎ In (range_with_len 0 (length f.params)) x → x < g.params
+        from : {x : ℕ} → InScope [] x ⊎ InLocals (range_with_len 0 (length f.params)) x → x < g.params
         from (inl z) = absurd z
         from {x} (inr h) = let l = in_range 0 (length f.params) x h in let e = w.params in omega (arith, l, e)
 

@@ -9,7 +9,8 @@ use Rattle.core_meaning.specs.Printing.{Printed, Going, print, printed}
 abbrev pub Begins : List ℕ → List ℕ → Type 0
 Begins xs ys = (more : List ℕ) × (ys ≡ xs ++ more)
 
--- b goes on from where a stood: no output is lost, cells, depth and bytes taken are no fewer, and where a has ended nothing changes
+-- b goes on from where a stood: no output is lost, cells, depth and bytes taken are no fewer, and
+-- where a has ended nothing changes
 pub record Extends (a b : Printed) : Type 0 where
   pub output : Begins a.out b.out
   pub cells : a.cells ≤ b.cells
@@ -18,10 +19,13 @@ pub record Extends (a b : Printed) : Type 0 where
   pub ended : a.end ≢ Going → b ≡ a
 
 abbrev pub LargerBoundExtends : Type 0
-LargerBoundExtends = (p : Program) (i : List ℕ) (m n : ℕ) → m ≤ n → Extends (printed p i m) (printed p i n)
+LargerBoundExtends =
+    (p : Program) (i : List ℕ) (m n : ℕ) → m ≤ n → Extends (printed p i m) (printed p i n)
 
--- the numbers by which evaluation and the printing loop recurse end nothing by themselves: from the units left on, each number
--- gives the same
+-- the numbers by which evaluation and the printing loop recurse end nothing by themselves: from the
+-- units left on, each number gives the same
 pub record RecursionIsFree : Type 0 where
-  pub evaluation : (p : Program) (n m : ℕ) (t : Delayed) (d : ℕ) (s : State) → s.left ≤ n → within p (n + m) t d s ≡ within p n t d s
-  pub printing : (p : Program) (n m a : ℕ) (out : List ℕ) (s : State) → s.left ≤ n → print p (n + m) a out s ≡ print p n a out s
+  pub evaluation : (p : Program) (n m : ℕ) (t : Delayed) (d : ℕ) (s : State)
+      → s.left ≤ n → within p (n + m) t d s ≡ within p n t d s
+  pub printing : (p : Program) (n m a : ℕ) (out : List ℕ) (s : State) → s.left ≤ n
+      → print p (n + m) a out s ≡ print p n a out s

@@ -1,8 +1,8 @@
--- The evaluation of a program by need, with a bound on its units, and the printing loop. What a lookup gives that fails is a
--- parameter of both.
+-- The evaluation of a program by need, with a bound on its units, and the printing loop. What a
+-- lookup gives that fails is a parameter of both.
 --
--- A unit is spent where a function's body is entered, and where a delayed application or operation or the input is forced. The
--- nesting counts the evaluations that are waiting for this one's value.
+-- A unit is spent where a function's body is entered, and where a delayed application or operation
+-- or the input is forced. The nesting counts the evaluations that are waiting for this one's value.
 use Rattle.std.specs.Prelude.{ℕ, zero, suc, ℤ, pos, ◌+◌, ◌==◌, nat_lt, max, Bool, true, false, List, [], ◌∷◌, ◌++◌, map, length, take, codes, Option, Some, None, if◌then◌else◌, slice_get, slice_index_or, slice_set}
 use Rattle.std.specs.List.{count_by}
 use Rattle.std.specs.Str.{bytes_eq}
@@ -18,8 +18,8 @@ use Rattle.core_meaning.specs.Heap.{Value, Int, Con, Part, Delayed, Call, Apply,
 use Rattle.numbers.specs.Numbers.{same_number, low_byte}
 use Rattle.core_meaning.specs.Numbers.{operate}
 
--- the heap, the units that are left, the greatest nesting at which one was spent, the bytes of the input that are left, and how
--- many were taken
+-- the heap, the units that are left, the greatest nesting at which one was spent, the bytes of the
+-- input that are left, and how many were taken
 pub record State : Type 0 where
   pub heap : Heap
   pub left : ℕ
@@ -156,7 +156,9 @@ module _ (p : Program) where
     -- the list of the bytes that are left: none, or the next one and the list of the others
     abbrev pub next_byte : List ℕ → State → Answer
     next_byte [] s = Gives (Con nil []) s
-    next_byte (k ∷ rest) s = Gives (Con cons (length s.heap ∷ suc (length s.heap) ∷ [])) (append (taken s rest) (Known (Int (pos k)) ∷ Waiting Input ∷ []))
+    next_byte (k ∷ rest) s =
+        Gives (Con cons (length s.heap ∷ suc (length s.heap) ∷ []))
+        (append (taken s rest) (Known (Int (pos k)) ∷ Waiting Input ∷ []))
 
 -- how a run stands: its list ended, no alternative accepted a value, or it goes on past the bound
 pub data End : Type 0 where
@@ -164,7 +166,8 @@ pub data End : Type 0 where
   Unaccepted : End
   Going : End
 
--- the bytes put out, the end, the number of bindings, the greatest nesting at which a unit was spent, and the bytes taken
+-- the bytes put out, the end, the number of bindings, the greatest nesting at which a unit was
+-- spent, and the bytes taken
 pub record Printed : Type 0 where
   pub out : List ℕ
   pub end : End
@@ -173,7 +176,8 @@ pub record Printed : Type 0 where
   pub used : ℕ
 
 abbrev pub stops : List ℕ → End → State → Printed
-stops out end s = record { out = out; end = end; cells = length s.heap; depth = s.depth; used = s.used }
+stops out end s =
+    record { out = out; end = end; cells = length s.heap; depth = s.depth; used = s.used }
 
 -- goes on with a value
 abbrev pub on_value : Answer → List ℕ → (Value → State → Printed) → Printed
@@ -181,13 +185,15 @@ on_value (Gives v s) out go = go v s
 on_value (NoAlternative s) out go = stops out Unaccepted s
 on_value (OutOfBound s) out go = stops out Going s
 
--- goes on with the head and the tail of a list; the first number is that of Nil, the second that of Cons
+-- goes on with the head and the tail of a list; the first number is that of Nil, the second that of
+-- Cons
 abbrev pub on_list : ℕ → ℕ → Value → List ℕ → State → (ℕ → ℕ → Printed) → Printed
 on_list n c (Int k) out s go = stops out Unaccepted s
 on_list n c (Part f xs) out s go = stops out Unaccepted s
 on_list n c (Con d []) out s go = stops out (if d == n then Done else Unaccepted) s
 on_list n c (Con d (h ∷ [])) out s go = stops out Unaccepted s
-on_list n c (Con d (h ∷ t ∷ [])) out s go = elim (d == c) [ true ↦ go h t | false ↦ stops out Unaccepted s ]
+on_list n c (Con d (h ∷ t ∷ [])) out s go =
+    elim (d == c) [ true ↦ go h t | false ↦ stops out Unaccepted s ]
 on_list n c (Con d (h ∷ t ∷ u ∷ xs)) out s go = stops out Unaccepted s
 
 -- goes on with the low byte of a number
@@ -196,8 +202,8 @@ on_byte (Int k) out s go = go (low_byte k)
 on_byte (Con c xs) out s go = stops out Unaccepted s
 on_byte (Part f xs) out s go = stops out Unaccepted s
 
--- Nowhere is the name of a local that is not in scope, and lost is the answer where the heap has no such name or the program no
--- such function.
+-- Nowhere is the name of a local that is not in scope, and lost is the answer where the heap has no
+-- such name or the program no such function.
 module _ (nowhere : ℕ) (lost : State → Answer) where
   -- the locals from 0 on have these names
   abbrev pub parameters : List ℕ → Env
@@ -208,7 +214,8 @@ module _ (nowhere : ℕ) (lost : State → Answer) where
       abbrev pub force_binding : Option Binding → ℕ → ℕ → State → Answer
       force_binding None a d s = lost s
       force_binding (Some (Known v)) a d s = Gives v s
-      force_binding (Some (Waiting t)) a d s = and_then (onward t (suc d) s) (λ v s. Gives v (update s a v))
+      force_binding (Some (Waiting t)) a d s =
+          and_then (onward t (suc d) s) (λ v s. Gives v (update s a v))
 
       -- the value of a name: what waits there is evaluated, and its value stays there
       abbrev pub force : ℕ → ℕ → State → Answer
@@ -240,13 +247,17 @@ module _ (nowhere : ℕ) (lost : State → Answer) where
         eval (Let group body) env d s =
             let env' : Env = with_group p env group (length s.heap) in
             eval body env' d (append s (map (λ b. binding p env' b.flat) group))
-        eval (Case tested branches) env d s = and_then (eval tested env (suc d) s) (λ v s. select branches v env d s)
+        eval (Case tested branches) env d s =
+            and_then (eval tested env (suc d) s) (λ v s. select branches v env d s)
 
         -- the first branch that accepts a value
         pub select : Branches → Value → Env → ℕ → State → Answer
         select NoMore v env d s = NoAlternative s
         select (OnCon c fields body rest) v env d s =
-            elim (is_con c v) [ true ↦ eval body (with_locals env fields (fields_of v)) d s | false ↦ select rest v env d s ]
+            elim (is_con c v) [
+              | true ↦ eval body (with_locals env fields (fields_of v)) d s
+              | false ↦ select rest v env d s
+            ]
         select (OnInt k body rest) v env d s =
             elim (is_int k v) [ true ↦ eval body env d s | false ↦ select rest v env d s ]
         select (OnAny None body rest) v env d s = eval body env d s
@@ -265,8 +276,8 @@ module _ (nowhere : ℕ) (lost : State → Answer) where
       proceed (Prim op a b) d s = prim op a b d s
       proceed Input d s = next_byte p onward s.input s
 
-    -- spends a unit and goes on, where at most n units are spent inside one another. It meets its own end only where n is below the
-    -- units left
+    -- spends a unit and goes on, where at most n units are spent inside one another. It meets its
+    -- own end only where n is below the units left
     abbrev pub within : ℕ → Onward
     within zero t d s = OutOfBound s
     within (suc n) t d s = spend d s (proceed (within n) t d)
@@ -275,7 +286,8 @@ module _ (nowhere : ℕ) (lost : State → Answer) where
     abbrev pub print : ℕ → ℕ → List ℕ → State → Printed
     print zero a out s = stops out Going s
     print (suc n) a out s =
-        on_value (spend 0 s (force (within n) a 1)) out (λ v s. on_list (nil p) (cons p) v out s (λ h t.
+        on_value (spend 0 s (force (within n) a 1)) out (λ v s.
+        on_list (nil p) (cons p) v out s (λ h t.
         on_value (force (within n) h 1 s) out (λ w s. on_byte w out s (λ byte.
         print n t (out ++ byte ∷ []) s))))
 
@@ -284,8 +296,12 @@ module _ (nowhere : ℕ) (lost : State → Answer) where
     printed_from_input i zero = stops [] Going (start p i 0)
     printed_from_input i (suc n) =
         let s : State = start p i n in
-        print n (suc (length s.heap)) [] (append s (Waiting Input ∷ Waiting (Call p.main (length s.heap ∷ [])) ∷ []))
+        print n (suc (length s.heap)) []
+        (append s (Waiting Input ∷ Waiting (Call p.main (length s.heap ∷ [])) ∷ []))
 
     -- what the program puts out on the input i within n units
     abbrev pub printed : List ℕ → ℕ → Printed
-    printed i n = elim (params p p.main == 0) [ true ↦ print n (global p p.main) [] (start p i n) | false ↦ printed_from_input i n ]
+    printed i n = elim (params p p.main == 0) [
+      | true ↦ print n (global p p.main) [] (start p i n)
+      | false ↦ printed_from_input i n
+    ]

@@ -6,8 +6,8 @@ use Rattle.core_meaning.specs.Looking as looking
 use Rattle.core_meaning.specs.Evaluation.{State, Answer}
 use Rattle.core_meaning.specs.Printing.{printed}
 
--- Whichever name a local has that is not in scope, and whatever the answer is for a name past the heap and for an unknown function,
--- a valid program puts out the same.
+-- Whichever name a local has that is not in scope, and whatever the answer is for a name past the
+-- heap and for an unknown function, a valid program puts out the same.
 abbrev pub NoLookupFails : Type 0
 NoLookupFails =
     (p : Program) → IsValid p → (nowhere : ℕ) (lost : State → Answer) (i : List ℕ) (n : ℕ)

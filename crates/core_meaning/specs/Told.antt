@@ -10,4 +10,6 @@ end_of Done = done
 end_of Unaccepted = no_alternative
 
 abbrev pub of_core : Program → Meaning
-of_core p i n = let r = printed p i n in record { out = r.out; end = end_of r.end; cells = r.cells; depth = r.depth; used = r.used }
+of_core p i n =
+    let r = printed p i n in
+    record { out = r.out; end = end_of r.end; cells = r.cells; depth = r.depth; used = r.used }

@@ -1,4 +1,5 @@
--- What is known of each valid program: names are in scope, and there are as many arguments as parameters and fields.
+-- What is known of each valid program: names are in scope, and there are as many arguments as
+-- parameters and fields.
 use Rattle.std.specs.Prelude.{◌≡◌, ℕ, ◌<◌, ◌≤◌, ◌⊎◌, List, [], ◌∷◌, length, Some, None, slice_get}
 use Rattle.arity_check.specs.declared.normal.Con as arity
 use Rattle.arity_check.specs.declared.normal.Var.{Var}
@@ -11,9 +12,10 @@ use Rattle.arity_check.specs.Accepted.{IsValid}
 use Rattle.core_meaning.specs.Evaluation.{nil, cons}
 pub use Rattle.seq.specs.Lists.{AllOf}
 
-abbrev pub In : List ℕ → ℕ → Type 0
-In [] x = ⊥
-In (y ∷ ys) x = (x ≡ y) ⊎ In ys x
+-- x is one of some locals, or of those that a group binds
+abbrev pub InLocals : List ℕ → ℕ → Type 0
+InLocals [] x = ⊥
+InLocals (y ∷ ys) x = (x ≡ y) ⊎ InLocals ys x
 
 abbrev pub InGroup : List Bound → ℕ → Type 0
 InGroup [] x = ⊥
@@ -52,7 +54,8 @@ module _ (p : Program) where
 
     pub BranchesOk : (ℕ → Type 0) → Branches → Type 0
     BranchesOk S NoMore = Unit {0}
-    BranchesOk S (OnCon c xs e rest) = HasFields c (length xs) × TermOk (λ x. S x ⊎ In xs x) e × BranchesOk S rest
+    BranchesOk S (OnCon c xs e rest) =
+        HasFields c (length xs) × TermOk (λ x. S x ⊎ InLocals xs x) e × BranchesOk S rest
     BranchesOk S (OnInt k e rest) = TermOk S e × BranchesOk S rest
     BranchesOk S (OnAny None e rest) = TermOk S e × BranchesOk S rest
     BranchesOk S (OnAny (Some x) e rest) = TermOk (λ y. S y ⊎ (y ≡ x)) e × BranchesOk S rest

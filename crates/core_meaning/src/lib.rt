@@ -1,6 +1,8 @@
-//! The meaning of a program in normal form: evaluation by need with a bound on its units, and the printing loop.
+//! The meaning of a program in normal form: evaluation by need with a bound on its units, and the
+//! printing loop.
 //!
-//! It has definitions and their laws, and no call of the compiler. The laws stand in the contracts of functions without a body.
+//! It has definitions and their laws, and no call of the compiler. The laws stand in the contracts
+//! of functions without a body.
 #![tactic(auto)]
 
 ghost use Rattle.core_meaning.specs.Laws.{LargerBoundExtends, RecursionIsFree};
@@ -8,8 +10,8 @@ ghost use Rattle.core_meaning.specs.Examples.{Examples};
 ghost use Rattle.core_meaning.specs.WellFormed.{ValidProgramsAreWellFormed};
 ghost use Rattle.core_meaning.specs.Lookups.{NoLookupFails};
 
-/// A larger bound extends what a program puts out: the output begins with the smaller bound's, the cells, the depth and the
-/// bytes taken are no fewer, and after an end nothing changes.
+/// A larger bound extends what a program puts out: the output begins with the smaller bound's, the
+/// cells, the depth and the bytes taken are no fewer, and after an end nothing changes.
 pub fn larger_bound()
     ensures { LargerBoundExtends }
 {}
@@ -29,8 +31,9 @@ pub fn valid_programs_are_well_formed()
     ensures { ValidProgramsAreWellFormed }
 {}
 
-/// In the evaluation of a valid program no lookup fails: each local is in scope, each name is in the heap, and each function is
-/// there. So a value that no alternative accepts is all that ends a program early.
+/// In the evaluation of a valid program no lookup fails: each local is in scope, each name is in
+/// the heap, and each function is there. So a value that no alternative accepts is all that ends a
+/// program early.
 pub fn no_lookup_fails()
     ensures { NoLookupFails }
 {}

@@ -1,4 +1,5 @@
--- The canonical text of a program: each declaration is a line, the constructors first and then the functions. One space stands between two tokens, but none after `(` and none before `)` and `;`.
+-- The canonical text of a program: each declaration is a line, the constructors first and then the
+-- functions. One space stands between two tokens, but none after `(` and none before `)` and `;`.
 use Rattle.std.specs.Prelude.{ℕ, List, [], ◌∷◌, ◌++◌, codes, decimal, slice_get, Option, Some, None}
 use Rattle.std.specs.List.{flat_map}
 use Rattle.std.specs.Fmt.{signed_decimal}
@@ -26,7 +27,8 @@ module _ (names : List (List ℕ)) where
     term_text (tree.Name n at) = name_text n
     term_text (tree.Con n at) = name_text n
     term_text (tree.Int k at) = signed_decimal k
-    term_text (tree.Bracket head args at) = codes "(" ++ term_text head ++ terms_text args ++ codes ")"
+    term_text (tree.Bracket head args at) =
+        codes "(" ++ term_text head ++ terms_text args ++ codes ")"
 
     -- each argument behind a space
     pub terms_text : Terms → List ℕ
@@ -52,19 +54,24 @@ module _ (names : List (List ℕ)) where
   abbrev mutual
     pub expr_text : Expr → List ℕ
     expr_text (App app) = app_text app
-    expr_text (Let group e) = codes "let" ++ group_text (codes " ") group ++ codes " in " ++ expr_text e
-    expr_text (Case e alts) = codes "case " ++ expr_text e ++ codes " of" ++ alts_text (codes " { ") alts ++ codes " }"
+    expr_text (Let group e) =
+        codes "let" ++ group_text (codes " ") group ++ codes " in " ++ expr_text e
+    expr_text (Case e alts) =
+        codes "case " ++ expr_text e ++ codes " of" ++ alts_text (codes " { ") alts ++ codes " }"
 
     -- the alternatives, the first behind a lead and each further one behind `; `
     pub alts_text : (lead : List ℕ) → Alts → List ℕ
     alts_text lead NoAlts = []
-    alts_text lead (AndAlt p e xs) = lead ++ pattern_text p ++ codes " -> " ++ expr_text e ++ alts_text (codes "; ") xs
+    alts_text lead (AndAlt p e xs) =
+        lead ++ pattern_text p ++ codes " -> " ++ expr_text e ++ alts_text (codes "; ") xs
 
   abbrev pub data_line : Data → List ℕ
   data_line d = codes "data " ++ name_text d.name ++ codes " " ++ decimal d.fields ++ codes ";\n"
 
   abbrev pub function_line : Function → List ℕ
-  function_line f = name_text f.name ++ binders_text f.params ++ codes " = " ++ expr_text f.body ++ codes ";\n"
+  function_line f =
+      name_text f.name ++ binders_text f.params ++ codes " = " ++ expr_text f.body ++ codes ";\n"
 
 abbrev pub canonical : Program → List ℕ
-canonical p = flat_map (data_line p.names) p.constructors ++ flat_map (function_line p.names) p.functions
+canonical p =
+    flat_map (data_line p.names) p.constructors ++ flat_map (function_line p.names) p.functions

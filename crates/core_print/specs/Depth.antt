@@ -1,4 +1,5 @@
--- How many `(`, `let` and `case` are open at one place: a `(` to its `)`, a `case` to its `}`, a `let` to the end of its body.
+-- How many `(`, `let` and `case` are open at one place: a `(` to its `)`, a `case` to its `}`, a
+-- `let` to the end of its body.
 use Rattle.std.specs.Prelude.{ℕ, suc, max, List, [], ◌∷◌}
 use Rattle.core_reader.specs.Tree.{Term, Terms, Name, Con, Int, Bracket, NoTerms, AndTerm, Application, Bind, Expr, App, Let, Case, Alts, NoAlts, AndAlt, Function, Program}
 

@@ -11,7 +11,8 @@ use Rattle.core_print.specs.Canonical.{canonical}
 use Rattle.core_print.specs.Depth.{program_depth}
 use Rattle.core_print.specs.Same.{SameProgram}
 
--- The text breaks no rule, and it stands for the program, the places and the numbers of the names aside.
+-- The text breaks no rule, and it stands for the program, the places and the numbers of the names
+-- aside.
 pub record StandsFor (text : List ℕ) (p : Program) : Type 0 where
   pub unbroken : IsUnbroken text
   pub read : Program
@@ -21,13 +22,16 @@ pub record StandsFor (text : List ℕ) (p : Program) : Type 0 where
 
 -- A canonical text that is neither too long nor too deep stands for its program.
 abbrev pub CanonicalStands : Type 0
-CanonicalStands = (p : Program) → IsReadable p → length (canonical p) ≤ 1048576 → program_depth p ≤ 200 → StandsFor (canonical p) p
+CanonicalStands =
+    (p : Program) → IsReadable p → length (canonical p) ≤ 1048576
+    → program_depth p ≤ 200 → StandsFor (canonical p) p
 
 abbrev pub IsMemory : ReadRefusal → Type 0
 IsMemory (refusal.Memory e) = Unit {0}
 IsMemory refused = ⊥
 
--- What the reader may answer to the canonical text of a program: the same program, and no refusal but want of memory.
+-- What the reader may answer to the canonical text of a program: the same program, and no refusal
+-- but want of memory.
 abbrev pub IsSameAgain : Program → Result Core ReadRefusal → Type 0
 IsSameAgain p (Ok again) = SameProgram p (program again)
 IsSameAgain p (Err e) = IsMemory e

@@ -36,7 +36,8 @@ module _ (names others : List (List ℕ)) where
   SameBind b c = SameBinder b.binder c.binder × SameApp b.app c.app
 
   abbrev pub SamePattern : Pattern → Pattern → Type 0
-  SamePattern (pattern.Con c fields) (pattern.Con d others) = SameBinder c d × AllZip SameBinder fields others
+  SamePattern (pattern.Con c fields) (pattern.Con d others) =
+      SameBinder c d × AllZip SameBinder fields others
   SamePattern (pattern.Int k at) (pattern.Int j to) = k ≡ j
   SamePattern (pattern.Default x) (pattern.Default y) = SameBinder x y
   SamePattern p q = ⊥
@@ -57,7 +58,8 @@ module _ (names others : List (List ℕ)) where
   SameData c d = SameName c.name d.name × (c.fields ≡ d.fields)
 
   abbrev pub SameFunction : Function → Function → Type 0
-  SameFunction f g = SameName f.name g.name × AllZip SameBinder f.params g.params × SameExpr f.body g.body
+  SameFunction f g =
+      SameName f.name g.name × AllZip SameBinder f.params g.params × SameExpr f.body g.body
 
 pub record SameProgram (p q : Program) : Type 0 where
   pub constructors : AllZip (SameData p.names q.names) p.constructors q.constructors

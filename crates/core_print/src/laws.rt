@@ -11,15 +11,16 @@ use crate::printer::print;
 use core_reader::{Core, ReadRefusal, read};
 use std::alloc::Global;
 
-/// The canonical text of a readable program stands for it: within the limits of length (1,048,576 bytes) and nesting (200
-/// open constructs) it breaks no rule, and the program that it stands for is the same, the places and the numbers of
-/// the names aside.
+/// The canonical text of a readable program stands for it: within the limits of length (1,048,576
+/// bytes) and nesting (200 open constructs) it breaks no rule, and the program that it stands for
+/// is the same, the places and the numbers of the names aside.
 pub fn canonical_stands()
     ensures { CanonicalStands }
 {}
 
-/// What `read` answers to the text that `print` gives: within the limits of length (1,048,576 bytes) and nesting (200 open
-/// constructs), the same program, the places and the numbers of the names aside, or want of memory.
+/// What `read` answers to the text that `print` gives: within the limits of length (1,048,576
+/// bytes) and nesting (200 open constructs), the same program, the places and the numbers of the
+/// names aside, or want of memory.
 pub fn reread(alloc: Global, core: &Core) -> Result<Core, ReadRefusal>
     requires { IsReadable (program core.now) }
     ensures { length (canonical (program core.now)) ≤ 1048576 → program_depth (program core.now)

@@ -11,9 +11,9 @@ use seq::Seq;
 use std::alloc::{AllocError, Global};
 use std::marker::Model;
 
-/// The canonical text of a program: each declaration is a line, the constructors first and then the functions. One
-/// space stands between two tokens, but none after `(` and none before `)` and `;`. Time and memory are linear in the
-/// text.
+/// The canonical text of a program: each declaration is a line, the constructors first and then the
+/// functions. One space stands between two tokens, but none after `(` and none before `)` and `;`.
+/// Time and memory are linear in the text.
 pub fn print(alloc: Global, core: &Core) -> Result<Vec<u8>, AllocError>
     ensures { IfOk result (λ text. text.items ≡ canonical (program core.now)) }
 {

@@ -36,14 +36,18 @@ abbrev mutual
   pub SpellsTerm : Room → ℕ → Term → List Lexeme → Type 0
   SpellsTerm room depth (tree.Name n at) ts = ts ≡ lexeme at (word.Name (name_id n)) ∷ []
   SpellsTerm room depth (tree.Con n at) ts = ts ≡ lexeme at (word.Con (name_id n)) ∷ []
-  SpellsTerm room depth (tree.Int k at) ts = (minus : Bool) × (ts ≡ lexeme at (word.Number minus k) ∷ [])
+  SpellsTerm room depth (tree.Int k at) ts =
+      (minus : Bool) × (ts ≡ lexeme at (word.Number minus k) ∷ [])
   SpellsTerm room depth (tree.Bracket head args at) ts =
-      (us vs : List Lexeme) × (end : ℕ) × (room depth ≡ true) × SpellsTerm room (suc depth) head us × SpellsTerms room (suc depth) args vs
+      (us vs : List Lexeme) × (end : ℕ) × (room depth ≡ true) × SpellsTerm room (suc depth) head us
+      × SpellsTerms room (suc depth) args vs
       × (ts ≡ lexeme at word.Open ∷ (us ++ (vs ++ lexeme end word.Close ∷ [])))
 
   pub SpellsTerms : Room → ℕ → Terms → List Lexeme → Type 0
   SpellsTerms room depth NoTerms ts = ts ≡ []
-  SpellsTerms room depth (AndTerm a xs) ts = (us vs : List Lexeme) × SpellsTerm room depth a us × SpellsTerms room depth xs vs × (ts ≡ us ++ vs)
+  SpellsTerms room depth (AndTerm a xs) ts =
+      (us vs : List Lexeme) × SpellsTerm room depth a us
+      × SpellsTerms room depth xs vs × (ts ≡ us ++ vs)
 
 abbrev pub SpellsApp : Room → ℕ → Application → List Lexeme → Type 0
 SpellsApp room depth app ts = SpellsTerms room depth (AndTerm app.head app.args) ts
@@ -57,7 +61,9 @@ abbrev pub IsOptional : List Lexeme → Type 0
 IsOptional ts = (ts ≡ []) ⊎ IsSign word.Semicolon ts
 
 abbrev pub SpellsBind : Room → ℕ → Bind → List Lexeme → Type 0
-SpellsBind room depth b ts = (equals : ℕ) × (us : List Lexeme) × SpellsApp room depth b.app us × (ts ≡ lexeme b.binder.at (word.Name b.binder.name) ∷ lexeme equals word.Equals ∷ us)
+SpellsBind room depth b ts =
+    (equals : ℕ) × (us : List Lexeme) × SpellsApp room depth b.app us
+    × (ts ≡ lexeme b.binder.at (word.Name b.binder.name) ∷ lexeme equals word.Equals ∷ us)
 
 -- Between two bindings stands one `;`, and after the last one may stand.
 abbrev pub AfterBind : List Bind → List Lexeme → Type 0
@@ -66,7 +72,9 @@ AfterBind (b ∷ bs) ts = IsSign word.Semicolon ts
 
 abbrev pub SpellsBinds : Room → ℕ → List Bind → List Lexeme → Type 0
 SpellsBinds room depth [] ts = ts ≡ []
-SpellsBinds room depth (b ∷ bs) ts = (us semi vs : List Lexeme) × SpellsBind room depth b us × AfterBind bs semi × SpellsBinds room depth bs vs × (ts ≡ us ++ (semi ++ vs))
+SpellsBinds room depth (b ∷ bs) ts =
+    (us semi vs : List Lexeme) × SpellsBind room depth b us × AfterBind bs semi
+    × SpellsBinds room depth bs vs × (ts ≡ us ++ (semi ++ vs))
 
 abbrev pub IsGroup : List Bind → Type 0
 IsGroup [] = ⊥
@@ -89,16 +97,20 @@ abbrev mutual
   pub SpellsExpr : Room → ℕ → Expr → List Lexeme → Type 0
   SpellsExpr room depth (App app) ts = SpellsApp room depth app ts
   SpellsExpr room depth (Let group e) ts =
-      (p q : ℕ) × (us vs : List Lexeme) × (room depth ≡ true) × IsGroup group × SpellsBinds room (suc depth) group us × SpellsExpr room (suc depth) e vs
+      (p q : ℕ) × (us vs : List Lexeme) × (room depth ≡ true) × IsGroup group
+      × SpellsBinds room (suc depth) group us × SpellsExpr room (suc depth) e vs
       × (ts ≡ lexeme p word.Let ∷ (us ++ (lexeme q word.In ∷ vs)))
   SpellsExpr room depth (Case e alts) ts =
-      (p q r s : ℕ) × (us vs : List Lexeme) × (room depth ≡ true) × IsSomeAlts alts × SpellsExpr room (suc depth) e us × SpellsAlts room (suc depth) alts vs
-      × (ts ≡ lexeme p word.Case ∷ (us ++ (lexeme q word.Of ∷ lexeme r word.OpenBrace ∷ (vs ++ lexeme s word.CloseBrace ∷ []))))
+      (p q r s : ℕ) × (us vs : List Lexeme) × (room depth ≡ true) × IsSomeAlts alts
+      × SpellsExpr room (suc depth) e us × SpellsAlts room (suc depth) alts vs
+      × (ts ≡ lexeme p word.Case ∷ (us
+      ++ (lexeme q word.Of ∷ lexeme r word.OpenBrace ∷ (vs ++ lexeme s word.CloseBrace ∷ []))))
 
   pub SpellsAlts : Room → ℕ → Alts → List Lexeme → Type 0
   SpellsAlts room depth NoAlts ts = ts ≡ []
   SpellsAlts room depth (AndAlt p e xs) ts =
-      (us vs semi ws : List Lexeme) × (arrow : ℕ) × SpellsPattern p us × SpellsExpr room depth e vs × AfterAlt xs semi × SpellsAlts room depth xs ws
+      (us vs semi ws : List Lexeme) × (arrow : ℕ) × SpellsPattern p us
+      × SpellsExpr room depth e vs × AfterAlt xs semi × SpellsAlts room depth xs ws
       × (ts ≡ us ++ (lexeme arrow word.Arrow ∷ (vs ++ (semi ++ ws))))
 
 -- a declaration of a constructor or a function
@@ -108,15 +120,19 @@ pub data Decl : Type 0 where
 
 abbrev pub SpellsDecl : Room → Decl → List Lexeme → Type 0
 SpellsDecl room (Declares d) ts =
-    (p q r : ℕ) × (ts ≡ lexeme p word.Data ∷ lexeme d.at (word.Con (name_id d.name)) ∷ lexeme q (word.Number false (pos d.fields)) ∷ lexeme r word.Semicolon ∷ [])
+    (p q r : ℕ)
+    × (ts ≡ lexeme p word.Data ∷ lexeme d.at (word.Con (name_id d.name))
+    ∷ lexeme q (word.Number false (pos d.fields)) ∷ lexeme r word.Semicolon ∷ [])
 SpellsDecl room (Defines f) ts =
     (p q : ℕ) × (us : List Lexeme) × SpellsExpr room 0 f.body us
-    × (ts ≡ lexeme f.at (word.Name (name_id f.name)) ∷ (binders f.params ++ (lexeme p word.Equals ∷ (us ++ lexeme q word.Semicolon ∷ []))))
+    × (ts ≡ lexeme f.at (word.Name (name_id f.name))
+    ∷ (binders f.params ++ (lexeme p word.Equals ∷ (us ++ lexeme q word.Semicolon ∷ []))))
 
 -- the tokens of declarations, one after the other
 abbrev pub SpellsDecls : Room → List Decl → List Lexeme → Type 0
 SpellsDecls room [] ts = ts ≡ []
-SpellsDecls room (d ∷ ds) ts = (us vs : List Lexeme) × SpellsDecl room d us × SpellsDecls room ds vs × (ts ≡ us ++ vs)
+SpellsDecls room (d ∷ ds) ts =
+    (us vs : List Lexeme) × SpellsDecl room d us × SpellsDecls room ds vs × (ts ≡ us ++ vs)
 
 -- the constructors and the functions among declarations, each in text order
 abbrev pub constructors_of : List Decl → List Data

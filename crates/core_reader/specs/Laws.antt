@@ -8,7 +8,9 @@ use Rattle.core_reader.specs.Readable.{IsReadable}
 
 -- At most one rule is the first that a text breaks, at one place.
 abbrev pub OneRefusal : Type 0
-OneRefusal = (text : List ℕ) (k at k' at' : ℕ) → IsFirstUnread text k at → IsFirstUnread text k' at' → (k ≡ k') × (at ≡ at')
+OneRefusal =
+    (text : List ℕ) (k at k' at' : ℕ) → IsFirstUnread text k at
+    → IsFirstUnread text k' at' → (k ≡ k') × (at ≡ at')
 
 abbrev pub OneReading : Type 0
 OneReading = (text : List ℕ) (us vs : List Piece) → IsTokens text us → IsTokens text vs → us ≡ vs

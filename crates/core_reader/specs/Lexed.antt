@@ -39,7 +39,8 @@ Says names w Digits token = IsSigned (has_minus w) (number_of w) token
 Says names w kind token = token ≡ said_by names w (Some kind)
 
 -- the token of bytes of this kind, and the names with it
-pub record IsTokenOf (old new : List (List ℕ)) (w : List ℕ) (kind : Kind) (token : Token) : Type 0 where
+pub record IsTokenOf (old new : List (List ℕ)) (w : List ℕ) (kind : Kind) (token : Token)
+    : Type 0 where
   pub names : new ≡ (if is_numbered_by w (Some kind) then with_name old w else old)
   pub says : Says new w kind token
 
@@ -47,12 +48,14 @@ pub record IsTokenOf (old new : List (List ℕ)) (w : List ℕ) (kind : Kind) (t
 pub data StopsAt (at : ℕ) (rest : List ℕ) : Lexeme → Type 0 where
   AtEnd : rest ≡ [] → StopsAt at rest (lexeme at word.End)
   AtBad : NothingBegins rest → StopsAt at rest (lexeme at word.Bad)
-  AtLarge : (n : ℕ) → Longest n rest Digits → (IsInRange (number_of (take n rest)) → ⊥) → StopsAt at rest (lexeme at (word.Large (has_minus (take n rest))))
+  AtLarge : (n : ℕ) → Longest n rest Digits → (IsInRange (number_of (take n rest)) → ⊥)
+      → StopsAt at rest (lexeme at (word.Large (has_minus (take n rest))))
 
 -- each integer is in the range
 abbrev pub AreInRange : List Piece → Type 0
 AreInRange [] = Unit {0}
-AreInRange (p ∷ ps) = (kind_of p.bytes ≡ Some Digits → IsInRange (number_of p.bytes)) × AreInRange ps
+AreInRange (p ∷ ps) =
+    (kind_of p.bytes ≡ Some Digits → IsInRange (number_of p.bytes)) × AreInRange ps
 
 pub record IsLexed (text : List ℕ) (lexemes : List Lexeme) (names : List (List ℕ)) : Type 0 where
   pub pieces : List Piece

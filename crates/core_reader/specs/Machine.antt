@@ -1,4 +1,5 @@
--- Reading one token after the other, with a stack of what is open. A device of the proofs: no public clause speaks of it.
+-- Reading one token after the other, with a stack of what is open. A device of the proofs: no
+-- public clause speaks of it.
 use Rattle.std.specs.Prelude.{◌≡◌, ℕ, suc, pos, Bool, true, false, List, [], ◌∷◌, ◌++◌, cond, map, Result, Ok, Err}
 use Rattle.std.specs.Global.{Vec}
 use Rattle.core_reader.specs.declared.syntax.NameId.{NameId}
@@ -31,7 +32,8 @@ NoAlts ⊹ bs = bs
 (AndAlt p e xs) ⊹ bs = AndAlt p e (xs ⊹ bs)
 
 abbrev pub binding : NameId → ℕ → Term → Terms → Bind
-binding n at head args = record { binder = record { name = n; at = at }; app = record { head = head; args = args } }
+binding n at head args =
+    record { binder = record { name = n; at = at }; app = record { head = head; args = args } }
 
 abbrev pub applied : Term → Terms → Expr
 applied head args = App (record { head = head; args = args })
@@ -108,18 +110,26 @@ step l (DataName ds) at (word.Con n) = go (Count ds n at)
 step l (Count ds n p) at (word.Number false (pos size)) = go (DataEnd ds n p size)
 step l (Count ds n p) at (word.Large false) = stop (NumberRange at)
 step l (DataEnd ds n p fields) at word.Semicolon = go (Top (ds ++ declared n p fields ∷ []))
-step l (Params ds n p params) at (word.Name m) = go (Params ds n p (params ++ record { name = m; at = at } ∷ []))
-step l (Params ds n p params) at word.Equals = go (Apply (InBody (InFunction ds n p params)) NoTerms)
+step l (Params ds n p params) at (word.Name m) =
+    go (Params ds n p (params ++ record { name = m; at = at } ∷ []))
+step l (Params ds n p params) at word.Equals =
+    go (Apply (InBody (InFunction ds n p params)) NoTerms)
 step l (Apply k held) at (word.Name n) = go (Apply k (with_last held (tree.Name n.0 at)))
 step l (Apply k held) at (word.Con n) = go (Apply k (with_last held (tree.Con n.0 at)))
 step l (Apply k held) at (word.Number minus v) = go (Apply k (with_last held (tree.Int v at)))
 step l (Apply k held) at (word.Large minus) = stop (NumberRange at)
-step l (Apply k held) at word.Open = cond (l (opens k)) (go (Apply (Inside k held at) NoTerms)) (stop (TooDeep at))
-step l (Apply (Inside k held p) (AndTerm a xs)) at word.Close = go (Apply k (with_last held (tree.Bracket a xs p)))
-step l (Apply (InBind k binds n p) (AndTerm a xs)) at word.Semicolon = go (BindName k (binds ++ binding n p a xs ∷ []))
-step l (Apply (InBind k binds n p) (AndTerm a xs)) at word.In = go (Apply (InBody (LetBody k (binds ++ binding n p a xs ∷ []))) NoTerms)
-step l (Apply (InBody k) NoTerms) at word.Let = cond (l (nests k)) (go (BindName k [])) (stop (TooDeep at))
-step l (Apply (InBody k) NoTerms) at word.Case = cond (l (nests k)) (go (Apply (InBody (Scrutinee k)) NoTerms)) (stop (TooDeep at))
+step l (Apply k held) at word.Open =
+    cond (l (opens k)) (go (Apply (Inside k held at) NoTerms)) (stop (TooDeep at))
+step l (Apply (Inside k held p) (AndTerm a xs)) at word.Close =
+    go (Apply k (with_last held (tree.Bracket a xs p)))
+step l (Apply (InBind k binds n p) (AndTerm a xs)) at word.Semicolon =
+    go (BindName k (binds ++ binding n p a xs ∷ []))
+step l (Apply (InBind k binds n p) (AndTerm a xs)) at word.In =
+    go (Apply (InBody (LetBody k (binds ++ binding n p a xs ∷ []))) NoTerms)
+step l (Apply (InBody k) NoTerms) at word.Let =
+    cond (l (nests k)) (go (BindName k [])) (stop (TooDeep at))
+step l (Apply (InBody k) NoTerms) at word.Case =
+    cond (l (nests k)) (go (Apply (InBody (Scrutinee k)) NoTerms)) (stop (TooDeep at))
 step l (Apply (InBody k) (AndTerm a xs)) at token = give k (applied a xs) at token
 step l (BindName k binds) at (word.Name n) = go (BindEquals k binds n at)
 step l (BindName k (b ∷ binds)) at word.In = go (Apply (InBody (LetBody k (b ∷ binds))) NoTerms)
@@ -127,12 +137,15 @@ step l (BindEquals k binds n p) at word.Equals = go (Apply (InBind k binds n p) 
 step l (Ended k e) at token = give k e at token
 step l (Brace k e) at word.OpenBrace = go (AltStart k e NoAlts)
 step l (AltStart k s alts) at (word.Con n) = go (AltNames k s alts n at [])
-step l (AltStart k s alts) at (word.Name n) = go (AltArrow k s alts (pattern.Default (record { name = n; at = at })))
+step l (AltStart k s alts) at (word.Name n) =
+    go (AltArrow k s alts (pattern.Default (record { name = n; at = at })))
 step l (AltStart k s alts) at (word.Number minus v) = go (AltArrow k s alts (pattern.Int v at))
 step l (AltStart k s alts) at (word.Large minus) = stop (NumberRange at)
 step l (AltStart k s (AndAlt p e alts)) at word.CloseBrace = go (Ended k (Case s (AndAlt p e alts)))
-step l (AltNames k s alts n p names) at (word.Name m) = go (AltNames k s alts n p (names ++ record { name = m; at = at } ∷ []))
-step l (AltNames k s alts n p names) at word.Arrow = go (Apply (InBody (AltBody k s alts (pattern.Con (record { name = n; at = p }) names))) NoTerms)
+step l (AltNames k s alts n p names) at (word.Name m) =
+    go (AltNames k s alts n p (names ++ record { name = m; at = at } ∷ []))
+step l (AltNames k s alts n p names) at word.Arrow =
+    go (Apply (InBody (AltBody k s alts (pattern.Con (record { name = n; at = p }) names))) NoTerms)
 step l (AltArrow k s alts p) at word.Arrow = go (Apply (InBody (AltBody k s alts p)) NoTerms)
 step l s at token = stop (refused at token)
 
@@ -169,7 +182,8 @@ is_name token = false
 abbrev pub refusal : Lexeme → ReadRefusal
 refusal x = refused x.at x.token
 
--- A reading goes on as f says where the result is Ok, and has the refusal otherwise, unless memory ran out.
+-- A reading goes on as f says where the result is Ok, and has the refusal otherwise, unless memory
+-- ran out.
 abbrev pub Fails : {Y : Type 0} → ReadRefusal → Result Y ReadRefusal → Type 0
 Fails (BadByte at) read = read ≡ Err (BadByte at)
 Fails (Syntax at) read = read ≡ Err (Syntax at)
@@ -178,7 +192,8 @@ Fails (TooDeep at) read = read ≡ Err (TooDeep at)
 Fails TextTooLong read = read ≡ Err TextTooLong
 Fails (Memory e) read = Unit {0}
 
-abbrev pub Goes : {X Y : Type 0} → Result X ReadRefusal → Result Y ReadRefusal → (X → Result Y ReadRefusal) → Type 0
+abbrev pub Goes : {X Y : Type 0} → Result X ReadRefusal → Result Y ReadRefusal
+    → (X → Result Y ReadRefusal) → Type 0
 Goes (Ok x) read on = read ≡ on x
 Goes (Err e) read on = Fails e read
 
@@ -198,51 +213,85 @@ abbrev pub alternatives : List alternative.Alt → Alts
 alternatives xs = alts_of (map tree.alternative xs)
 
 abbrev pub ReadsAtom : ℕ → List Lexeme → List Lexeme → Result Atom ReadRefusal → Type 0
-ReadsAtom depth old new result = (k : Frame) (held : Terms) → opens k ≡ depth → Goes result (run at_most_200 (Apply k held) old) (λ a. run at_most_200 (Apply k (with_last held (tree.term a))) new)
+ReadsAtom depth old new result =
+    (k : Frame) (held : Terms) → opens k ≡ depth
+    → Goes result (run at_most_200 (Apply k held) old) (λ a.
+    run at_most_200 (Apply k (with_last held (tree.term a))) new)
 
 abbrev pub ReadsApp : ℕ → List Lexeme → List Lexeme → Result app.App ReadRefusal → Type 0
-ReadsApp depth old new result = (k : Frame) → opens k ≡ depth → Goes result (run at_most_200 (Apply k NoTerms) old) (λ a. run at_most_200 (Apply k (whole a)) new)
+ReadsApp depth old new result =
+    (k : Frame) → opens k ≡ depth
+    → Goes result (run at_most_200 (Apply k NoTerms) old) (λ a.
+    run at_most_200 (Apply k (whole a)) new)
 
 -- The same in a binding.
 abbrev pub ReadsHeaded : ℕ → List Lexeme → List Lexeme → Result app.App ReadRefusal → Type 0
-ReadsHeaded depth old new result = (k : Cont) (bs : List Bind) (n : NameId) (p : ℕ) → suc (nests k) ≡ depth → Goes result (run at_most_200 (Apply (InBind k bs n p) NoTerms) old) (λ a. run at_most_200 (Apply (InBind k bs n p) (whole a)) new)
+ReadsHeaded depth old new result =
+    (k : Cont) (bs : List Bind) (n : NameId) (p : ℕ) → suc (nests k) ≡ depth
+    → Goes result (run at_most_200 (Apply (InBind k bs n p) NoTerms) old) (λ a.
+    run at_most_200 (Apply (InBind k bs n p) (whole a)) new)
 
 abbrev pub ReadsBind : ℕ → List Lexeme → List Lexeme → Result bind.Bind ReadRefusal → Type 0
-ReadsBind depth old new result = (k : Cont) (bs : List Bind) → suc (nests k) ≡ depth → Goes result (run at_most_200 (BindName k bs) old) (λ b. run at_most_200 (Apply (InBind k bs b.binder.name b.binder.at) (whole b.app)) new)
+ReadsBind depth old new result =
+    (k : Cont) (bs : List Bind) → suc (nests k) ≡ depth
+    → Goes result (run at_most_200 (BindName k bs) old) (λ b.
+    run at_most_200 (Apply (InBind k bs b.binder.name b.binder.at) (whole b.app)) new)
 
 abbrev pub ReadsBinds : ℕ → List Lexeme → List Lexeme → Result (Vec bind.Bind) ReadRefusal → Type 0
-ReadsBinds depth old new result = (k : Cont) → suc (nests k) ≡ depth → Goes result (run at_most_200 (BindName k []) old) (λ bs. run at_most_200 (Apply (InBody (LetBody k (binds_of bs.items))) NoTerms) new)
+ReadsBinds depth old new result =
+    (k : Cont) → suc (nests k) ≡ depth
+    → Goes result (run at_most_200 (BindName k []) old) (λ bs.
+    run at_most_200 (Apply (InBody (LetBody k (binds_of bs.items))) NoTerms) new)
 
 abbrev pub ReadsExpr : ℕ → List Lexeme → List Lexeme → Result expr.Expr ReadRefusal → Type 0
-ReadsExpr depth old new result = (k : Cont) → nests k ≡ depth → Goes result (run at_most_200 (Apply (InBody k) NoTerms) old) (λ e. run at_most_200 (Ended k (tree.expr e)) new)
+ReadsExpr depth old new result =
+    (k : Cont) → nests k ≡ depth
+    → Goes result (run at_most_200 (Apply (InBody k) NoTerms) old) (λ e.
+    run at_most_200 (Ended k (tree.expr e)) new)
 
 -- The wanted token was taken, or it is another one.
 abbrev pub Takes : Token → List Lexeme → List Lexeme → Result (Unit {0}) ReadRefusal → Type 0
 Takes wanted old new (Ok u) = ((front old).token ≡ wanted) × (new ≡ behind old)
 Takes wanted old new (Err e) = ((front old).token ≡ wanted → ⊥) × (e ≡ refusal (front old))
 
-abbrev pub ReadsAlts : ℕ → List Lexeme → List Lexeme → Result (Vec alternative.Alt) ReadRefusal → Type 0
-ReadsAlts depth old new result = (k : Cont) (e : Expr) → suc (nests k) ≡ depth → Goes result (run at_most_200 (AltStart k e NoAlts) old) (λ xs. run at_most_200 (Ended k (Case e (alternatives xs.items))) new)
+abbrev pub ReadsAlts : ℕ → List Lexeme → List Lexeme
+    → Result (Vec alternative.Alt) ReadRefusal → Type 0
+ReadsAlts depth old new result =
+    (k : Cont) (e : Expr) → suc (nests k) ≡ depth
+    → Goes result (run at_most_200 (AltStart k e NoAlts) old) (λ xs.
+    run at_most_200 (Ended k (Case e (alternatives xs.items))) new)
 
 abbrev pub ReadsPattern : List Lexeme → List Lexeme → Result Pattern ReadRefusal → Type 0
-ReadsPattern old new result = (k : Cont) (e : Expr) (xs : Alts) → Goes result (run at_most_200 (AltStart k e xs) old) (λ p. run at_most_200 (Apply (InBody (AltBody k e xs p)) NoTerms) new)
+ReadsPattern old new result =
+    (k : Cont) (e : Expr) (xs : Alts)
+    → Goes result (run at_most_200 (AltStart k e xs) old) (λ p.
+    run at_most_200 (Apply (InBody (AltBody k e xs p)) NoTerms) new)
 
 -- A state that keeps names takes one more.
 abbrev pub KeepsNames : (List Binder → State) → Type 0
 KeepsNames state = (names : List Binder) (n : NameId) (at : ℕ)
-    → step at_most_200 (state names) at (word.Name n) ≡ go (state (names ++ record { name = n; at = at } ∷ []))
+    → step at_most_200 (state names) at (word.Name n)
+    ≡ go (state (names ++ record { name = n; at = at } ∷ []))
 
 -- The names of a list were read, by whatever keeps them.
 abbrev pub ReadsNames : List Lexeme → List Lexeme → Result (Vec Binder) ReadRefusal → Type 0
 ReadsNames old new result = (state : List Binder → State) → KeepsNames state
-    → Goes result (run at_most_200 (state []) old) (λ names. run at_most_200 (state names.items) new)
+    → Goes result (run at_most_200 (state []) old) (λ names.
+    run at_most_200 (state names.items) new)
 
 -- A count was read.
 abbrev pub ReadsCount : List Lexeme → List Lexeme → Result ℕ ReadRefusal → Type 0
-ReadsCount old new result = (ds : List Decl) (n : NameId) (p : ℕ) → Goes result (run at_most_200 (Count ds n p) old) (λ size. run at_most_200 (DataEnd ds n p size) new)
+ReadsCount old new result =
+    (ds : List Decl) (n : NameId) (p : ℕ)
+    → Goes result (run at_most_200 (Count ds n p) old) (λ size.
+    run at_most_200 (DataEnd ds n p size) new)
 
-abbrev pub ReadsDecl : {X : Type 0} → (X → Decl) → List Lexeme → List Lexeme → Result X ReadRefusal → Type 0
-ReadsDecl view old new result = (ds : List Decl) → Goes result (run at_most_200 (Top ds) old) (λ x. run at_most_200 (Top (ds ++ view x ∷ [])) new)
+abbrev pub ReadsDecl : {X : Type 0} → (X → Decl) → List Lexeme → List Lexeme
+    → Result X ReadRefusal → Type 0
+ReadsDecl view old new result =
+    (ds : List Decl)
+    → Goes result (run at_most_200 (Top ds) old) (λ x.
+    run at_most_200 (Top (ds ++ view x ∷ [])) new)
 
 abbrev pub data_decl : code-data.Data → Decl
 data_decl d = Declares (tree.data_of d)

@@ -9,5 +9,7 @@ use Rattle.core_reader.specs.Machine.{Top, run, Fails}
 
 abbrev pub ReadsProgram : List Lexeme → Result Declarations ReadRefusal → Type 0
 ReadsProgram text (Ok decls) =
-    (ds : List Decl) × (constructors_of ds ≡ map data_of decls.constructors.items) × (functions_of ds ≡ map function decls.functions.items) × (run at_most_200 (Top []) text ≡ Ok ds)
+    (ds : List Decl) × (constructors_of ds ≡ map data_of decls.constructors.items)
+    × (functions_of ds ≡ map function decls.functions.items)
+    × (run at_most_200 (Top []) text ≡ Ok ds)
 ReadsProgram text (Err e) = Fails e (run at_most_200 (Top []) text)

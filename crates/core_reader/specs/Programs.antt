@@ -6,7 +6,8 @@ use Rattle.core_reader.specs.Grammar.{Room, anywhere, Decl, SpellsDecls, constru
 use Rattle.core_reader.specs.Words.{said}
 use Rattle.core_reader.specs.Names.{names_of}
 
--- The grammar derives the program from the tokens, with as many open constructs as there is room for.
+-- The grammar derives the program from the tokens, with as many open constructs as there is room
+-- for.
 pub record IsProgram (room : Room) (p : Program) (pieces : List Piece) : Type 0 where
   pub names : p.names ≡ names_of pieces
   pub decls : List Decl
@@ -14,7 +15,8 @@ pub record IsProgram (room : Room) (p : Program) (pieces : List Piece) : Type 0 
   pub functions : functions_of decls ≡ p.functions
   pub spelled : SpellsDecls room decls (map (said p.names) pieces)
 
--- The text stands for the program: its longest-token reading gives tokens from which the grammar derives it.
+-- The text stands for the program: its longest-token reading gives tokens from which the grammar
+-- derives it.
 pub record IsText (text : List ℕ) (p : Program) : Type 0 where
   pub pieces : List Piece
   pub tokens : IsTokens text pieces

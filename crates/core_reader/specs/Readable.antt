@@ -1,4 +1,5 @@
--- What holds of each program that was read: its names have texts of their kinds, and nothing is empty or too large.
+-- What holds of each program that was read: its names have texts of their kinds, and nothing is
+-- empty or too large.
 use Rattle.std.specs.Prelude.{◌≡◌, ℕ, ◌<◌, ◌≤◌, ◌^◌, List, Some, None, All, slice_get}
 use Rattle.core_reader.specs.declared.syntax.Binder.{Binder}
 use Rattle.core_reader.specs.declared.syntax.Pattern.{Pattern}
@@ -34,7 +35,8 @@ abbrev mutual
   ReadableTerm names (tree.Name n at) = IsNamed names n
   ReadableTerm names (tree.Con n at) = IsTextAt names IsConstructor n
   ReadableTerm names (tree.Int k at) = IsInRange k
-  ReadableTerm names (tree.Bracket head args at) = ReadableTerm names head × ReadableTerms names args
+  ReadableTerm names (tree.Bracket head args at) =
+      ReadableTerm names head × ReadableTerms names args
 
   pub ReadableTerms : List (List ℕ) → Terms → Type 0
   ReadableTerms names NoTerms = Unit {0}
@@ -47,7 +49,8 @@ abbrev pub ReadableBind : List (List ℕ) → Bind → Type 0
 ReadableBind names b = IsBound names b.binder × ReadableApp names b.app
 
 abbrev pub ReadablePattern : List (List ℕ) → Pattern → Type 0
-ReadablePattern names (pattern.Con c fields) = IsTextAt names IsConstructor c.name.0 × All (IsBound names) fields
+ReadablePattern names (pattern.Con c fields) =
+    IsTextAt names IsConstructor c.name.0 × All (IsBound names) fields
 ReadablePattern names (pattern.Int k at) = IsInRange k
 ReadablePattern names (pattern.Default x) = IsBound names x
 
@@ -55,18 +58,22 @@ ReadablePattern names (pattern.Default x) = IsBound names x
 abbrev mutual
   pub ReadableExpr : List (List ℕ) → Expr → Type 0
   ReadableExpr names (App app) = ReadableApp names app
-  ReadableExpr names (Let group e) = IsGroup group × All (ReadableBind names) group × ReadableExpr names e
-  ReadableExpr names (Case e alts) = IsSomeAlts alts × ReadableExpr names e × ReadableAlts names alts
+  ReadableExpr names (Let group e) =
+      IsGroup group × All (ReadableBind names) group × ReadableExpr names e
+  ReadableExpr names (Case e alts) =
+      IsSomeAlts alts × ReadableExpr names e × ReadableAlts names alts
 
   pub ReadableAlts : List (List ℕ) → Alts → Type 0
   ReadableAlts names NoAlts = Unit {0}
-  ReadableAlts names (AndAlt p e xs) = ReadablePattern names p × ReadableExpr names e × ReadableAlts names xs
+  ReadableAlts names (AndAlt p e xs) =
+      ReadablePattern names p × ReadableExpr names e × ReadableAlts names xs
 
 abbrev pub ReadableData : List (List ℕ) → Data → Type 0
 ReadableData names d = IsTextAt names IsConstructor d.name × (d.fields ≤ 2147483647)
 
 abbrev pub ReadableFunction : List (List ℕ) → Function → Type 0
-ReadableFunction names f = IsNamed names f.name × All (IsBound names) f.params × ReadableExpr names f.body
+ReadableFunction names f =
+    IsNamed names f.name × All (IsBound names) f.params × ReadableExpr names f.body
 
 pub record IsReadable (p : Program) : Type 0 where
   pub different : AreDifferent p.names

@@ -1,4 +1,5 @@
--- The five rules that a text has to keep, each by what breaks it and where, and which broken rule is named.
+-- The five rules that a text has to keep, each by what breaks it and where, and which broken rule
+-- is named.
 use Rattle.std.specs.Prelude.{◌≡◌, ◌≢◌, ℕ, ◌<◌, ◌≤◌, ◌⊎◌, List, [], ◌∷◌, ◌++◌, length, Some}
 use Rattle.core_reader.specs.declared.look.Kind.TheVariants.{Digits}
 use Rattle.core_reader.specs.declared.refusal.ReadRefusal.{ReadRefusal}
@@ -25,8 +26,10 @@ pub record IsBadByte (text : List ℕ) (at : ℕ) : Type 0 where
 
 -- rule 2: no program begins with the tokens up to this one, or the text ends too early
 pub data IsSyntaxFault (text : List ℕ) : ℕ → Type 0 where
-  AtToken : (at : ℕ) (before : List Piece) (here : Piece) → BeginsWith text before here at → Viable anywhere before → (Viable anywhere (before ++ here ∷ []) → ⊥) → IsSyntaxFault text at
-  AtEnd : (pieces : List Piece) → IsTokens text pieces → Viable anywhere pieces → ((p : Program) → IsProgram anywhere p pieces → ⊥) → IsSyntaxFault text (length text)
+  AtToken : (at : ℕ) (before : List Piece) (here : Piece) → BeginsWith text before here at
+      → Viable anywhere before → (Viable anywhere (before ++ here ∷ []) → ⊥) → IsSyntaxFault text at
+  AtEnd : (pieces : List Piece) → IsTokens text pieces → Viable anywhere pieces
+      → ((p : Program) → IsProgram anywhere p pieces → ⊥) → IsSyntaxFault text (length text)
 
 -- rule 3: an integer is out of the range
 pub record IsOutOfRange (text : List ℕ) (at : ℕ) : Type 0 where
@@ -36,7 +39,8 @@ pub record IsOutOfRange (text : List ℕ) (at : ℕ) : Type 0 where
   pub integer : kind_of here.bytes ≡ Some Digits
   pub outside : IsInRange (number_of here.bytes) → ⊥
 
--- rule 4: a program begins with the tokens up to this `(`, `let` or `case`, but none that has only 200 of them open at one place
+-- rule 4: a program begins with the tokens up to this `(`, `let` or `case`, but none that has only
+-- 200 of them open at one place
 pub record IsTooDeep (text : List ℕ) (at : ℕ) : Type 0 where
   pub before : List Piece
   pub here : Piece

@@ -32,7 +32,8 @@ arrow (c ∷ bs) = None
 -- what follows a `-` in a token
 abbrev pub after_minus : List ℕ → Option Kind
 after_minus [] = None
-after_minus (c ∷ bs) = if c == 62 then arrow bs else (if is_digit c && every is_digit bs then Some Digits else None)
+after_minus (c ∷ bs) =
+    if c == 62 then arrow bs else (if is_digit c && every is_digit bs then Some Digits else None)
 
 -- The kind of token that all of the bytes are, or none. A keyword is of the kind of names.
 abbrev pub kind_of : List ℕ → Option Kind
@@ -53,7 +54,10 @@ pub record Longest (n : ℕ) (bytes : List ℕ) (kind : Kind) : Type 0 where
 -- The first n bytes are a separator, or a comment up to its line feed or the end.
 abbrev pub IsGap : ℕ → List ℕ → Type 0
 IsGap n [] = ⊥
-IsGap n (b ∷ bs) = ((is_space b ≡ true) × (n ≡ 1)) ⊎ ((rest : List ℕ) × (b ≡ 45) × (bs ≡ 45 ∷ rest) × (n ≡ 2 + length (take_while is_in_line rest)))
+IsGap n (b ∷ bs) =
+    ((is_space b ≡ true) × (n ≡ 1))
+    ⊎ ((rest : List ℕ) × (b ≡ 45) × (bs ≡ 45 ∷ rest)
+    × (n ≡ 2 + length (take_while is_in_line rest)))
 
 -- a token's bytes, and the place of the first of them
 pub record Piece : Type 0 where
@@ -63,8 +67,12 @@ pub record Piece : Type 0 where
 -- From a place on the text has these tokens, and then stands at an end, before a rest.
 pub data Reads : (at : ℕ) → List ℕ → List Piece → (end : ℕ) → List ℕ → Type 0 where
   Stops : (at : ℕ) (rest : List ℕ) → Reads at rest [] at rest
-  Passes : (at n : ℕ) (bytes : List ℕ) (pieces : List Piece) (end : ℕ) (rest : List ℕ) → IsGap n bytes → Reads (at + n) (drop n bytes) pieces end rest → Reads at bytes pieces end rest
-  Takes : (at n : ℕ) (bytes : List ℕ) (kind : Kind) (pieces : List Piece) (end : ℕ) (rest : List ℕ) → Longest n bytes kind → Reads (at + n) (drop n bytes) pieces end rest → Reads at bytes (record { bytes = take n bytes; at = at } ∷ pieces) end rest
+  Passes : (at n : ℕ) (bytes : List ℕ) (pieces : List Piece) (end : ℕ) (rest : List ℕ)
+      → IsGap n bytes → Reads (at + n) (drop n bytes) pieces end rest
+      → Reads at bytes pieces end rest
+  Takes : (at n : ℕ) (bytes : List ℕ) (kind : Kind) (pieces : List Piece) (end : ℕ) (rest : List ℕ)
+      → Longest n bytes kind → Reads (at + n) (drop n bytes) pieces end rest
+      → Reads at bytes (record { bytes = take n bytes; at = at } ∷ pieces) end rest
 
 -- the tokens of a whole text
 abbrev pub IsTokens : List ℕ → List Piece → Type 0

@@ -24,7 +24,8 @@ has_minus (b ∷ bs) = b == 45
 
 abbrev pub number_of : List ℕ → ℤ
 number_of [] = pos 0
-number_of (b ∷ bs) = if b == 45 then neg_ℤ (pos (digits_from 0 bs)) else pos (digits_from 0 (b ∷ bs))
+number_of (b ∷ bs) =
+    if b == 45 then neg_ℤ (pos (digits_from 0 bs)) else pos (digits_from 0 (b ∷ bs))
 
 -- a whole number of 32 bits
 abbrev pub IsInRange : ℤ → Type 0

@@ -144,8 +144,8 @@ fn token_of<'a>(
     }
 }
 
-/// The longest-token reading of the text, to its end, to the first byte at which nothing begins, or to the first
-/// integer that is out of the range.
+/// The longest-token reading of the text, to its end, to the first byte at which nothing begins, or
+/// to the first integer that is out of the range.
 pub(crate) fn lex<'a>(alloc: Global, text: &'a [u8]) -> Result<Lexed<'a>, AllocError>
     requires { length text.now < 2 ^ 32 }
     ensures { IfOk result (λ l. IsLexed text.now l.lexemes.items (texts_of l.names.keys)) }

@@ -19,12 +19,13 @@ use std::alloc::{AllocError, Global};
 /// The most bytes of a text.
 const MOST_BYTES: usize = 1048576;
 
-/// The program that a text stands for: the longest-token reading of the bytes gives tokens from which the grammar
-/// derives it. Places are offsets in bytes, and names have their numbers in the order of first appearance.
+/// The program that a text stands for: the longest-token reading of the bytes gives tokens from
+/// which the grammar derives it. Places are offsets in bytes, and names have their numbers in the
+/// order of first appearance.
 ///
-/// The answer is `Ok` exactly where the text breaks none of the rules 1 to 5, and else one that it breaks, with its
-/// place: rule 5 before all others, else the break that comes first in the text, the smaller number where two begin at
-/// one byte. Want of memory may come in place of each answer.
+/// The answer is `Ok` exactly where the text breaks none of the rules 1 to 5, and else one that it
+/// breaks, with its place: rule 5 before all others, else the break that comes first in the text,
+/// the smaller number where two begin at one byte. Want of memory may come in place of each answer.
 pub fn read(alloc: Global, text: &[u8]) -> Result<Core, ReadRefusal>
     ensures found { IfOk result (λ core. IsText text.now (program core)) }
     ensures unbroken { OnOk result (IsUnbroken text.now) }

@@ -10,7 +10,8 @@ use std::marker::Model;
 #[derive(Clone, Copy, PartialEq, Eq, Debug)]
 pub struct NameId(pub u32);
 
-/// A place where a name is bound. Here and in all types of the syntax `at` is the offset in bytes of the token.
+/// A place where a name is bound. Here and in all types of the syntax `at` is the offset in bytes
+/// of the token.
 #[derive(Clone, Copy, PartialEq, Eq, Debug)]
 pub struct Binder {
     pub name: NameId,

@@ -109,7 +109,8 @@ fn deepest_texts(rt: HostRuntime) -> Result<(), Fail> {
 
 #[test]
 fn accepted_texts(rt: HostRuntime) -> Result<(), Fail> {
-    // A constructor counts twice; a function's name, its parameters and the tokens of its body count once each.
+    // A constructor counts twice; a function's name, its parameters and the tokens of its body
+    // count once each.
     let rows = [
         ("main = Nil;", "ok functions 1 constructors 2 size 6\n"),
         (

@@ -1,6 +1,7 @@
 //! Executables.
 
-/// It exits with 7. The code stands at the address 65620: `addi x17, x0, 93`, `addi x10, x0, 7`, `ecall`.
+/// It exits with 7. The code stands at the address 65620: `addi x17, x0, 93`, `addi x10, x0, 7`,
+/// `ecall`.
 pub(crate) const EXITS_WITH_7: [u8; 96] = [
     0x7F, 0x45, 0x4C, 0x46, 0x01, 0x01, 0x01, 0x00, 0x00, 0x00, 0x00, 0x00, 0x00, 0x00, 0x00, 0x00,
     0x02, 0x00, 0xF3, 0x00, 0x01, 0x00, 0x00, 0x00, 0x54, 0x00, 0x01, 0x00, 0x34, 0x00, 0x00, 0x00,
@@ -10,7 +11,8 @@ pub(crate) const EXITS_WITH_7: [u8; 96] = [
     0x00, 0x10, 0x00, 0x00, 0x93, 0x08, 0xD0, 0x05, 0x13, 0x05, 0x70, 0x00, 0x73, 0x00, 0x00, 0x00,
 ];
 
-/// The same with its program header standing there twice, so that both are for the same 12 addresses.
+/// The same with its program header standing there twice, so that both are for the same 12
+/// addresses.
 pub(crate) const TWO_HEADERS: [u8; 128] = [
     0x7F, 0x45, 0x4C, 0x46, 0x01, 0x01, 0x01, 0x00, 0x00, 0x00, 0x00, 0x00, 0x00, 0x00, 0x00, 0x00,
     0x02, 0x00, 0xF3, 0x00, 0x01, 0x00, 0x00, 0x00, 0x54, 0x00, 0x01, 0x00, 0x34, 0x00, 0x00, 0x00,
@@ -22,9 +24,10 @@ pub(crate) const TWO_HEADERS: [u8; 128] = [
     0x00, 0x10, 0x00, 0x00, 0x93, 0x08, 0xD0, 0x05, 0x13, 0x05, 0x70, 0x00, 0x73, 0x00, 0x00, 0x00,
 ];
 
-/// An executable of another toolchain: assembled by clang 14 with `--target=riscv32 -march=rv32im -mno-relax -c`, linked by
-/// its ld.lld with `-N`, and its sections stripped by `llvm-objcopy --strip-sections`. It writes each byte of its input less
-/// 32, and exits with the square of their number.
+/// An executable of another toolchain: assembled by clang 14 with
+/// `--target=riscv32 -march=rv32im -mno-relax -c`, linked by its ld.lld with `-N`, and its sections
+/// stripped by `llvm-objcopy --strip-sections`. It writes each byte of its input less 32, and exits
+/// with the square of their number.
 ///
 ///     _start: la a1, byte
 ///             li a2, 1

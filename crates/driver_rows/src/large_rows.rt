@@ -31,8 +31,8 @@ fn many_branches(alloc: Global) -> Result<String, AllocError> {
     Ok(text)
 }
 
-/// A text in which k functions are delayed, and each of their results is given to one function. Once inlined, its program
-/// has the size 9 k k + 14 k + 42.
+/// A text in which k functions are delayed, and each of their results is given to one function.
+/// Once inlined, its program has the size 9 k k + 14 k + 42.
 fn many_delayed(alloc: Global, k: u32) -> Result<String, AllocError> {
     let mut text = String::from_str(alloc, LISTS)?;
     for i in 0..k {

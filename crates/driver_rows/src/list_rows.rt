@@ -27,7 +27,8 @@ fn many_delayed(alloc: Global, k: u32) -> Result<String, AllocError> {
     Ok(text)
 }
 
-/// What all programs print with: the list is evaluated, then its head, which is written, and then the tail is printed.
+/// What all programs print with: the list is evaluated, then its head, which is written, and then
+/// the tail is printed.
 const EMPTY: &str = "global main = (Fmain)
 
 main =
@@ -115,7 +116,8 @@ main =
       fail
 ";
 
-/// The same program with vectors in place of its node variables: each has a tag and two fields, as the longest nodes have.
+/// The same program with vectors in place of its node variables: each has a tag and two fields, as
+/// the longest nodes have.
 const TAKES_IN_VECTORS: &str = "global main = (Fmain)
 
 take v0 =
@@ -433,7 +435,8 @@ fn pieces_up_to_a_failure(rt: HostRuntime) -> Result<(), Fail> {
     let shown = outside.run(rt.alloc(), &words)?;
     assert!(rt; shown.took(10, 4096));
     let shown = listed(rt.alloc(), text.as_str(), "read")?;
-    // 25 bytes of declarations with their line feeds, and ten lines of 8, ninety of 9 and nine hundred of 10 bytes.
+    // 25 bytes of declarations with their line feeds, and ten lines of 8, ninety of 9 and nine
+    // hundred of 10 bytes.
     assert!(rt; shown.took(0, 9915));
     Ok(())
 }

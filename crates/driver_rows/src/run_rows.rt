@@ -145,7 +145,8 @@ fn endless_programs(rt: HostRuntime) -> Result<(), Fail> {
 
 #[test]
 fn what_is_given_suffices_or_not(rt: HostRuntime) -> Result<(), Fail> {
-    // The list of five has a cell for each of its numbers, its conses and its end, and there are the cells of the program itself.
+    // The list of five has a cell for each of its numbers, its conses and its end, and there are
+    // the cells of the program itself.
     let text = format!(in rt.alloc();
         "{LISTS}main = Cons 72 (Cons 101 (Cons 108 (Cons 108 (Cons 111 Nil))));"
     )?;

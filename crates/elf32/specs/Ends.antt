@@ -12,6 +12,11 @@ pub record IsLast (ends : ℕ → Option ℕ) (limit s e : ℕ) : Type 0 where
 
 -- the ends of the segments of the first n headers, which are apart
 pub record Tracks (headers : List ProgramHeader) (n : ℕ) (ends : ℕ → Option ℕ) : Type 0 where
-  pub found : (s e : ℕ) → ends s ≡ Some e → (k : ℕ) × (k < n) × IsTrue (is_loadable (header headers k)) × ((header headers k).addr ≡ s) × (s + (header headers k).memory_size ≡ e) × (s < e)
-  pub listed : (k : ℕ) → k < n → IsTrue (is_loadable (header headers k)) → 0 < (header headers k).memory_size → ends (header headers k).addr ≡ Some ((header headers k).addr + (header headers k).memory_size)
+  pub found : (s e : ℕ) → ends s ≡ Some e
+      → (k : ℕ) × (k < n) × IsTrue (is_loadable (header headers k)) × ((header headers k).addr ≡ s)
+      × (s + (header headers k).memory_size ≡ e) × (s < e)
+  pub listed : (k : ℕ) → k < n → IsTrue (is_loadable (header headers k))
+      → 0 < (header headers k).memory_size
+      → ends (header headers k).addr
+      ≡ Some ((header headers k).addr + (header headers k).memory_size)
   pub apart : (k : ℕ) → k < n → Overlaps headers k → ⊥

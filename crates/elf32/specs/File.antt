@@ -1,5 +1,6 @@
--- The file of a compiled program, by the object file chapters of the System V ABI (ELF header, program header) and
--- the RISC-V ELF psABI: the ELF header, three program headers, zeros up to offset 4096, and the words of the code.
+-- The file of a compiled program, by the object file chapters of the System V ABI (ELF header,
+-- program header) and the RISC-V ELF psABI: the ELF header, three program headers, zeros up to
+-- offset 4096, and the words of the code.
 use Rattle.std.specs.Prelude.{ℕ, ◌+◌, ◌-◌, ◌*◌, ◌<◌, ◌≤◌, List, [], ◌∷◌, ◌++◌, length, replicate, true, false}
 use Rattle.std.specs.List.{flat_map}
 use Rattle.byteorder.specs.Endian.{little_bytes}
@@ -16,8 +17,8 @@ words numbers = flat_map (little_bytes 4) numbers
 abbrev pub identification : List ℕ
 identification = 0x7F ∷ 0x45 ∷ 0x4C ∷ 0x46 ∷ 1 ∷ 1 ∷ 1 ∷ 0 ∷ 0 ∷ 0 ∷ 0 ∷ 0 ∷ 0 ∷ 0 ∷ 0 ∷ 0 ∷ []
 
--- type 2 is an executable, machine 243 RISC-V, version 1; the entry is 0x00010000, and three program headers of 32
--- bytes begin at offset 52; there are no sections and no flags
+-- type 2 is an executable, machine 243 RISC-V, version 1; the entry is 0x00010000, and three
+-- program headers of 32 bytes begin at offset 52; there are no sections and no flags
 abbrev pub elf_header : List ℕ
 elf_header =
     identification
@@ -54,8 +55,20 @@ abbrev pub program : (code : List ℕ) (heap_bytes stack_bytes : ℕ) → Image
 program code heap_bytes stack_bytes = record {
   entry = 0x00010000;
   segments =
-      record { addr = 0x00010000; size = 4 * length code; bytes = words code; write = false; exec = true }
+      record {
+        addr = 0x00010000;
+        size = 4 * length code;
+        bytes = words code;
+        write = false;
+        exec = true;
+      }
       ∷ record { addr = 0x50000000; size = heap_bytes; bytes = []; write = true; exec = false }
-      ∷ record { addr = 0x78000000 - stack_bytes; size = stack_bytes; bytes = []; write = true; exec = false }
+      ∷ record {
+        addr = 0x78000000 - stack_bytes;
+        size = stack_bytes;
+        bytes = [];
+        write = true;
+        exec = false;
+      }
       ∷ [];
 }

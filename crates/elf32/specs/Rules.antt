@@ -18,7 +18,8 @@ pub record IsRiscv32Exec (file : List ℕ) : Type 0 where
 abbrev pub IsOutside : ℕ → ProgramHeader → Type 0
 IsOutside len h =
     IsTrue (is_loadable h)
-    × (((0 < h.file_size) × (len < h.offset + h.file_size)) ⊎ ((h.memory_size < h.file_size) ⊎ (2 ^ 32 < h.addr + h.memory_size)))
+    × (((0 < h.file_size) × (len < h.offset + h.file_size))
+    ⊎ ((h.memory_size < h.file_size) ⊎ (2 ^ 32 < h.addr + h.memory_size)))
 
 -- the address belongs to the header's segment
 abbrev pub Covers : ProgramHeader → ℕ → Type 0
@@ -34,7 +35,8 @@ header headers i = slice_index_or headers i no_header
 -- header j shares an address with an earlier one
 abbrev pub Overlaps : List ProgramHeader → ℕ → Type 0
 Overlaps headers j =
-    (i : ℕ) × (address : ℕ) × (i < j) × Covers (header headers i) address × Covers (header headers j) address
+    (i : ℕ) × (address : ℕ) × (i < j) × Covers (header headers i) address
+    × Covers (header headers j) address
 
 abbrev pub IsLeast : (ℕ → Type 0) → ℕ → Type 0
 IsLeast P i = P i × ((k : ℕ) → k < i → P k → ⊥)
@@ -53,8 +55,10 @@ Breaks ImageTooLong file = 1342177280 < length file
 Breaks TooShort file = length file < 52
 Breaks NotElf file = take 4 file ≢ (0x7F ∷ 0x45 ∷ 0x4C ∷ 0x46 ∷ [])
 Breaks NotRiscv32Exec file = IsRiscv32Exec file → ⊥
-Breaks HeaderOutside file = (0 < header_count file) × (length file < headers_offset file + 32 * header_count file)
-Breaks (SegmentOutside i) file = IsLeast (λ k. IsOutside (length file) (header (headers_of file) k)) i
+Breaks HeaderOutside file =
+    (0 < header_count file) × (length file < headers_offset file + 32 * header_count file)
+Breaks (SegmentOutside i) file =
+    IsLeast (λ k. IsOutside (length file) (header (headers_of file) k)) i
 Breaks (SegmentsOverlap j) file = IsLeast (Overlaps (headers_of file)) j
 Breaks EntryOutside file = Any (MayEnter (entry_of file)) (headers_of file) → ⊥
 Breaks SegmentsTooLarge file = 2147483648 < loaded_size (headers_of file)

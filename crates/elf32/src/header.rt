@@ -7,8 +7,9 @@ ghost use Rattle.elf32.specs.Rules.{IsOutside, MayEnter};
 use byteorder::{ByteOrder, LittleEndian};
 use std::alloc::{AllocError, Global};
 
-/// The fields of a program header that a loader looks at: its type, `kind`, where its bytes stand in the file, the
-/// first address of its segment, its sizes in the file and in memory in bytes, and its flags.
+/// The fields of a program header that a loader looks at: its type, `kind`, where its bytes stand
+/// in the file, the first address of its segment, its sizes in the file and in memory in bytes, and
+/// its flags.
 #[derive(Clone, Copy, Debug, PartialEq, Eq, Drop)]
 pub struct ProgramHeader {
     pub kind: u32,
@@ -34,8 +35,8 @@ impl ProgramHeader {
         self.is_loadable() && self.memory_size > 0
     }
 
-    /// Whether it is loadable and has bytes past the end of a file of `len` bytes, more bytes in the file than in
-    /// memory, or addresses past 2^32.
+    /// Whether it is loadable and has bytes past the end of a file of `len` bytes, more bytes in
+    /// the file than in memory, or addresses past 2^32.
     pub fn is_outside(&self, len: usize) -> bool
         ensures { IsTrue result ↔ IsOutside len self.now }
     {

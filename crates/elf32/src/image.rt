@@ -3,8 +3,9 @@
 use seq::Seq;
 use std::marker::Model;
 
-/// A segment of memory that a program asks for: `size` bytes from the address `addr` on, of which the first are
-/// `bytes` and the others zero. Every segment may be read; `write` and `exec` give the further rights.
+/// A segment of memory that a program asks for: `size` bytes from the address `addr` on, of which
+/// the first are `bytes` and the others zero. Every segment may be read; `write` and `exec` give
+/// the further rights.
 #[derive(Debug, Drop)]
 pub struct Segment {
     pub addr: u32,
@@ -36,8 +37,9 @@ impl Model for Segment {
     }) };
 }
 
-/// A program to run: its segments, no two of which share an address, and the address of its first instruction, which
-/// lies in a segment with `exec`. The sizes of the segments add up to at most 2,147,483,648 bytes.
+/// A program to run: its segments, no two of which share an address, and the address of its first
+/// instruction, which lies in a segment with `exec`. The sizes of the segments add up to at most
+/// 2,147,483,648 bytes.
 #[derive(Debug, Drop)]
 pub struct Loaded {
     pub entry: u32,

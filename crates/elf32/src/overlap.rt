@@ -10,8 +10,9 @@ use crate::header::ProgramHeader;
 use std::alloc::{AllocError, Global};
 use std::collections::BTreeMap;
 
-/// The number of the first loadable header whose segment shares an address with an earlier one. The segments before it
-/// are apart, so of those that begin before its end, the one that begins last also ends last.
+/// The number of the first loadable header whose segment shares an address with an earlier one. The
+/// segments before it are apart, so of those that begin before its end, the one that begins last
+/// also ends last.
 pub fn first_overlap(alloc: Global, headers: &[ProgramHeader]) -> Result<Option<u32>, AllocError>
     requires { length headers.now < 65536 }
     ensures { IfOk result (λ o.
@@ -28,7 +29,8 @@ pub fn first_overlap(alloc: Global, headers: &[ProgramHeader]) -> Result<Option<
     Ok(None)
 }
 
-/// Whether header j shares an address with an earlier one; `ends` has where the earlier segments end.
+/// Whether header j shares an address with an earlier one; `ends` has where the earlier segments
+/// end.
 fn overlaps_earlier(headers: &[ProgramHeader], j: usize, ends: &BTreeMap<u64, u64>) -> bool
     requires header { j < length headers.now }
     requires tracks { Tracks headers.now j (get nat_cmp ends.now) }

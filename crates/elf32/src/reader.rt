@@ -24,8 +24,9 @@ pub fn too_long(len: u64) -> bool
     len > LONGEST
 }
 
-/// The program of an ELF file: the segments of its loadable program headers in their order, and its entry. Or the
-/// broken rule with the smallest number. Other program headers and all sections are passed over.
+/// The program of an ELF file: the segments of its loadable program headers in their order, and its
+/// entry. Or the broken rule with the smallest number. Other program headers and all sections are
+/// passed over.
 pub fn read(alloc: Global, file: &[u8]) -> Result<Loaded, ElfRefusal>
     ensures ok { IfOk result (λ image. Loads file.now image) }
     ensures refused { IfErr result (λ refusal. Refuses refusal file.now) }
@@ -125,7 +126,8 @@ fn program_headers(alloc: Global, file: &[u8]) -> Result<Vec<ProgramHeader>, All
     headers_from(alloc, file, word_at(file, 28) as usize, count)
 }
 
-/// The number of the first loadable header whose segment does not fit into a file of so many bytes or into memory.
+/// The number of the first loadable header whose segment does not fit into a file of so many bytes
+/// or into memory.
 fn first_outside(headers: &[ProgramHeader], len: usize) -> Option<u32>
     requires { length headers.now < 65536 }
     ensures { MatchOption result ((i : ℕ) → IsOutside len (header headers.now i)
@@ -195,7 +197,8 @@ fn segment(alloc: Global, file: &[u8], header: &ProgramHeader) -> Result<Segment
     })
 }
 
-/// The bytes of a segment in the file; there are none where their number is 0, whatever their place.
+/// The bytes of a segment in the file; there are none where their number is 0, whatever their
+/// place.
 fn file_bytes<'a>(file: &'a [u8], header: &ProgramHeader) -> &'a [u8]
     requires { 0 < header.now.file_size → header.now.offset + header.now.file_size
         ≤ length file.now }

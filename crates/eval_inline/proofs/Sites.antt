@@ -16,7 +16,7 @@ use Rattle.flow_system.specs.Solution.{Solution, among, At}
 use Rattle.eval_inline.specs.Inlining.{some_of, cells_in, site_of, sites_of}
 use Rattle.points_to.specs.Held.{In, here, there}
 use Rattle.points_to.specs.Wanted.{is_in}
-use Rattle.points_to.proofs.Member.{none_in, cons_in}
+use Rattle.seq.proofs.Member.{none_in, cons_in}
 use Rattle.eval_inline.specs.Met.{IsFirst, none}
 use Rattle.eval_inline.proofs.Known.{nat_eq-true, or_true, some_cell}
 use Rattle.eval_inline.proofs.First.{or_false, same_first}

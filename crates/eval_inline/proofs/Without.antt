@@ -9,22 +9,22 @@ use Rattle.grin_syntax.specs.declared.program.Target.{Target}
 use Rattle.grin_syntax.specs.Tree.{Code, end, store, bind, Act, unit, fetch, fetch_word, update, eval, apply, call, prim, read, write, case, nested, fail, Arms, no_arm, arm, Procedure, Program}
 use Rattle.grin_syntax.specs.Formed.{AllOf}
 use Rattle.grin_syntax.specs.Fresh.{variable, past_procs}
-use Rattle.grin_meaning.specs.Ready.{EachAct, EachCode, EachArms, Any}
+use Rattle.grin_meaning.specs.Ready.{EachAct, EachCode, EachArms, any_kind}
 use Rattle.grin_meaning.specs.Run.{is_fun_kind}
 use Rattle.flow_system.specs.Solution.{Solution}
 use Rattle.eval_inline.specs.Inlining.{call_body, eval_body, eval_arm, eval_arms, fields_at, eval_bound, eval_ended, eval_act, eval_code, eval_all, eval_procs, act_room, code_room, tags_of, eval_inlined}
-use Rattle.eval_inline.specs.Without.{NotEval, HasNoEval}
+use Rattle.eval_inline.specs.Without.{NotEval, HasNoEval, no_eval_kind}
 
 abbrev ActFree : Act → Type 0
-ActFree = EachAct NotEval Any Any Any
+ActFree = EachAct no_eval_kind
 
 abbrev CodeFree : Code → Type 0
-CodeFree = EachCode NotEval Any Any Any
+CodeFree = EachCode no_eval_kind
 
 abbrev ArmsFree : Arms → Type 0
-ArmsFree = EachArms NotEval Any Any Any
+ArmsFree = EachArms no_eval_kind
 
-any_cells : (cs : List Cell) → AllOf (λ c. Any c.val) cs
+any_cells : (cs : List Cell) → AllOf (λ c. any_kind.value c.val) cs
 any_cells [] = tt
 any_cells (c ∷ cs) = (tt, any_cells cs)
 

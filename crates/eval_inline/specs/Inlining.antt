@@ -46,17 +46,21 @@ module _ (p : Program) (A : Solution) where
 
   -- the tags at these cells, ascending
   abbrev pub tags_of : W.Word → List ℕ
-  tags_of a = those (λ t. some_of (λ s. among (tag t) (A (site s) tags)) (sites_of a)) 0 (length p.tags)
+  tags_of a =
+      those (λ t. some_of (λ s. among (tag t) (A (site s) tags)) (sites_of a)) 0 (length p.tags)
 
-  -- The alternatives of an evaluation: n is the variable of the node, and x the first fresh variable of the alternatives.
+  -- The alternatives of an evaluation: n is the variable of the node, and x the first fresh
+  -- variable of the alternatives.
   abbrev pub call_body : W.Word → ℕ → ℕ → Option ProcId → Code
   call_body a x k None = end fail
   call_body a x k (Some f) =
       let r = variable (x + k) in
-      bind (NodeTarget r) (call f (map Var (variables x k))) (bind Nothing (update a (NodeVar r)) (end (unit (NodeVar r))))
+      bind (NodeTarget r) (call f (map Var (variables x k)))
+      (bind Nothing (update a (NodeVar r)) (end (unit (NodeVar r))))
 
   abbrev pub eval_body : W.Word → ℕ → ℕ → Tag → Code
-  eval_body a n x t = cond (is_fun_kind t.kind) (call_body a x t.fields t.proc) (end (unit (NodeVar (variable n))))
+  eval_body a n x t =
+      cond (is_fun_kind t.kind) (call_body a x t.fields t.proc) (end (unit (NodeVar (variable n))))
 
   abbrev pub fields_at : Option Tag → ℕ
   fields_at None = 0
@@ -64,11 +68,14 @@ module _ (p : Program) (A : Solution) where
 
   abbrev pub eval_arm : W.Word → ℕ → ℕ → ℕ → Option Tag → Arms → Arms
   eval_arm a n x t None as' = as'
-  eval_arm a n x t (Some i) as' = arm (NodeShape (tag_id t) (variables x i.fields)) (eval_body a n x i) as'
+  eval_arm a n x t (Some i) as' =
+      arm (NodeShape (tag_id t) (variables x i.fields)) (eval_body a n x i) as'
 
   abbrev pub eval_arms : W.Word → ℕ → ℕ → List ℕ → Arms
   eval_arms a n x [] = no_arm
-  eval_arms a n x (t ∷ ts) = eval_arm a n x t (slice_get p.tags t) (eval_arms a n (suc (x + fields_at (slice_get p.tags t))) ts)
+  eval_arms a n x (t ∷ ts) =
+      eval_arm a n x t (slice_get p.tags t)
+      (eval_arms a n (suc (x + fields_at (slice_get p.tags t))) ts)
 
   -- the fresh variables that alternatives take: the fields of each, and one for a result
   abbrev pub arms_room : List ℕ → ℕ
@@ -120,7 +127,8 @@ module _ (p : Program) (A : Solution) where
 
   abbrev pub eval_procs : ℕ → List Procedure → List Procedure
   eval_procs x [] = []
-  eval_procs x (q ∷ qs) = record q { body = eval_code x q.body } ∷ eval_procs (x + code_room q.body) qs
+  eval_procs x (q ∷ qs) =
+      record q { body = eval_code x q.body } ∷ eval_procs (x + code_room q.body) qs
 
 -- a program with its evaluations inlined
 abbrev pub eval_inlined : Solution → Program → Program

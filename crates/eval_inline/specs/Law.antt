@@ -10,9 +10,12 @@ use Rattle.flow_system.specs.Solution.{Solution, Solves}
 use Rattle.flow_system.specs.Covers.{Started}
 use Rattle.eval_inline.specs.Inlining.{eval_inlined}
 
--- every variable that is used is bound somewhere, so the variables past those that are bound are fresh
+-- every variable that is used is bound somewhere, so the variables past those that are bound are
+-- fresh
 abbrev pub UsesBound : Program → Type 0
 UsesBound p = ProcsOk (λ y. y < past_procs p.procs) p.procs
 
 abbrev pub EvalInliningKeeps : Type 0
-EvalInliningKeeps = (p : Program) (A : Solution) → Started p → UsesBound p → Solves (tables p) (system p) A → Keeps p (eval_inlined A p)
+EvalInliningKeeps =
+    (p : Program) (A : Solution) → Started p → UsesBound p
+    → Solves (tables p) (system p) A → Keeps p (eval_inlined A p)

@@ -9,16 +9,22 @@ use Rattle.flow_system.specs.declared.fact.Part.TheVariants.{Tags as tags}
 use Rattle.flow_system.specs.Solution.{Solution, among}
 use Rattle.eval_inline.specs.Inlining.{those, some_of, sites_of}
 
--- the tags, from one on, that a solution has at the cells that a word may stand for; from 0 on they are `tags_of`
+-- the tags, from one on, that a solution has at the cells that a word may stand for; from 0 on they
+-- are `tags_of`
 abbrev pub tags_from : Program → Solution → W.Word → ℕ → List ℕ
-tags_from p A a from = those (λ t. some_of (λ s. among (tag t) (A (site s) tags)) (sites_of p A a)) from (length p.tags - from)
+tags_from p A a from =
+    those (λ t. some_of (λ s. among (tag t) (A (site s) tags)) (sites_of p A a))
+    from (length p.tags - from)
 
 -- the least number, from one on, for which a test holds
 pub data IsFirst (test : ℕ → Bool) (from : ℕ) : Option TagId → Type 0 where
   none : ((t : ℕ) → from ≤ t → test t ≡ false) → IsFirst test from None
-  first : {r : TagId} → from ≤ r.0 → test r.0 ≡ true → ((t : ℕ) → from ≤ t → t < r.0 → test t ≡ false) → IsFirst test from (Some r)
+  first : {r : TagId} → from ≤ r.0 → test r.0 ≡ true
+      → ((t : ℕ) → from ≤ t → t < r.0 → test t ≡ false) → IsFirst test from (Some r)
 
--- the numbers below `end`, from `from` on, for which a test holds: none, or this one and those after it
+-- the numbers below `end`, from `from` on, for which a test holds: none, or this one and those
+-- after it
 pub record FirstInRange (test : ℕ → Bool) (from end : ℕ) (o : Option TagId) : Type 0 where
-  pub next : MatchOption o (those test from (end - from) ≡ []) (λ t. those test from (end - from) ≡ t.0 ∷ those test (suc t.0) (end - suc t.0))
+  pub next : MatchOption o (those test from (end - from) ≡ []) (λ t.
+      those test from (end - from) ≡ t.0 ∷ those test (suc t.0) (end - suc t.0))
   pub within : IfSome o (λ t. (from ≤ t.0) × (t.0 < end))

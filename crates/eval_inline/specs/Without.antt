@@ -1,12 +1,14 @@
 -- Programs without evaluations.
 use Rattle.grin_syntax.specs.Tree.{Act, eval, Program}
-use Rattle.grin_syntax.specs.Formed.{AllOf}
-use Rattle.grin_meaning.specs.Ready.{EachCode, Any}
+use Rattle.grin_meaning.specs.Ready.{Kind, any_kind, EachBody}
 
 abbrev pub NotEval : Act → Type 0
 NotEval (eval w) = ⊥
 NotEval _ = Unit {0}
 
+abbrev pub no_eval_kind : Kind
+no_eval_kind = record any_kind { operation = NotEval }
+
 -- no evaluation is left
 abbrev pub HasNoEval : Program → Type 0
-HasNoEval p = AllOf (λ q. EachCode NotEval Any Any Any q.body) p.procs
+HasNoEval p = EachBody no_eval_kind p.procs

@@ -19,7 +19,8 @@ use points_to::Flow;
 use seq::Seq;
 use std::alloc::{AllocError, Global};
 
-/// What decides how evaluations are inlined: the program's tags and global cells, whatever procedures it has, and the solution.
+/// What decides how evaluations are inlined: the program's tags and global cells, whatever
+/// procedures it has, and the solution.
 #[derive(Drop)]
 pub(crate) struct Inlining<'a> {
     pub program: &'a Grin,
@@ -163,7 +164,8 @@ impl Inlining<'_> {
         Ok(Op::Case(Val::NodeVar(node), alts))
     }
 
-    // What is done with a node of this tag: a delayed call is made and the cell updated, every other node is given.
+    // What is done with a node of this tag: a delayed call is made and the cell updated, every
+    // other node is given.
     fn alternative(
         &self,
         alloc: Global,
@@ -218,7 +220,8 @@ fn as_words(alloc: Global, vars: &[VarId]) -> Result<Seq<Word>, AllocError>
     Ok(words)
 }
 
-// Calls a procedure with these variables, writes what it gives over the cell of a word, and gives it.
+// Calls a procedure with these variables, writes what it gives over the cell of a word, and gives
+// it.
 fn updating(
     alloc: Global,
     f: ProcId,

@@ -27,7 +27,8 @@ pub fn inlining_keeps()
     ensures { EvalInliningKeeps }
 {}
 
-/// The program with each evaluation as a fetch and a case over the tags that the solution has where it looks. More variables than can be numbered are want of memory.
+/// The program with each evaluation as a fetch and a case over the tags that the solution has where
+/// it looks. More variables than can be numbered are want of memory.
 pub fn inline(alloc: Global, mut g: Grin, flow: &Flow) -> Result<Grin, AllocError>
     ensures inlined { IfOk result (λ h. program_of h
         ≡ eval_inlined (found flow.now) (program_of g)) }

@@ -15,7 +15,8 @@ ghost use Rattle.eval_inline.specs.Met.{tags_from, IsFirst, FirstInRange};
 use grin_syntax::{Grin, Site, TagId, Word};
 use points_to::Flow;
 
-/// The first tag of the program, from number `from` on, that the solution has at a cell that the word may stand for.
+/// The first tag of the program, from number `from` on, that the solution has at a cell that the
+/// word may stand for.
 pub fn next_tag(g: &Grin, flow: &Flow, word: &Word, from: usize) -> Option<TagId>
     ensures next { MatchOption result (tags_from (program_of g.now) (found flow.now) word.now from
         ≡ []) (λ t. tags_from (program_of g.now) (found flow.now) word.now from ≡ t.0

@@ -8,12 +8,12 @@ use Rattle.grin_syntax.specs.declared.program.Target.TheVariants as to
 use Rattle.grin_syntax.specs.Tree.{Code, end, store, bind, Act, fetch, fetch_word, case, nested, Arms, no_arm, arm, Procedure}
 use Rattle.grin_syntax.specs.Formed.{AllOf}
 use Rattle.grin_syntax.specs.Fresh.{variable}
-use Rattle.grin_meaning.specs.Ready.{Any, EachAct, EachCode, EachArms}
+use Rattle.grin_meaning.specs.Ready.{EachAct, EachCode, EachArms, EachBody}
 use Rattle.pass_ground.specs.Uses.{code_uses}
 use Rattle.fetch_passes.specs.Windows.{owns, outside}
 use Rattle.fetch_passes.specs.Names.{Names, Wait, as_word, hiding}
 use Rattle.fetch_passes.specs.Split.{fetched_if, word_fetches, waits_of, front, front_names, split_act, split_code, split_arms, split_procs, made_act, made_code}
-use Rattle.fetch_passes.specs.Placed.{ByNodes}
+use Rattle.fetch_passes.specs.Placed.{by_nodes_kind}
 use Rattle.fetch_passes.specs.Fronts.{BeginsWith, past_words, OutsideFetched, not_outside, LeftFetched, ActsFetch, CodesFetch, ArmsFetch, ProcsFetch}
 
 not_outside_waits : (t : ℕ) (b : Code) (i : ℕ) (xs : List VarId) → not_outside t b i xs ≡ waits_of t b i xs
@@ -98,7 +98,7 @@ left_fetched a n (p ∷ ps) b c h = (
 
 module _ (ts : List Tag) where
   -- a block that is split doesn't begin with words
-  no_words : (b : Code) (ks : Names) (a : W.Word) (ps : List Wait) (n : ℕ) → EachCode ByNodes Any Any Any b → past_words (split_code ts ks a ps n b) ≡ split_code ts ks a ps n b
+  no_words : (b : Code) (ks : Names) (a : W.Word) (ps : List Wait) (n : ℕ) → EachCode by_nodes_kind b → past_words (split_code ts ks a ps n b) ≡ split_code ts ks a ps n b
   unfolding split_act EachAct made_act
   no_words (end (fetch c)) ks a ps n k = refl
   no_words (end o) ks a ps n k = refl
@@ -114,12 +114,12 @@ module _ (ts : List Tag) where
   mutual
     unfolding split_act CodesFetch EachAct made_act
 
-    act_fetch : (o : Act) (ks : Names) (a : W.Word) (ps : List Wait) (n : ℕ) → Late ps → EachAct ByNodes Any Any Any o → ActsFetch ps o (split_act ts ks a ps n o)
+    act_fetch : (o : Act) (ks : Names) (a : W.Word) (ps : List Wait) (n : ℕ) → Late ps → EachAct by_nodes_kind o → ActsFetch ps o (split_act ts ks a ps n o)
     act_fetch (case v as') ks a ps n l k = arms_fetch as' ks a ps n l k.2
     act_fetch (nested b) ks a ps n l k = code_fetch b ks a [] n tt k.1
     act_fetch o ks a ps n l k = tt
 
-    code_fetch : (b : Code) (ks : Names) (a : W.Word) (ps : List Wait) (n : ℕ) → Late ps → EachCode ByNodes Any Any Any b → CodesFetch ps b (split_code ts ks a ps n b)
+    code_fetch : (b : Code) (ks : Names) (a : W.Word) (ps : List Wait) (n : ℕ) → Late ps → EachCode by_nodes_kind b → CodesFetch ps b (split_code ts ks a ps n b)
     code_fetch (end (fetch c)) ks a ps n l k = tt
     code_fetch (end o) ks a ps n l k = act_fetch o ks a ps n l k
     code_fetch (store cs b) ks a ps n l k = code_fetch b ks a [] n tt k.1
@@ -142,7 +142,7 @@ module _ (ts : List Tag) where
     code_fetch (bind t (fetch_word c i) b) ks a ps n l k = absurd k.1
     code_fetch (bind t o b) ks a ps n l k = (act_fetch o ks a ps n l k.1, tt, subst (CodesFetch [] b) (sym (no_words b ks a [] (n + made_act ts ps o) k.2)) (code_fetch b ks a [] (n + made_act ts ps o) tt k.2))
 
-    arms_fetch : (as' : Arms) (ks : Names) (a : W.Word) (ps : List Wait) (n : ℕ) → Late ps → EachArms ByNodes Any Any Any as' → ArmsFetch ps as' (split_arms ts ks a ps n as')
+    arms_fetch : (as' : Arms) (ks : Names) (a : W.Word) (ps : List Wait) (n : ℕ) → Late ps → EachArms by_nodes_kind as' → ArmsFetch ps as' (split_arms ts ks a ps n as')
     arms_fetch no_arm ks a ps n l k = tt
     arms_fetch (arm s b as') ks a ps n l k = (
       left_fetched a n ps b (split_code ts (front_names n ps b ks) a [] (n + length ps) b) l,
@@ -150,6 +150,6 @@ module _ (ts : List Tag) where
       arms_fetch as' ks a ps (n + length ps + made_code ts [] b) l k.2,
     )
 
-  pub procs_fronts : (qs : List Procedure) (n : ℕ) → AllOf (λ q. EachCode ByNodes Any Any Any q.body) qs → ProcsFetch qs (split_procs ts n qs)
+  pub procs_fronts : (qs : List Procedure) (n : ℕ) → EachBody by_nodes_kind qs → ProcsFetch qs (split_procs ts n qs)
   procs_fronts [] n k = tt
   procs_fronts (q ∷ qs) n k = (code_fetch q.body [] (Lit (pos 0)) [] n tt k.0, procs_fronts qs (n + made_code ts [] q.body) k.1)

@@ -9,7 +9,7 @@ use Rattle.grin_syntax.proofs.Unbound.{past_vars_none, past_code_none}
 use Rattle.grin_meaning.specs.Values.{Datum, Value, HeapCell, Binding, with_vars, one_each}
 use Rattle.grin_meaning.specs.Run.{Calls}
 use Rattle.grin_meaning.specs.Checks.{is_given}
-use Rattle.grin_meaning.specs.Ready.{Any, Inlined, NoNodeTarget, NoNodeVar, BindsNothing, EachCode, IsVectorised}
+use Rattle.grin_meaning.specs.Ready.{EachCode, IsVectorised, EachBody, inlined_kind, vectorised_kind}
 use Rattle.grin_meaning.specs.Keeps.{Keeps}
 use Rattle.grin_meaning.specs.Looking.{look, NeverMissed}
 use Rattle.grin_meaning.specs.Follows.{Same, same}
@@ -41,7 +41,7 @@ below p xs f y i = go (times y xs) refl (f y)
         less : (p ≤ y → ⊥) → y < p
         less n = omega (arith, n)
 
-module _ (g : Program) (formed : Formed g) (never : NeverMissed g) (inlined : AllOf (λ q. EachCode Inlined Any Any Any q.body) g.procs) (bare : IsVectorised g) where
+module _ (g : Program) (formed : Formed g) (never : NeverMissed g) (inlined : EachBody inlined_kind g.procs) (bare : IsVectorised g) where
   abbrev base : ℕ
   base = past_procs g.procs
 
@@ -58,7 +58,7 @@ module _ (g : Program) (formed : Formed g) (never : NeverMissed g) (inlined : Al
     given_too : {v v' : Value} → Same v v' → Seen true (is_given g v) → Seen true (is_given g v') × Same v v'
     given_too (same {a = v}) s = (s, same)
 
-    body_goes : (f n : ℕ) (q : Procedure) → base ≤ n → ProcedureFormed g q → EachCode Inlined Any Any Any q.body → EachCode Any NoNodeTarget NoNodeVar BindsNothing q.body → ((y : ℕ) → times y (numbers_of q.params) + times y (code_vars q.body) ≤ 1) → past_vars q.params ≤ base → past_code q.body ≤ base
+    body_goes : (f n : ℕ) (q : Procedure) → base ≤ n → ProcedureFormed g q → EachCode inlined_kind q.body → EachCode vectorised_kind q.body → ((y : ℕ) → times y (numbers_of q.params) + times y (code_vars q.body) ≤ 1) → past_vars q.params ≤ base → past_code q.body ≤ base
         → BodyFollows (it g procs c c' cb cf) f q (record q { body = split_code g.tags [] (Lit (pos 0)) [] n q.body })
     body_goes f n q le fq iq bq once pq pb = record {
       R = λ cells. Near g (numbers_of q.params) [] [] (Lit (pos 0)) [] cells;
@@ -83,7 +83,7 @@ module _ (g : Program) (formed : Formed g) (never : NeverMissed g) (inlined : Al
       given = λ v v' u seen. given_too u seen;
     }
 
-    bodies_go : (f n : ℕ) (qs : List Procedure) → base ≤ n → AllOf (ProcedureFormed g) qs → AllOf (λ q. EachCode Inlined Any Any Any q.body) qs → AllOf (λ q. EachCode Any NoNodeTarget NoNodeVar BindsNothing q.body) qs → ((y : ℕ) → times y (procs_vars qs) ≤ 1) → past_procs qs ≤ base
+    bodies_go : (f n : ℕ) (qs : List Procedure) → base ≤ n → AllOf (ProcedureFormed g) qs → EachBody inlined_kind qs → EachBody vectorised_kind qs → ((y : ℕ) → times y (procs_vars qs) ≤ 1) → past_procs qs ≤ base
         → BodiesFollow (it g procs c c' cb cf) f qs (split_procs g.tags n qs)
     bodies_go f n [] le fq iq bq once past = no_more
     bodies_go f n (q ∷ qs) le fq iq bq once past = one_more {f = f} {q = q} {r = record q { body = split_code g.tags [] (Lit (pos 0)) [] n q.body }} (body_goes f n q le fq.0 iq.0 bq.0 here (omega (arith, past)) (omega (arith, past)))

@@ -5,12 +5,11 @@ use Rattle.grin_syntax.specs.declared.program.Word.TheVariants.{Lit}
 use Rattle.grin_syntax.specs.declared.program.Val.{Val}
 use Rattle.grin_syntax.specs.declared.program.Val.TheVariants.{NodeVar, Node, Vector, One}
 use Rattle.grin_syntax.specs.Tree.{Act, fetch, eval, apply, Procedure, Program}
-use Rattle.grin_syntax.specs.Binders.{target_vars}
-use Rattle.grin_syntax.specs.Formed.{AllOf, Formed, argument_words}
+use Rattle.grin_syntax.specs.Formed.{Formed, argument_words}
 use Rattle.grin_syntax.specs.Fresh.{past_procs}
 use Rattle.grin_syntax.proofs.Scopes.{same_sites, formed_with}
 use Rattle.grin_meaning.specs.Checks.{is_fetch}
-use Rattle.grin_meaning.specs.Ready.{Any, Inlined, ByWords, NoNodeTarget, NoNodeVar, BindsNothing, EachCode, IsVectorised, IsFetchedByWords, most_value_fields, Ready}
+use Rattle.grin_meaning.specs.Ready.{Inlined, ByWords, NoNodeVar, IsVectorised, IsFetchedByWords, most_value_fields, Ready, EachBody, inlined_kind, by_words_kind, vectorised_kind, narrow_kind}
 use Rattle.grin_meaning.specs.Keeps.{Keeps}
 use Rattle.grin_meaning.specs.Looking.{NeverMissed}
 use Rattle.grin_meaning.proofs.Looked.{looking_law}
@@ -61,17 +60,17 @@ module _ (g : Program) (v : OfVectors g) where
   kept : NeverMissed (split g) × Keeps g (split g)
   kept = split_kept g v.formed never v.ready.inlined v.vectorised
 
-  split_inlined : AllOf (λ q. EachCode Inlined Any Any Any q.body) (split g).procs
-  split_inlined = each_proc g.tags Inlined Inlined Any Any Any Any Any Any (inlined_stays g) (λ a i. tt) (λ v as'. tt) (λ v. tt) (λ t h. tt) (λ x. tt) (λ ks v h. tt) (λ t ws. tt) (λ ws. tt) (λ xs h. tt) tt g.procs base v.ready.inlined
+  split_inlined : EachBody inlined_kind (split g).procs
+  split_inlined = each_proc g.tags inlined_kind inlined_kind (inlined_stays g) (λ a i. tt) (λ v as'. tt) (λ v. tt) (λ t h. tt) (λ x. tt) (λ ks v h. tt) (λ t ws. tt) (λ ws. tt) (λ xs h. tt) tt g.procs base v.ready.inlined
 
   split_bare : IsVectorised (split g)
-  split_bare = each_proc g.tags Any Any NoNodeTarget NoNodeTarget NoNodeVar NoNodeVar BindsNothing BindsNothing (λ o ks a ps n e h. tt) (λ a i. tt) (λ v as'. tt) (λ v. tt) (λ t h. h) (λ x. tt) no_node_val (λ t ws. tt) (λ ws. tt) (λ xs h. h) refl g.procs base v.vectorised
+  split_bare = each_proc g.tags vectorised_kind vectorised_kind (λ o ks a ps n e h. tt) (λ a i. tt) (λ v as'. tt) (λ v. tt) (λ t h. h) (λ x. tt) no_node_val (λ t ws. tt) (λ ws. tt) (λ xs h. h) refl g.procs base v.vectorised
 
   split_by_words : IsFetchedByWords (split g)
-  split_by_words = each_proc g.tags Any ByWords NoNodeTarget Any NoNodeVar Any BindsNothing Any (λ o ks a ps n e h. by_words_stays g o ks a ps n e) (λ a i. tt) (λ v as'. tt) (λ v. tt) (λ t h. tt) (λ x. tt) (λ ks v h. tt) (λ t ws. tt) (λ ws. tt) (λ xs h. tt) tt g.procs base v.vectorised
+  split_by_words = each_proc g.tags vectorised_kind by_words_kind (λ o ks a ps n e h. by_words_stays g o ks a ps n e) (λ a i. tt) (λ v as'. tt) (λ v. tt) (λ t h. tt) (λ x. tt) (λ ks v h. tt) (λ t ws. tt) (λ ws. tt) (λ xs h. tt) tt g.procs base v.vectorised
 
   split_narrow : (most : ℕ) → 1 ≤ most → NarrowTargets most g → NarrowTargets most (split g)
-  split_narrow most le h = each_proc g.tags Any Any (λ t. length (target_vars t) ≤ most) (λ t. length (target_vars t) ≤ most) Any Any Any Any (λ o ks a ps n e h. tt) (λ a i. tt) (λ v as'. tt) (λ v. tt) (λ t h. h) (λ x. le) (λ ks v h. tt) (λ t ws. tt) (λ ws. tt) (λ xs h. tt) tt g.procs base h
+  split_narrow most le h = each_proc g.tags (narrow_kind most) (narrow_kind most) (λ o ks a ps n e h. tt) (λ a i. tt) (λ v as'. tt) (λ v. tt) (λ t h. h) (λ x. le) (λ ks v h. tt) (λ t ws. tt) (λ ws. tt) (λ xs h. tt) tt g.procs base h
 
   split_formed : Formed (split g)
   split_formed = formed_with g (split g).procs (split_count g base g.procs) v.formed (λ x. vars_once g.tags x g.procs (v.formed.variables_once x)) (same_sites g (split g).procs (split_count g base g.procs) (sites_stay g.tags g.procs base) v.formed.sites_once)

@@ -14,12 +14,12 @@ use Rattle.grin_syntax.specs.Formed.{AllOf, InScope}
 use Rattle.grin_syntax.specs.Fresh.{variable, variables, past_code, past_procs}
 use Rattle.grin_syntax.proofs.Counted.{times_append, counts, one_at}
 use Rattle.grin_syntax.proofs.Unbound.{past_code_none}
-use Rattle.grin_meaning.specs.Ready.{Any, NoNodeTarget, NoNodeVar, BindsNothing, EachAct, EachCode, EachArms, most_fields}
+use Rattle.grin_meaning.specs.Ready.{NoNodeVar, EachAct, EachCode, EachArms, most_fields, EachBody, vectorised_kind}
 use Rattle.pass_ground.specs.Uses.{word_is, val_uses, code_uses, arms_use, act_mentions}
 use Rattle.fetch_passes.specs.Windows.{begins_with, is_int, tests_number, vector_uses, act_owns, owns, act_outside, outside}
 use Rattle.fetch_passes.specs.Names.{Names, Wait, as_word, as_val, hiding}
 use Rattle.fetch_passes.specs.Split.{fetched_if, word_fetches, waits_of, front, front_names, all_words, node_arms, whole_node, split_act, split_code, split_arms, split_procs, made_act, made_code}
-use Rattle.fetch_passes.specs.Placed.{ByNodes}
+use Rattle.fetch_passes.specs.Placed.{by_nodes_kind}
 use Rattle.fetch_passes.specs.Positions.{Tagged, Position, after_tag, at_front, elsewhere, GiveNodes, GivesNode, ActPlaced, CodePlaced, ArmsPlaced}
 use Rattle.pass_ground.proofs.Tests.{equal_so, equal_self, equal_not, never_both, same_var}
 use Rattle.fetch_passes.proofs.Found.{is_waiting, hiding_is}
@@ -129,7 +129,7 @@ module _ (ts : List Tag) where
   tests_stay no_arm ks a ps n = refl
   tests_stay (arm s b as') ks a ps n = ap (λ r. is_int s || r) (tests_stay as' ks a ps (n + length ps + made_code ts [] b))
 
-  owns_stays : (b : Code) (ks : Names) (a : W.Word) (ps : List Wait) (n : ℕ) (t : VarId) → Alone ks t → times t.0 (code_vars b) ≡ 0 → t.0 < n → EachCode Any NoNodeTarget NoNodeVar BindsNothing b → EachCode ByNodes Any Any Any b → owns t.0 (split_code ts ks a ps n b) ≡ owns t.0 b
+  owns_stays : (b : Code) (ks : Names) (a : W.Word) (ps : List Wait) (n : ℕ) (t : VarId) → Alone ks t → times t.0 (code_vars b) ≡ 0 → t.0 < n → EachCode vectorised_kind b → EachCode by_nodes_kind b → owns t.0 (split_code ts ks a ps n b) ≡ owns t.0 b
   unfolding split_act owns code_vars EachAct made_act
   owns_stays (end (fetch c)) ks a ps n t x h lt e k = owns_all t.0 (as_word ks c) 1 (variables (suc n) (most_fields ts)) _ ∙ equal_not n t.0 (λ q. omega (arith, q, lt))
   owns_stays (end o) ks a ps n t x h lt e k = owned_stays o ks a ps n t x
@@ -144,7 +144,7 @@ module _ (ts : List Tag) where
   owns_stays (bind u (fetch_word c i) b) ks a ps n t x h lt e k = absurd k.1
   owns_stays (bind u o b) ks a ps n t x h lt e k = owned_stays o ks a ps n t x
 
-  act_outside_stays : (o : Act) (ks : Names) (a : W.Word) (ps : List Wait) (n : ℕ) (t z y : VarId) → Alone ks t → as_word ks (Var z) ≡ Var y → is_waiting ps z.0 ≡ false → times z.0 (act_vars o) ≡ 0 → EachAct Any NoNodeTarget NoNodeVar BindsNothing o → act_outside t.0 z.0 o ≡ true → act_outside t.0 y.0 (split_act ts ks a ps n o) ≡ true
+  act_outside_stays : (o : Act) (ks : Names) (a : W.Word) (ps : List Wait) (n : ℕ) (t z y : VarId) → Alone ks t → as_word ks (Var z) ≡ Var y → is_waiting ps z.0 ≡ false → times z.0 (act_vars o) ≡ 0 → EachAct vectorised_kind o → act_outside t.0 z.0 o ≡ true → act_outside t.0 y.0 (split_act ts ks a ps n o) ≡ true
   unfolding split_act act_mentions act_vars EachAct
   act_outside_stays (case v as') ks a ps n t z y x is w h e u =
       ap (λ s. cond s (vector_uses (tests_number (split_arms ts ks a ps n as')) y.0 (as_val ks v)) (val_uses y.0 (as_val ks v) || arms_use y.0 (split_arms ts ks a ps n as'))) (begins_stays ks t x v) ∙ go (begins_with t.0 v) u
@@ -154,7 +154,7 @@ module _ (ts : List Tag) where
       go false k = act_used ts (case v as') ks a ps n z y is w h e k
   act_outside_stays o ks a ps n t z y x is w h e u = act_used ts o ks a ps n z y is w h e u
 
-  outside_stays : (b : Code) (ks : Names) (a : W.Word) (ps : List Wait) (n : ℕ) (t z y : VarId) → Alone ks t → as_word ks (Var z) ≡ Var y → is_waiting ps z.0 ≡ false → times t.0 (code_vars b) ≡ 0 → times z.0 (code_vars b) ≡ 0 → EachCode Any NoNodeTarget NoNodeVar BindsNothing b → EachCode ByNodes Any Any Any b
+  outside_stays : (b : Code) (ks : Names) (a : W.Word) (ps : List Wait) (n : ℕ) (t z y : VarId) → Alone ks t → as_word ks (Var z) ≡ Var y → is_waiting ps z.0 ≡ false → times t.0 (code_vars b) ≡ 0 → times z.0 (code_vars b) ≡ 0 → EachCode vectorised_kind b → EachCode by_nodes_kind b
       → outside t.0 z.0 b ≡ true → outside t.0 y.0 (split_code ts ks a ps n b) ≡ true
   unfolding split_act outside act_mentions code_vars EachAct made_act
   outside_stays (end (fetch c)) ks a ps n t z y x is w h v0 e k u = or_left (word_is y.0 (as_word ks c)) _ (word_used ks z y is c u)
@@ -431,7 +431,7 @@ module _ (base : ℕ) (v : VarId) (vs : List VarId) (b : Code) (zs : List ℕ) (
       go false q (inl e) = inl e
       go false q (inr r) = inr (r.0, r.1, in_right ys zs r.0 r.2)
 
-  kept_outside : (ts : List Tag) (a : W.Word) → EachCode Any NoNodeTarget NoNodeVar BindsNothing b → EachCode ByNodes Any Any Any b → (y : VarId) → InScope (numbers_of vs) y.0 → outside v.0 y.0 b ≡ true → outside v.0 y.0 (split_code ts (hiding ws ks) a (cond (owns v.0 b) ws ps) (n + 0) b) ≡ true
+  kept_outside : (ts : List Tag) (a : W.Word) → EachCode vectorised_kind b → EachCode by_nodes_kind b → (y : VarId) → InScope (numbers_of vs) y.0 → outside v.0 y.0 b ≡ true → outside v.0 y.0 (split_code ts (hiding ws ks) a (cond (owns v.0 b) ws ps) (n + 0) b) ≡ true
   kept_outside ts a e k y i o = outside_stays ts b (hiding ws ks) a (cond (owns v.0 b) ws ps) (n + 0) v y y v_alone (hiding_stays ws ks y y mine (sound_new base n zs ks x.sound y (let q : times y.0 zs + times y.0 ys + times y.0 (code_vars b) ≤ 1 = all_once y.0 in omega (arith, q, i)))) (go (owns v.0 b)) v_new.2
       (let q : times y.0 zs + times y.0 ys + times y.0 (code_vars b) ≤ 1 = all_once y.0 in omega (arith, q, i)) e k o
     where
@@ -462,12 +462,12 @@ module _ (ts : List Tag) (base : ℕ) where
   mutual
     unfolding split_act CodePlaced act_vars EachAct made_act owns
 
-    act_placed : (o : Act) (zs : List ℕ) (ks : Names) (a : W.Word) (ps : List Wait) (n : ℕ) (next : Position) → Walk base zs ks ps n (act_vars o) → Waits next a ps → EachAct Any NoNodeTarget NoNodeVar BindsNothing o → EachAct ByNodes Any Any Any o → ActPlaced base next (split_act ts ks a ps n o)
+    act_placed : (o : Act) (zs : List ℕ) (ks : Names) (a : W.Word) (ps : List Wait) (n : ℕ) (next : Position) → Walk base zs ks ps n (act_vars o) → Waits next a ps → EachAct vectorised_kind o → EachAct by_nodes_kind o → ActPlaced base next (split_act ts ks a ps n o)
     act_placed (case v as') zs ks a ps n next x w e k = arms_placed as' zs ks a ps n next x w e.2 k.2
     act_placed (nested b) zs ks a ps n next x w e k = code_placed b zs ks a [] n elsewhere elsewhere (walk_none base zs ks ps n (code_vars b) x) (inl refl) (inl refl) e.1 k.1
     act_placed o zs ks a ps n next x w e k = tt
 
-    code_placed : (b : Code) (zs : List ℕ) (ks : Names) (a : W.Word) (ps : List Wait) (n : ℕ) (here next : Position) → Walk base zs ks ps n (code_vars b) → Waits next a ps → Owned ps zs b → EachCode Any NoNodeTarget NoNodeVar BindsNothing b → EachCode ByNodes Any Any Any b → CodePlaced base here next (split_code ts ks a ps n b)
+    code_placed : (b : Code) (zs : List ℕ) (ks : Names) (a : W.Word) (ps : List Wait) (n : ℕ) (here next : Position) → Walk base zs ks ps n (code_vars b) → Waits next a ps → Owned ps zs b → EachCode vectorised_kind b → EachCode by_nodes_kind b → CodePlaced base here next (split_code ts ks a ps n b)
     code_placed (end (fetch c)) zs ks a ps n here next x w o e k = whole_placed base ts n (as_word ks c) here next x.from
     code_placed (end (fetch_word c i)) zs ks a ps n here next x w o e k = absurd k
     code_placed (end o') zs ks a ps n here next x w o e k = (tt, act_placed o' zs ks a ps n next x w e k)
@@ -498,7 +498,7 @@ module _ (ts : List Tag) (base : ℕ) where
           code_placed b zs ks a [] (n + made_act ts ps o') elsewhere elsewhere (walk_on base zs ks [] n (n + made_act ts ps o') (code_vars b) (omega arith) (walk_none base zs ks ps n (code_vars b) (walk_right base zs ks ps n (act_vars o') (code_vars b) y))) (inl refl) (inl refl) e.2 k.2,
         )
 
-    arms_placed : (as' : Arms) (zs : List ℕ) (ks : Names) (a : W.Word) (ps : List Wait) (n : ℕ) (next : Position) → Walk base zs ks ps n (arms_vars as') → Waits next a ps → EachArms Any NoNodeTarget NoNodeVar BindsNothing as' → EachArms ByNodes Any Any Any as' → ArmsPlaced base next (split_arms ts ks a ps n as')
+    arms_placed : (as' : Arms) (zs : List ℕ) (ks : Names) (a : W.Word) (ps : List Wait) (n : ℕ) (next : Position) → Walk base zs ks ps n (arms_vars as') → Waits next a ps → EachArms vectorised_kind as' → EachArms by_nodes_kind as' → ArmsPlaced base next (split_arms ts ks a ps n as')
     arms_placed no_arm zs ks a ps n next x w e k = tt
     arms_placed (arm s b as') zs ks a ps n next x w e k =
         let y : Walk base zs ks ps n (code_vars b ++ arms_vars as') = walk_right base zs ks ps n (shape_vars s) (code_vars b ++ arms_vars as') x in (
@@ -507,7 +507,7 @@ module _ (ts : List Tag) (base : ℕ) where
           arms_placed as' zs ks a ps (n + length ps + made_code ts [] b) next (walk_on base zs ks ps n (n + length ps + made_code ts [] b) (arms_vars as') (omega arith) (walk_right base zs ks ps n (code_vars b) (arms_vars as') y)) w e.2 k.2,
         )
 
-  pub procs_placed : (qs : List Procedure) (n : ℕ) → base ≤ n → past_procs qs ≤ base → ((y : ℕ) → times y (procs_vars qs) ≤ 1) → AllOf (λ q. EachCode Any NoNodeTarget NoNodeVar BindsNothing q.body) qs → AllOf (λ q. EachCode ByNodes Any Any Any q.body) qs
+  pub procs_placed : (qs : List Procedure) (n : ℕ) → base ≤ n → past_procs qs ≤ base → ((y : ℕ) → times y (procs_vars qs) ≤ 1) → EachBody vectorised_kind qs → EachBody by_nodes_kind qs
       → AllOf (λ q. CodePlaced base elsewhere elsewhere q.body) (split_procs ts n qs)
   procs_placed [] n le past once e k = tt
   procs_placed (q ∷ qs) n le past once e k = (

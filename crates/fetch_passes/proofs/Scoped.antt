@@ -15,7 +15,7 @@ use Rattle.grin_syntax.specs.Formed.{AllOf, Scope, InScope, with_words, with_tar
 use Rattle.grin_syntax.specs.Fresh.{variable, variables}
 use Rattle.grin_syntax.proofs.Counted.{times_append, counts, one_at}
 use Rattle.grin_syntax.proofs.Scopes.{with_procs, known_again, shape_stays}
-use Rattle.grin_meaning.specs.Ready.{Any, NoNodeTarget, NoNodeVar, BindsNothing, EachAct, EachCode, EachArms, most_fields}
+use Rattle.grin_meaning.specs.Ready.{NoNodeTarget, NoNodeVar, EachAct, EachCode, EachArms, most_fields, EachBody, vectorised_kind}
 use Rattle.pass_ground.specs.Uses.{code_uses}
 use Rattle.fetch_passes.specs.Windows.{owns, outside}
 use Rattle.fetch_passes.specs.Names.{Names, Wait, as_word, as_words, as_val, as_cells, hiding, named_if}
@@ -279,7 +279,7 @@ module _ (g : Program) (procs : List Procedure) (same_count : length procs ≡ l
   mutual
     unfolding split_act ActFormed EachAct made_act
 
-    act_formed : (o : Act) (scope : Scope) (ws : List ℕ) (ks : Names) (a : W.Word) (ps : List Wait) (n : ℕ) → Fits scope.words ws ks a → EachAct Any NoNodeTarget NoNodeVar BindsNothing o → ActFormed g scope o → ActFormed after (In ws) (split_act g.tags ks a ps n o)
+    act_formed : (o : Act) (scope : Scope) (ws : List ℕ) (ks : Names) (a : W.Word) (ps : List Wait) (n : ℕ) → Fits scope.words ws ks a → EachAct vectorised_kind o → ActFormed g scope o → ActFormed after (In ws) (split_act g.tags ks a ps n o)
     act_formed (case v as') scope ws ks a ps n x e h = (val_formed scope ws ks a x v e.1 h.0, arms_formed as' scope ws ks a ps n x e.2 h.1)
     act_formed (nested b) scope ws ks a ps n x e h = code_formed b scope ws ks a [] n x e.1 h
     act_formed (unit v) scope ws ks a ps n x e h = val_formed scope ws ks a x v e.1 h
@@ -294,7 +294,7 @@ module _ (g : Program) (procs : List Procedure) (same_count : length procs ≡ l
     act_formed (write c) scope ws ks a ps n x e h = word_formed scope ws ks a x c h
     act_formed fail scope ws ks a ps n x e h = tt
 
-    pub code_formed : (b : Code) (scope : Scope) (ws : List ℕ) (ks : Names) (a : W.Word) (ps : List Wait) (n : ℕ) → Fits scope.words ws ks a → EachCode Any NoNodeTarget NoNodeVar BindsNothing b → CodeFormed g scope b → CodeFormed after (In ws) (split_code g.tags ks a ps n b)
+    pub code_formed : (b : Code) (scope : Scope) (ws : List ℕ) (ks : Names) (a : W.Word) (ps : List Wait) (n : ℕ) → Fits scope.words ws ks a → EachCode vectorised_kind b → CodeFormed g scope b → CodeFormed after (In ws) (split_code g.tags ks a ps n b)
     code_formed (end (fetch c)) scope ws ks a ps n x e h = whole_formed n (as_word ks c) ws (word_formed scope ws ks a x c h)
     code_formed (end o) scope ws ks a ps n x e h = act_formed o scope ws ks a ps n x e h
     code_formed (store cs b) scope ws ks a ps n x e h =
@@ -318,7 +318,7 @@ module _ (g : Program) (procs : List Procedure) (same_count : length procs ≡ l
           (code_formed b (with_target t scope) (target_vars t ++ ws) ks a _ (n + made_act g.tags ps o) (fits_scope (target_vars t ++ scope.words) (with_target t scope).words (target_vars t ++ ws) ks a (sym (target_is t scope e.0)) (fits_both (target_vars t) scope.words ws ks a x)) e.2 h.1),
     )
 
-    arms_formed : (as' : Arms) (scope : Scope) (ws : List ℕ) (ks : Names) (a : W.Word) (ps : List Wait) (n : ℕ) → Fits scope.words ws ks a → EachArms Any NoNodeTarget NoNodeVar BindsNothing as' → ArmsFormed g scope as' → ArmsFormed after (In ws) (split_arms g.tags ks a ps n as')
+    arms_formed : (as' : Arms) (scope : Scope) (ws : List ℕ) (ks : Names) (a : W.Word) (ps : List Wait) (n : ℕ) → Fits scope.words ws ks a → EachArms vectorised_kind as' → ArmsFormed g scope as' → ArmsFormed after (In ws) (split_arms g.tags ks a ps n as')
     arms_formed no_arm scope ws ks a ps n x e h = tt
     arms_formed (arm s b as') scope ws ks a ps n x e h = (
       shape_stays g procs same_count s h.0,
@@ -328,7 +328,7 @@ module _ (g : Program) (procs : List Procedure) (same_count : length procs ≡ l
       arms_formed as' scope ws ks a ps (n + length ps + made_code g.tags [] b) x e.2 h.2,
     )
 
-  pub bodies_formed : (qs : List Procedure) (n : ℕ) → AllOf (λ q. EachCode Any NoNodeTarget NoNodeVar BindsNothing q.body) qs → AllOf (ProcedureFormed g) qs → AllOf (ProcedureFormed after) (split_procs g.tags n qs)
+  pub bodies_formed : (qs : List Procedure) (n : ℕ) → EachBody vectorised_kind qs → AllOf (ProcedureFormed g) qs → AllOf (ProcedureFormed after) (split_procs g.tags n qs)
   bodies_formed [] n e h = tt
   bodies_formed (q ∷ qs) n e h = (
     code_formed q.body (params_scope q) (numbers_of q.params) [] (Lit (pos 0)) [] n (record { names = λ z. inl refl; own = λ z i k. i; cell = tt }) e.0 h.0,

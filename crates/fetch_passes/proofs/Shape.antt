@@ -17,7 +17,7 @@ use Rattle.grin_syntax.specs.Formed.{AllOf}
 use Rattle.grin_syntax.specs.SameOutside.{names_of}
 use Rattle.grin_syntax.specs.Fresh.{variable, variables}
 use Rattle.grin_meaning.specs.Checks.{is_fetch}
-use Rattle.grin_meaning.specs.Ready.{EachAct, EachCode, EachArms, NarrowAct, NarrowCode, NarrowArms, val_width, most_fields}
+use Rattle.grin_meaning.specs.Ready.{EachAct, EachCode, EachArms, NarrowAct, NarrowCode, NarrowArms, val_width, most_fields, Kind, EachBody}
 use Rattle.pass_ground.specs.Uses.{code_uses}
 use Rattle.fetch_passes.specs.Windows.{outside}
 use Rattle.fetch_passes.specs.Names.{Names, Wait, as_val, as_cells}
@@ -25,13 +25,13 @@ use Rattle.fetch_passes.specs.Split.{fetched_if, word_fetches, front, front_name
 
 -- ---- facts of each operation
 
-module _ (ts : List Tag) (OpOk OpOk' : Act → Type 0) (TargetOk TargetOk' : T.Target → Type 0) (ValOk ValOk' : V.Val → Type 0) (ShapeOk ShapeOk' : List ℕ → Type 0)
-    (keep : (o : Act) (ks : Names) (a : W.Word) (ps : List Wait) (n : ℕ) → is_fetch o ≡ false → OpOk o → OpOk' (split_act ts ks a ps n o))
-    (word : (a : W.Word) (i : ℕ) → OpOk' (fetch_word a i)) (whole : (v : V.Val) (as' : Arms) → OpOk' (case v as')) (given : (v : V.Val) → OpOk' (unit v))
-    (target : (t : T.Target) → TargetOk t → TargetOk' t) (one : (x : VarId) → TargetOk' (to.One x)) (val : (ks : Names) (v : V.Val) → ValOk v → ValOk' (as_val ks v)) (made : (t : TagId) (ws : List W.Word) → ValOk' (Node t ws)) (vector : (ws : List W.Word) → ValOk' (Vector ws))
-    (shape : (xs : List ℕ) → ShapeOk xs → ShapeOk' xs) (no_shape : ShapeOk' []) where
+module _ (ts : List Tag) (K K' : Kind)
+    (keep : (o : Act) (ks : Names) (a : W.Word) (ps : List Wait) (n : ℕ) → is_fetch o ≡ false → K.operation o → K'.operation (split_act ts ks a ps n o))
+    (word : (a : W.Word) (i : ℕ) → K'.operation (fetch_word a i)) (whole : (v : V.Val) (as' : Arms) → K'.operation (case v as')) (given : (v : V.Val) → K'.operation (unit v))
+    (target : (t : T.Target) → K.target t → K'.target t) (one : (x : VarId) → K'.target (to.One x)) (val : (ks : Names) (v : V.Val) → K.value v → K'.value (as_val ks v)) (made : (t : TagId) (ws : List W.Word) → K'.value (Node t ws)) (vector : (ws : List W.Word) → K'.value (Vector ws))
+    (shape : (xs : List ℕ) → K.pattern xs → K'.pattern xs) (no_shape : K'.pattern []) where
   abbrev Code' : Code → Type 0
-  Code' = EachCode OpOk' TargetOk' ValOk' ShapeOk'
+  Code' = EachCode K'
 
   each_fetch : (o : Bool) (x : VarId) (a : W.Word) (i : ℕ) (c : Code) → Code' c → Code' (fetched_if o x a i c)
   unfolding EachAct
@@ -51,7 +51,7 @@ module _ (ts : List Tag) (OpOk OpOk' : Act → Type 0) (TargetOk TargetOk' : T.T
   each_all a i [] c h = h
   each_all a i (x ∷ xs) c h = (one x, word a i, each_all a (suc i) xs c h)
 
-  each_nodes : (xs : List VarId) (i : ℕ) (us : List Tag) → EachArms OpOk' TargetOk' ValOk' ShapeOk' (node_arms xs i us)
+  each_nodes : (xs : List VarId) (i : ℕ) (us : List Tag) → EachArms K' (node_arms xs i us)
   unfolding EachAct
   each_nodes xs i [] = tt
   each_nodes xs i (u ∷ us) = (no_shape, (given _, made _ _), each_nodes xs (suc i) us)
@@ -60,14 +60,14 @@ module _ (ts : List Tag) (OpOk OpOk' : Act → Type 0) (TargetOk TargetOk' : T.T
   unfolding EachAct
   each_whole n a = each_all a 0 (variables n (suc (most_fields ts))) _ (whole _ _, vector _, each_nodes (variables (suc n) (most_fields ts)) 0 ts)
 
-  each_cells : (ks : Names) (cs : List Cell) → AllOf (λ c. ValOk c.val) cs → AllOf (λ c. ValOk' c.val) (as_cells ks cs)
+  each_cells : (ks : Names) (cs : List Cell) → AllOf (λ c. K.value c.val) cs → AllOf (λ c. K'.value c.val) (as_cells ks cs)
   each_cells ks [] h = tt
   each_cells ks (c ∷ cs) h = (val ks c.val h.0, each_cells ks cs h.1)
 
   mutual
     unfolding split_act EachAct made_act
 
-    each_act : (o : Act) (ks : Names) (a : W.Word) (ps : List Wait) (n : ℕ) → is_fetch o ≡ false → EachAct OpOk TargetOk ValOk ShapeOk o → EachAct OpOk' TargetOk' ValOk' ShapeOk' (split_act ts ks a ps n o)
+    each_act : (o : Act) (ks : Names) (a : W.Word) (ps : List Wait) (n : ℕ) → is_fetch o ≡ false → EachAct K o → EachAct K' (split_act ts ks a ps n o)
     each_act (case v as') ks a ps n e h = (keep (case v as') ks a ps n e h.0, val ks v h.1, each_arms as' ks a ps n h.2)
     each_act (nested b) ks a ps n e h = (keep (nested b) ks a ps n e h.0, each_code b ks a [] n h.1)
     each_act (unit v) ks a ps n e h = (keep (unit v) ks a ps n e h.0, val ks v h.1)
@@ -76,7 +76,7 @@ module _ (ts : List Tag) (OpOk OpOk' : Act → Type 0) (TargetOk TargetOk' : T.T
     each_act (fetch c) ks a ps n e h = cc
     each_act o ks a ps n e h = keep o ks a ps n e h
 
-    pub each_code : (b : Code) (ks : Names) (a : W.Word) (ps : List Wait) (n : ℕ) → EachCode OpOk TargetOk ValOk ShapeOk b → Code' (split_code ts ks a ps n b)
+    pub each_code : (b : Code) (ks : Names) (a : W.Word) (ps : List Wait) (n : ℕ) → EachCode K b → Code' (split_code ts ks a ps n b)
     each_code (end (fetch c)) ks a ps n h = each_whole n _
     each_code (end o) ks a ps n h = each_act o ks a ps n refl h
     each_code (store cs b) ks a ps n h = (each_cells ks cs h.0, each_code b ks a [] n h.1)
@@ -87,11 +87,11 @@ module _ (ts : List Tag) (OpOk OpOk' : Act → Type 0) (TargetOk TargetOk' : T.T
     each_code (bind (to.Node y) (fetch c) b) ks a ps n h = (target (to.Node y) h.0, word _ 0, each_code b _ _ _ (n + 0) h.2)
     each_code (bind t o b) ks a ps n h = (target t h.0, each_act o ks a ps n refl h.1, each_code b _ _ _ (n + made_act ts ps o) h.2)
 
-    each_arms : (as' : Arms) (ks : Names) (a : W.Word) (ps : List Wait) (n : ℕ) → EachArms OpOk TargetOk ValOk ShapeOk as' → EachArms OpOk' TargetOk' ValOk' ShapeOk' (split_arms ts ks a ps n as')
+    each_arms : (as' : Arms) (ks : Names) (a : W.Word) (ps : List Wait) (n : ℕ) → EachArms K as' → EachArms K' (split_arms ts ks a ps n as')
     each_arms no_arm ks a ps n h = tt
     each_arms (arm s b as') ks a ps n h = (shape (shape_vars s) h.0, each_front a n ps b _ (each_code b _ a [] (n + length ps) h.1), each_arms as' ks a ps (n + length ps + made_code ts [] b) h.2)
 
-  pub each_proc : (qs : List Procedure) (n : ℕ) → AllOf (λ q. EachCode OpOk TargetOk ValOk ShapeOk q.body) qs → AllOf (λ q. Code' q.body) (split_procs ts n qs)
+  pub each_proc : (qs : List Procedure) (n : ℕ) → EachBody K qs → AllOf (λ q. Code' q.body) (split_procs ts n qs)
   each_proc [] n h = tt
   each_proc (q ∷ qs) n h = (each_code q.body [] (Lit (pos 0)) [] n h.0, each_proc qs (n + made_code ts [] q.body) h.1)
 

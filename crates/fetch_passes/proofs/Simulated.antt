@@ -15,7 +15,7 @@ use Rattle.grin_syntax.proofs.Counted.{times_append, counts, one_at}
 use Rattle.grin_meaning.specs.Values.{Datum, tag, cell, Node, Value, node, words, Env, HeapCell, and_then, padded, Binding, with_vars, fits, word_of, value_of, bindings_of}
 use Rattle.grin_meaning.specs.Run.{Calls, places, cells_of, place_of}
 use Rattle.grin_meaning.specs.Checks.{has_block, is_given, all_fill, is_bound_well}
-use Rattle.grin_meaning.specs.Ready.{Any, Inlined, NoNodeTarget, NoNodeVar, BindsNothing, EachAct, EachCode, EachArms}
+use Rattle.grin_meaning.specs.Ready.{NoNodeTarget, NoNodeVar, EachAct, EachCode, EachArms, inlined_kind, vectorised_kind}
 use Rattle.grin_meaning.specs.Follows.{Same, same}
 use Rattle.grin_meaning.specs.Full.{FullState}
 use Rattle.grin_meaning.proofs.Back.{CallsBack}
@@ -74,22 +74,22 @@ module _ (g : Program) (base : ℕ) (procs : List Procedure) (same_count : lengt
 
   pub record PieceAct (scope : Scope) (o : Act) : Type 0 where
     pub formed : ActFormed g scope o
-    pub inlined : EachAct Inlined Any Any Any o
-    pub bare : EachAct Any NoNodeTarget NoNodeVar BindsNothing o
+    pub inlined : EachAct inlined_kind o
+    pub bare : EachAct vectorised_kind o
     pub once : (y : ℕ) → times y scope.words + times y (act_vars o) ≤ 1
     pub below : (y : ℕ) → InScope (act_vars o) y → y < base
 
   pub record PieceCode (scope : Scope) (b : Code) : Type 0 where
     pub formed : CodeFormed g scope b
-    pub inlined : EachCode Inlined Any Any Any b
-    pub bare : EachCode Any NoNodeTarget NoNodeVar BindsNothing b
+    pub inlined : EachCode inlined_kind b
+    pub bare : EachCode vectorised_kind b
     pub once : (y : ℕ) → times y scope.words + times y (code_vars b) ≤ 1
     pub below : (y : ℕ) → InScope (code_vars b) y → y < base
 
   pub record PieceArms (scope : Scope) (as' : Arms) : Type 0 where
     pub formed : ArmsFormed g scope as'
-    pub inlined : EachArms Inlined Any Any Any as'
-    pub bare : EachArms Any NoNodeTarget NoNodeVar BindsNothing as'
+    pub inlined : EachArms inlined_kind as'
+    pub bare : EachArms vectorised_kind as'
     pub once : (y : ℕ) → times y scope.words + times y (arms_vars as') ≤ 1
     pub below : (y : ℕ) → InScope (arms_vars as') y → y < base
 

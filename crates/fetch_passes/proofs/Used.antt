@@ -13,12 +13,12 @@ use Rattle.grin_syntax.specs.Binders.{times, numbers_of, target_vars, shape_vars
 use Rattle.grin_syntax.specs.Formed.{AllOf, InScope}
 use Rattle.grin_syntax.specs.Fresh.{variable, variables}
 use Rattle.grin_syntax.proofs.Counted.{times_append, counts, one_at}
-use Rattle.grin_meaning.specs.Ready.{Any, NoNodeTarget, NoNodeVar, BindsNothing, EachAct, EachCode, EachArms, most_fields}
+use Rattle.grin_meaning.specs.Ready.{NoNodeVar, EachAct, EachCode, EachArms, most_fields, EachBody, vectorised_kind}
 use Rattle.pass_ground.specs.Uses.{word_is, words_use, val_uses, cells_use, act_uses, code_uses, arms_use, act_mentions}
 use Rattle.fetch_passes.specs.Windows.{tests_number, vector_uses, decides, act_owns, is_passed, owns, act_outside, outside}
 use Rattle.fetch_passes.specs.Names.{Names, Wait, as_word, as_words, as_val, as_cells, hiding, named_if}
 use Rattle.fetch_passes.specs.Split.{fetched_if, word_fetches, waits_of, front, front_names, all_words, node_arms, whole_node, split_act, split_code, split_arms, split_procs, made_act, made_code}
-use Rattle.fetch_passes.specs.Placed.{ByNodes, CodeFetchesUsed, ActFetchesUsed, ArmsFetchUsed, WordUsed}
+use Rattle.fetch_passes.specs.Placed.{CodeFetchesUsed, ActFetchesUsed, ArmsFetchUsed, WordUsed, by_nodes_kind}
 use Rattle.pass_ground.proofs.Tests.{equal_so, equal_self, equal_not, never_both, same_var}
 use Rattle.fetch_passes.proofs.Found.{is_waiting, hiding_is, naming_is}
 use Rattle.fetch_passes.proofs.Waiting.{waits_in, waits_outside}
@@ -176,7 +176,7 @@ module _ (ts : List Tag) where
   mutual
     unfolding split_act act_mentions act_vars EachAct made_act
 
-    pub act_used : (o : Act) (ks : Names) (a : W.Word) (ps : List Wait) (n : ℕ) (z y : VarId) → as_word ks (Var z) ≡ Var y → is_waiting ps z.0 ≡ false → times z.0 (act_vars o) ≡ 0 → EachAct Any NoNodeTarget NoNodeVar BindsNothing o → act_uses z.0 o ≡ true → act_uses y.0 (split_act ts ks a ps n o) ≡ true
+    pub act_used : (o : Act) (ks : Names) (a : W.Word) (ps : List Wait) (n : ℕ) (z y : VarId) → as_word ks (Var z) ≡ Var y → is_waiting ps z.0 ≡ false → times z.0 (act_vars o) ≡ 0 → EachAct vectorised_kind o → act_uses z.0 o ≡ true → act_uses y.0 (split_act ts ks a ps n o) ≡ true
     act_used (case v as') ks a ps n z y e w v0 x h = both_or (val_uses z.0 v) (arms_use z.0 as') (val_uses y.0 (as_val ks v)) (arms_use y.0 (split_arms ts ks a ps n as')) (val_used ks z y e v x.1) (arms_used as' ks a ps n z y e w v0 x.2) h
     act_used (nested b) ks a ps n z y e w v0 x h = code_used b ks a [] n z y e refl v0 x.1 h
     act_used (unit v) ks a ps n z y e w v0 x h = val_used ks z y e v x.1 h
@@ -191,7 +191,7 @@ module _ (ts : List Tag) where
     act_used (write c) ks a ps n z y e w v0 x h = word_used ks z y e c h
     act_used fail ks a ps n z y e w v0 x h = cc
 
-    pub code_used : (b : Code) (ks : Names) (a : W.Word) (ps : List Wait) (n : ℕ) (z y : VarId) → as_word ks (Var z) ≡ Var y → is_waiting ps z.0 ≡ false → times z.0 (code_vars b) ≡ 0 → EachCode Any NoNodeTarget NoNodeVar BindsNothing b → code_uses z.0 b ≡ true → code_uses y.0 (split_code ts ks a ps n b) ≡ true
+    pub code_used : (b : Code) (ks : Names) (a : W.Word) (ps : List Wait) (n : ℕ) (z y : VarId) → as_word ks (Var z) ≡ Var y → is_waiting ps z.0 ≡ false → times z.0 (code_vars b) ≡ 0 → EachCode vectorised_kind b → code_uses z.0 b ≡ true → code_uses y.0 (split_code ts ks a ps n b) ≡ true
     code_used (end (fetch c)) ks a ps n z y e w v0 x h = or_left (word_is y.0 (as_word ks c)) _ (word_used ks z y e c h)
     code_used (end o) ks a ps n z y e w v0 x h = act_used o ks a ps n z y e w v0 x h
     code_used (store cs b) ks a ps n z y e w v0 x h = both_or (cells_use z.0 cs) (code_uses z.0 b) (cells_use y.0 (as_cells ks cs)) (code_uses y.0 (split_code ts ks a [] n b)) (cells_used ks z y e cs x.0)
@@ -208,7 +208,7 @@ module _ (ts : List Tag) where
         (act_used o ks a ps n z y e w (not_here z.0 (act_vars o) (code_vars b) (not_here z.0 (target_vars t) (act_vars o ++ code_vars b) v0).1).0 x.1)
         (code_used b ks a [] (n + made_act ts ps o) z y e refl (not_here z.0 (act_vars o) (code_vars b) (not_here z.0 (target_vars t) (act_vars o ++ code_vars b) v0).1).1 x.2) h
 
-    arms_used : (as' : Arms) (ks : Names) (a : W.Word) (ps : List Wait) (n : ℕ) (z y : VarId) → as_word ks (Var z) ≡ Var y → is_waiting ps z.0 ≡ false → times z.0 (arms_vars as') ≡ 0 → EachArms Any NoNodeTarget NoNodeVar BindsNothing as' → arms_use z.0 as' ≡ true → arms_use y.0 (split_arms ts ks a ps n as') ≡ true
+    arms_used : (as' : Arms) (ks : Names) (a : W.Word) (ps : List Wait) (n : ℕ) (z y : VarId) → as_word ks (Var z) ≡ Var y → is_waiting ps z.0 ≡ false → times z.0 (arms_vars as') ≡ 0 → EachArms vectorised_kind as' → arms_use z.0 as' ≡ true → arms_use y.0 (split_arms ts ks a ps n as') ≡ true
     arms_used no_arm ks a ps n z y e w v0 x h = cc
     arms_used (arm s b as') ks a ps n z y e w v0 x h = both_or (code_uses z.0 b) (arms_use z.0 as') (code_uses y.0 (front a n ps b (split_code ts (front_names n ps b ks) a [] (n + length ps) b))) (arms_use y.0 (split_arms ts ks a ps (n + length ps + made_code ts [] b) as'))
         (λ k. front_after y.0 a n ps b _ (code_used b (front_names n ps b ks) a [] (n + length ps) z y (front_stays n ps b ks z y w e) refl (not_here z.0 (code_vars b) (arms_vars as') (not_here z.0 (shape_vars s) (code_vars b ++ arms_vars as') v0).1).0 x.1 k))
@@ -325,7 +325,7 @@ module _ (ts : List Tag) where
     later_once : (y : ℕ) → times y (ys ++ zs) + times y (code_vars b) ≤ 1
     later_once y = let o : times y zs + times y ys + times y (code_vars b) ≤ 1 = here_once y in let t : times y (ys ++ zs) ≡ times y ys + times y zs = times_append y ys zs in omega (arith, o, t)
 
-    kept_used : (a : W.Word) (n : ℕ) → EachCode Any NoNodeTarget NoNodeVar BindsNothing b → (y : VarId) → InScope (numbers_of vs) y.0 → outside v.0 y.0 b ≡ true → code_uses y.0 (split_code ts (hiding ws ks) a (cond (owns v.0 b) ws ps) n b) ≡ true
+    kept_used : (a : W.Word) (n : ℕ) → EachCode vectorised_kind b → (y : VarId) → InScope (numbers_of vs) y.0 → outside v.0 y.0 b ≡ true → code_uses y.0 (split_code ts (hiding ws ks) a (cond (owns v.0 b) ws ps) n b) ≡ true
     kept_used a n e y i o = code_used b (hiding ws ks) a (cond (owns v.0 b) ws ps) n y y (hiding_stays ws ks y y mine (x.others y (let q : times y.0 zs + times y.0 ys + times y.0 (code_vars b) ≤ 1 = here_once y.0 in omega (arith, q, i)))) (go (owns v.0 b))
         (let q : times y.0 zs + times y.0 ys + times y.0 (code_vars b) ≤ 1 = here_once y.0 in omega (arith, q, i)) e (outside_used v.0 y.0 b o)
       where
@@ -362,12 +362,12 @@ module _ (ts : List Tag) where
   mutual
     unfolding split_act CodeFetchesUsed act_vars EachAct made_act
 
-    act_fetches : (o : Act) (zs : List ℕ) (ks : Names) (a : W.Word) (ps : List Wait) (n : ℕ) → Known zs ks ps → ((y : ℕ) → times y zs + times y (act_vars o) ≤ 1) → EachAct Any NoNodeTarget NoNodeVar BindsNothing o → EachAct ByNodes Any Any Any o → ActFetchesUsed (split_act ts ks a ps n o)
+    act_fetches : (o : Act) (zs : List ℕ) (ks : Names) (a : W.Word) (ps : List Wait) (n : ℕ) → Known zs ks ps → ((y : ℕ) → times y zs + times y (act_vars o) ≤ 1) → EachAct vectorised_kind o → EachAct by_nodes_kind o → ActFetchesUsed (split_act ts ks a ps n o)
     act_fetches (case v as') zs ks a ps n x once e h = arms_fetch as' zs ks a ps n x once e.2 h.2
     act_fetches (nested b) zs ks a ps n x once e h = code_fetches b zs ks a [] n (no_wait zs ks ps x) once e.1 h.1
     act_fetches o zs ks a ps n x once e h = tt
 
-    code_fetches : (b : Code) (zs : List ℕ) (ks : Names) (a : W.Word) (ps : List Wait) (n : ℕ) → Known zs ks ps → ((y : ℕ) → times y zs + times y (code_vars b) ≤ 1) → EachCode Any NoNodeTarget NoNodeVar BindsNothing b → EachCode ByNodes Any Any Any b → CodeFetchesUsed (split_code ts ks a ps n b)
+    code_fetches : (b : Code) (zs : List ℕ) (ks : Names) (a : W.Word) (ps : List Wait) (n : ℕ) → Known zs ks ps → ((y : ℕ) → times y zs + times y (code_vars b) ≤ 1) → EachCode vectorised_kind b → EachCode by_nodes_kind b → CodeFetchesUsed (split_code ts ks a ps n b)
     code_fetches (end (fetch c)) zs ks a ps n x once e h = whole_ok n (as_word ks c)
     code_fetches (end o) zs ks a ps n x once e h = act_fetches o zs ks a ps n x once e h
     code_fetches (store cs b) zs ks a ps n x once e h = code_fetches b zs ks a [] n (no_wait zs ks ps x) (once_after zs (cell_vars cs) (code_vars b) once) e.1 h.1
@@ -389,7 +389,7 @@ module _ (ts : List Tag) where
       code_fetches b zs ks a [] (n + made_act ts ps o) (no_wait zs ks ps x) (once_after zs (act_vars o) (code_vars b) (once_after zs (target_vars t) (act_vars o ++ code_vars b) once)) e.2 h.2,
     )
 
-    arms_fetch : (as' : Arms) (zs : List ℕ) (ks : Names) (a : W.Word) (ps : List Wait) (n : ℕ) → Known zs ks ps → ((y : ℕ) → times y zs + times y (arms_vars as') ≤ 1) → EachArms Any NoNodeTarget NoNodeVar BindsNothing as' → EachArms ByNodes Any Any Any as' → ArmsFetchUsed (split_arms ts ks a ps n as')
+    arms_fetch : (as' : Arms) (zs : List ℕ) (ks : Names) (a : W.Word) (ps : List Wait) (n : ℕ) → Known zs ks ps → ((y : ℕ) → times y zs + times y (arms_vars as') ≤ 1) → EachArms vectorised_kind as' → EachArms by_nodes_kind as' → ArmsFetchUsed (split_arms ts ks a ps n as')
     arms_fetch no_arm zs ks a ps n x once e h = tt
     arms_fetch (arm s b as') zs ks a ps n x once e h =
         let o : (y : ℕ) → times y zs + times y (code_vars b ++ arms_vars as') ≤ 1 = once_after zs (shape_vars s) (code_vars b ++ arms_vars as') once in
@@ -400,7 +400,7 @@ module _ (ts : List Tag) where
           arms_fetch as' zs ks a ps (n + length ps + made_code ts [] b) x (once_after zs (code_vars b) (arms_vars as') o) e.2 h.2,
         )
 
-  pub procs_fetch : (qs : List Procedure) (n : ℕ) → ((y : ℕ) → times y (procs_vars qs) ≤ 1) → AllOf (λ q. EachCode Any NoNodeTarget NoNodeVar BindsNothing q.body) qs → AllOf (λ q. EachCode ByNodes Any Any Any q.body) qs → AllOf (λ q. CodeFetchesUsed q.body) (split_procs ts n qs)
+  pub procs_fetch : (qs : List Procedure) (n : ℕ) → ((y : ℕ) → times y (procs_vars qs) ≤ 1) → EachBody vectorised_kind qs → EachBody by_nodes_kind qs → AllOf (λ q. CodeFetchesUsed q.body) (split_procs ts n qs)
   procs_fetch [] n once e h = tt
   procs_fetch (q ∷ qs) n once e h = (
     code_fetches q.body [] [] (Lit (pos 0)) [] n (record { others = λ z k. refl; inside = λ z k. cc; distinct = tt }) here e.0 h.0,

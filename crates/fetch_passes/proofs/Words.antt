@@ -16,7 +16,7 @@ use Rattle.grin_meaning.specs.Values.{Datum, number, tag, cell, Node, Value, wor
 use Rattle.grin_meaning.specs.Run.{cells_of}
 use Rattle.grin_meaning.specs.Checks.{is_none_or, is_filled, fills, all_fill}
 use Rattle.numbers.specs.Numbers.{same_number}
-use Rattle.grin_meaning.specs.Ready.{NoNodeTarget, NoNodeVar, BindsNothing, EachAct, EachArms, Any as Anything}
+use Rattle.grin_meaning.specs.Ready.{NoNodeVar, EachAct, EachArms, vectorised_kind}
 use Rattle.grin_meaning.proofs.Plain.{then_has}
 use Rattle.pass_ground.specs.Uses.{word_is, words_use, val_uses, cells_use}
 use Rattle.fetch_passes.specs.Windows.{is_int, tests_number, vector_uses}
@@ -231,7 +231,7 @@ module _ (g : Program) (scope : Scope) (ks : Names) (base n : ℕ) (sound : Soun
       first None q k = cc
       first (Some d) q k = next d (word_of g env u) q refl k
 
-pub arms_same : (g : Program) (as' : Arms) → EachArms Anything NoNodeTarget NoNodeVar BindsNothing as' → (d : Datum) (ds ds' : List Datum) → length ds' ≡ length ds
+pub arms_same : (g : Program) (as' : Arms) → EachArms vectorised_kind as' → (d : Datum) (ds ds' : List Datum) → length ds' ≡ length ds
     → (tests_number as' ≡ true → (e : Datum) × (es : List Datum) × (es' : List Datum) × (ds ≡ e ∷ es) × (ds' ≡ e ∷ es') × (length es' ≡ length es)) → SameFits g as' (words (d ∷ ds)) (words (d ∷ ds'))
 unfolding EachAct
 arms_same g no_arm n d ds ds' l f = tt

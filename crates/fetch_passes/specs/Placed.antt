@@ -4,7 +4,7 @@ use Rattle.grin_syntax.specs.declared.program.Target.{Target}
 use Rattle.grin_syntax.specs.declared.program.Target.TheVariants as to
 use Rattle.grin_syntax.specs.Tree.{Code, end, store, bind, Act, fetch_word, case, nested, Arms, no_arm, arm, Program}
 use Rattle.grin_syntax.specs.Formed.{AllOf}
-use Rattle.grin_meaning.specs.Ready.{Any, EachCode}
+use Rattle.grin_meaning.specs.Ready.{Kind, any_kind, EachBody}
 use Rattle.pass_ground.specs.Uses.{code_uses}
 
 -- no fetch of a word
@@ -12,8 +12,11 @@ abbrev pub ByNodes : Act → Type 0
 ByNodes (fetch_word a i) = ⊥
 ByNodes _ = Unit {0}
 
+abbrev pub by_nodes_kind : Kind
+by_nodes_kind = record any_kind { operation = ByNodes }
+
 abbrev pub IsFetchedByNodes : Program → Type 0
-IsFetchedByNodes g = AllOf (λ q. EachCode ByNodes Any Any Any q.body) g.procs
+IsFetchedByNodes g = EachBody by_nodes_kind g.procs
 
 -- a word after the tag that is fetched is used in the block that follows
 abbrev pub WordUsed : Act → Target → Code → Type 0

@@ -22,20 +22,25 @@ abbrev pub fetched_if : Bool → VarId → W.Word → ℕ → Code → Code
 fetched_if true x a i c = bind (to.One x) (fetch_word a i) c
 fetched_if false x a i c = c
 
--- directly after the tag t: the words from the i-th on that are used outside the alternatives of its case
+-- directly after the tag t: the words from the i-th on that are used outside the alternatives of
+-- its case
 abbrev pub word_fetches : (t : ℕ) → Code → W.Word → ℕ → List VarId → Code → Code
 word_fetches t b a i [] c = c
-word_fetches t b a i (x ∷ xs) c = fetched_if (outside t x.0 b) x a i (word_fetches t b a (suc i) xs c)
+word_fetches t b a i (x ∷ xs) c =
+    fetched_if (outside t x.0 b) x a i (word_fetches t b a (suc i) xs c)
 
 -- the others wait
 abbrev pub waits_of : (t : ℕ) → Code → ℕ → List VarId → List Wait
 waits_of t b i [] = []
-waits_of t b i (x ∷ xs) = cond (outside t x.0 b) (waits_of t b (suc i) xs) (record { var = x; place = i } ∷ waits_of t b (suc i) xs)
+waits_of t b i (x ∷ xs) =
+    cond (outside t x.0 b) (waits_of t b (suc i) xs)
+    (record { var = x; place = i } ∷ waits_of t b (suc i) xs)
 
 -- at the front of an alternative: those that it uses, in variables from n on
 abbrev pub front : W.Word → ℕ → List Wait → Code → Code → Code
 front a n [] b c = c
-front a n (p ∷ ps) b c = fetched_if (code_uses p.var.0 b) (variable n) a p.place (front a (suc n) ps b c)
+front a n (p ∷ ps) b c =
+    fetched_if (code_uses p.var.0 b) (variable n) a p.place (front a (suc n) ps b c)
 
 abbrev pub front_names : ℕ → List Wait → Code → Names → Names
 front_names n [] b ks = ks
@@ -67,7 +72,8 @@ cell_from o t b a' = a'
 
 -- a fetch of a whole node by its words
 abbrev pub bound : Act → Target → Code → Code → Code
-bound (fetch a) (to.Vector (x ∷ xs)) b c = bind (to.One x) (fetch_word a 0) (word_fetches x.0 b a 1 xs c)
+bound (fetch a) (to.Vector (x ∷ xs)) b c =
+    bind (to.One x) (fetch_word a 0) (word_fetches x.0 b a 1 xs c)
 bound (fetch a) t b c = bind t (fetch_word a 0) c
 bound o t b c = bind t o c
 
@@ -80,10 +86,15 @@ all_words a i (x ∷ xs) c = bind (to.One x) (fetch_word a i) (all_words a (suc 
 -- the node of each tag, with as many of these variables as it has fields
 abbrev pub node_arms : List VarId → ℕ → List Tag → Arms
 node_arms xs i [] = no_arm
-node_arms xs i (t ∷ ts) = arm (shape.Node (tag_id i) []) (end (unit (Node (tag_id i) (map Var (take t.fields xs))))) (node_arms xs (suc i) ts)
+node_arms xs i (t ∷ ts) =
+    arm (shape.Node (tag_id i) []) (end (unit (Node (tag_id i) (map Var (take t.fields xs)))))
+    (node_arms xs (suc i) ts)
 
 abbrev pub whole_node : List Tag → ℕ → W.Word → Code
-whole_node ts n a = all_words a 0 (variables n (suc (most_fields ts))) (end (case (Vector (map Var (variables n (suc (most_fields ts))))) (node_arms (variables (suc n) (most_fields ts)) 0 ts)))
+whole_node ts n a =
+    all_words a 0 (variables n (suc (most_fields ts)))
+    (end (case (Vector (map Var (variables n (suc (most_fields ts)))))
+    (node_arms (variables (suc n) (most_fields ts)) 0 ts)))
 
 abbrev pub end_with : List Tag → ℕ → Act → Code
 end_with ts n (fetch a) = whole_node ts n a
@@ -110,7 +121,8 @@ module _ (ts : List Tag) where
     made_arms ps no_arm = 0
     made_arms ps (arm s b as') = length ps + made_code [] b + made_arms ps as'
 
-  -- a piece with its fetches split: by these names; where the words ps of the cell a wait for the next case; with new variables from n on
+  -- a piece with its fetches split: by these names; where the words ps of the cell a wait for the
+  -- next case; with new variables from n on
   unfoldable mutual
     pub split_act : Names → W.Word → List Wait → ℕ → Act → Act
     split_act ks a ps n (unit v) = unit (as_val ks v)
@@ -130,15 +142,21 @@ module _ (ts : List Tag) where
     pub split_code : Names → W.Word → List Wait → ℕ → Code → Code
     split_code ks a ps n (end o) = end_with ts n (split_act ks a ps n o)
     split_code ks a ps n (store cs b) = store (as_cells ks cs) (split_code ks a [] n b)
-    split_code ks a ps n (bind t o b) = bound (split_act ks a ps n o) t b (split_code (names_after o t b ks) (cell_after ks o t b a) (waits_after o t b ps) (n + made_act ps o) b)
+    split_code ks a ps n (bind t o b) =
+        bound (split_act ks a ps n o) t b (split_code (names_after o t b ks)
+        (cell_after ks o t b a) (waits_after o t b ps) (n + made_act ps o) b)
 
     pub split_arms : Names → W.Word → List Wait → ℕ → Arms → Arms
     split_arms ks a ps n no_arm = no_arm
-    split_arms ks a ps n (arm s b as') = arm s (front a n ps b (split_code (front_names n ps b ks) a [] (n + length ps) b)) (split_arms ks a ps (n + length ps + made_code [] b) as')
+    split_arms ks a ps n (arm s b as') =
+        arm s (front a n ps b (split_code (front_names n ps b ks) a [] (n + length ps) b))
+        (split_arms ks a ps (n + length ps + made_code [] b) as')
 
   abbrev pub split_procs : ℕ → List Procedure → List Procedure
   split_procs n [] = []
-  split_procs n (q ∷ qs) = record q { body = split_code [] (Lit (pos 0)) [] n q.body } ∷ split_procs (n + made_code [] q.body) qs
+  split_procs n (q ∷ qs) =
+      record q { body = split_code [] (Lit (pos 0)) [] n q.body }
+      ∷ split_procs (n + made_code [] q.body) qs
 
 abbrev pub split : Program → Program
 split g = record g { procs = split_procs g.tags (past_procs g.procs) g.procs }

@@ -1,4 +1,5 @@
--- The case on a node's tag that comes next after its fetch, other fetches aside, and what is used outside its alternatives.
+-- The case on a node's tag that comes next after its fetch, other fetches aside, and what is used
+-- outside its alternatives.
 use Rattle.std.specs.Prelude.{ℕ, Bool, true, false, cond, ◌||◌, ◌&&◌, ◌∷◌}
 use Rattle.grin_syntax.specs.declared.program.Val as V
 use Rattle.grin_syntax.specs.declared.program.Val.TheVariants.{Vector}
@@ -50,8 +51,10 @@ decides x o = act_uses x o
 abbrev pub act_outside : (t x : ℕ) → Act → Bool
 act_outside t x o = cond (act_owns t o) (decides x o) (act_uses x o)
 
--- x is used in a block, outside the alternatives of the case on the vector of t where that comes next
+-- x is used in a block, outside the alternatives of the case on the vector of t where that comes
+-- next
 unfoldable pub outside : (t x : ℕ) → Code → Bool
 outside t x (end o) = act_outside t x o
 outside t x (store cs b) = code_uses x (store cs b)
-outside t x (bind u o b) = cond (is_passed o) (act_uses x o || outside t x b) (act_outside t x o || code_uses x b)
+outside t x (bind u o b) =
+    cond (is_passed o) (act_uses x o || outside t x b) (act_outside t x o || code_uses x b)

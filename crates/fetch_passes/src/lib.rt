@@ -1,4 +1,5 @@
-//! A pass: each fetch of a whole node becomes a fetch of its tag and fetches of the words that are used.
+//! A pass: each fetch of a whole node becomes a fetch of its tag and fetches of the words that are
+//! used.
 #![tactic(auto)]
 
 mod ending;

@@ -9,7 +9,8 @@ use grin_syntax::{Cell, Val, VarId, Word};
 use seq::Seq;
 use std::alloc::{AllocError, Global};
 
-/// A variable of the input, and the word that stands for it: another variable, or 0 where it is not bound.
+/// A variable of the input, and the word that stands for it: another variable, or 0 where it is not
+/// bound.
 #[derive(Clone, Copy, Debug)]
 pub(crate) struct Standing {
     pub var: VarId,

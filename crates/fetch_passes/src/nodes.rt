@@ -1,5 +1,5 @@
-// The words of a node that is fetched: those that are fetched directly after its tag, and those that wait for the
-// alternatives of its case.
+// The words of a node that is fetched: those that are fetched directly after its tag, and those
+// that wait for the alternatives of its case.
 #![tactic(auto, using(grin_syntax::proofs::TreeOf::tree_of))]
 
 ghost use Rattle.std.specs.Prelude.{◌≡◌, ◌++◌, [], ◌∷◌, cond, ◌+◌, suc, length, map, IfOk, OnOk};
@@ -58,7 +58,8 @@ fn wait_unless(kept: bool, var: VarId, place: u32, waits: &mut Seq<Wait>) -> Res
     Ok(())
 }
 
-// A word at the front of an alternative: it is fetched into a new variable where the alternative uses it.
+// A word at the front of an alternative: it is fetched into a new variable where the alternative
+// uses it.
 fn front_word(
     fresh: &mut Fresh,
     names: &mut Seq<Standing>,
@@ -104,7 +105,8 @@ pub(crate) fn front(
     Ok(made)
 }
 
-// A word of a node: it is fetched directly after the tag where it is used outside the alternatives of the tag's case.
+// A word of a node: it is fetched directly after the tag where it is used outside the alternatives
+// of the tag's case.
 fn node_word(
     kept: bool,
     cell: Word,
@@ -126,7 +128,8 @@ fn node_word(
     Ok(())
 }
 
-/// The fetches directly after the tag `tag`, of the words that these variables stand for; the words that wait are the answer.
+/// The fetches directly after the tag `tag`, of the words that these variables stand for; the words
+/// that wait are the answer.
 pub(crate) fn words(
     alloc: Global,
     tag: VarId,

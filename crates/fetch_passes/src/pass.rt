@@ -15,9 +15,10 @@ use grin_syntax::{Grin, Proc, Tag, Word};
 use seq::Seq;
 use std::alloc::{AllocError, Global};
 
-/// Takes the fetches of whole nodes apart. The tag is read first, then the words that somebody needs. A word that only some
-/// alternatives of the tag's case need is read as those begin, so long as nothing but fetches comes between the tag and that
-/// case; the others are read together with the tag.
+/// Takes the fetches of whole nodes apart. The tag is read first, then the words that somebody
+/// needs. A word that only some alternatives of the tag's case need is read as those begin, so long
+/// as nothing but fetches comes between the tag and that case; the others are read together with
+/// the tag.
 pub struct Fetches;
 
 impl Pass for Fetches {

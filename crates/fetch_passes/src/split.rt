@@ -16,7 +16,8 @@ use grin_syntax::{Alt, Block, Op, Shape, Stmt, Tag, Target, VarId, Word};
 use seq::Seq;
 use std::alloc::{AllocError, Global};
 
-// What is known where a block goes on: the names, and the words of a cell that wait for the next case.
+// What is known where a block goes on: the names, and the words of a cell that wait for the next
+// case.
 #[derive(Drop)]
 struct Passing {
     names: Seq<Standing>,
@@ -80,7 +81,8 @@ fn pass_on(now: &mut Passing, own: bool, cell: Word, waits: Seq<Wait>)
     }
 }
 
-// A fetch of a node: of its tag, and of the words that are used outside the alternatives of the tag's case.
+// A fetch of a node: of its tag, and of the words that are used outside the alternatives of the
+// tag's case.
 fn fetch_vector(
     alloc: Global,
     now: &mut Passing,
@@ -112,41 +114,6 @@ fn fetch_vector(
     Ok(())
 }
 
-// A fetch of a node, to any target.
-fn fetch_node(
-    alloc: Global,
-    now: &mut Passing,
-    target: &Target,
-    cell: Word,
-    rest: &[Stmt],
-    last: &Op,
-    made: &mut Seq<Stmt>,
-) -> Result<(), AllocError>
-    ensures stmts { OnOk result ((c : Code) → all_before (map before_of made.new) c
-        ≡ all_before (map before_of made.old)
-        (bound (fetch cell) target.now (all_before (map before_of rest.now) (end (act_of last.now)))
-        c)) }
-    ensures names { OnOk result (now.new.names
-        ≡ names_after (fetch cell) target.now
-        (all_before (map before_of rest.now) (end (act_of last.now))) now.old.names) }
-    ensures cell { OnOk result (now.new.cell
-        ≡ cell_from (fetch cell) target.now
-        (all_before (map before_of rest.now) (end (act_of last.now))) now.old.cell) }
-    ensures waits { OnOk result (now.new.waits
-        ≡ waits_after (fetch cell) target.now
-        (all_before (map before_of rest.now) (end (act_of last.now))) now.old.waits) }
-{
-    match target {
-        Target::Vector(vars) => match vars.as_slice().split_first() {
-            Some((tag, fields)) => fetch_vector(alloc, now, *tag, fields, cell, rest, last, made),
-            None => fetch_word(alloc, target, cell, 0, made),
-        },
-        Target::Nothing => fetch_word(alloc, target, cell, 0, made),
-        Target::One(_) => fetch_word(alloc, target, cell, 0, made),
-        Target::Node(_) => fetch_word(alloc, target, cell, 0, made),
-    }
-}
-
 // An operation that is split goes to its target.
 fn bind(
     alloc: Global,
@@ -172,7 +139,17 @@ fn bind(
         (all_before (map before_of rest.now) (end (act_of last.now))) now.old.waits) }
 {
     match op {
-        Op::Fetch(cell) => fetch_node(alloc, now, target, cell, rest, last, made),
+        Op::Fetch(cell) => match target {
+            Target::Vector(vars) => match vars.as_slice().split_first() {
+                Some((tag, fields)) => {
+                    fetch_vector(alloc, now, *tag, fields, cell, rest, last, made)
+                }
+                None => fetch_word(alloc, target, cell, 0, made),
+            },
+            Target::Nothing | Target::One(_) | Target::Node(_) => {
+                fetch_word(alloc, target, cell, 0, made)
+            }
+        },
         Op::FetchWord(cell, place) => fetch_word(alloc, target, cell, place, made),
         Op::Unit(v) => plain(alloc, now, target, Op::Unit(v), made),
         Op::Update(w, v) => plain(alloc, now, target, Op::Update(w, v), made),

@@ -168,7 +168,8 @@ fn stmt_owns(t: VarId, stmt: &Stmt, later: bool) -> bool
     }
 }
 
-/// The case on the vector of `t` comes next in these statements and the operation at their end, fetches aside.
+/// The case on the vector of `t` comes next in these statements and the operation at their end,
+/// fetches aside.
 pub(crate) fn owns(t: VarId, stmts: &[Stmt], last: &Op) -> bool
     ensures { result ≡ owns t.0 (all_before (map before_of stmts.now) (end (act_of last.now))) }
 {
@@ -206,8 +207,8 @@ fn stmt_outside(t: VarId, x: VarId, stmt: &Stmt, later: bool, used: bool) -> boo
     }
 }
 
-/// The variable `x` is used in these statements and the operation at their end, outside the alternatives of the case on the
-/// vector of `t` where that comes next.
+/// The variable `x` is used in these statements and the operation at their end, outside the
+/// alternatives of the case on the vector of `t` where that comes next.
 pub(crate) fn outside(t: VarId, x: VarId, stmts: &[Stmt], last: &Op) -> bool
     ensures { result ≡ outside t.0 x.0
         (all_before (map before_of stmts.now) (end (act_of last.now))) }

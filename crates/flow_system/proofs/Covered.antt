@@ -14,7 +14,7 @@ use Rattle.grin_syntax.specs.declared.program.VarId.{VarId}
 use Rattle.grin_syntax.specs.declared.program.Word.{Word}
 use Rattle.grin_syntax.specs.declared.program.Word.TheVariants.{Global}
 use Rattle.grin_syntax.specs.declared.program.Val.{Val}
-use Rattle.grin_syntax.specs.declared.program.Val.TheVariants.{Vector as VectorVal}
+use Rattle.grin_syntax.specs.declared.program.Val.TheVariants.{Vector as VectorVal, Node as NodeVal}
 use Rattle.grin_syntax.specs.Tree.{Code, end, store, bind, Act, unit, fetch, fetch_word, update, eval, apply, call, prim, read, write, case, nested, fail, Arms, no_arm, arm, Procedure, Program}
 use Rattle.grin_meaning.specs.Values.{Datum, number, tag as tag', cell, Node, Value, node, words, Env, HeapCell, State, World, Answer, gives, stops, then_do, need, and_then, Binding, with_vars, one_each, Fit, fits, fits_not, unclear, fit_of, fits_if, fields_fit, node_fit, number_fit, int_fit, fields_of, made_node, as_node, word_of, words_of, value_of, node_of, bindings_of}
 use Rattle.grin_meaning.specs.Run.{Calls, act, code, arms, calls, run, choose, spend, spent, passing, places, cells_of, with_cells, with_node, place_of, number_of, on_numbers, byte_or_end, after_read, node_word, eval_cell, eval_tag, updated, apply_part, is_fun_kind, is_part_kind, is_evaluated, is_some_and, part_from, start_words, start_world, global_cells, nth_or_zero}
@@ -427,8 +427,8 @@ module _ (p : Program) (A : Solution) where
   globals_good : (h : List HeapCell) (cs : List GlobalCell) → AllMet (tables p) A (globals_flow p cs) → ((i : ℕ) → IfSome (slice_get cs i) (λ c. fields_of p c.tag.0 ≡ Some 0)) → (a : ℕ)
       → IfSome (slice_get (map (λ c. record { site = c.site.0; node = record { tag = c.tag.0; fields = [] } }) cs) a) (CellLies p A h)
   globals_good h [] m z a = tt
-  globals_good h (c ∷ cs) m z zero = (record { full = z zero; tag_in = m.0 tags (tag c.tag.0) (node_tag of_node); fields_in = tt }, forced p A c.site.0 (has_eval p) (met_front p A (site_flows p c.site.0) (globals_flow p cs) m.1))
-  globals_good h (c ∷ cs) m z (suc a) = globals_good h cs (met_back p A (site_flows p c.site.0) (globals_flow p cs) m.1) (λ i. z (suc i)) a
+  globals_good h (c ∷ cs) m z zero = (record { full = z zero; tag_in = m.0 tags (tag c.tag.0) (node_tag of_node); fields_in = tt }, forced p A c.site.0 (has_eval p) (met_front p A (site_flows p c.site.0 (NodeVal c.tag [])) (globals_flow p cs) m).1)
+  globals_good h (c ∷ cs) m z (suc a) = globals_good h cs (met_back p A (site_flows p c.site.0 (NodeVal c.tag [])) (globals_flow p cs) m) (λ i. z (suc i)) a
 
   argument_lies : (h : List HeapCell) → GlobalsThere p h → (o : Option ℕ) → AllMet (tables p) A (start_flows p o) → IfSome o (λ i. (c : GlobalCell) × (slice_get p.globals i ≡ Some c)) → (f : ℕ) → f ≡ p.start.0 → (o ≡ None → ArgumentsLie p h A f []) → ArgumentsLie p h A f (start_words o)
   argument_lies h gs None m there f e none = none refl

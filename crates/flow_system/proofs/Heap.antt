@@ -107,16 +107,16 @@ module _ (p : Program) (A : Solution) where
 
   pub places_lie : (h : List HeapCell) (a : ℕ) (cs : List Cell) → AllMet (tables p) A (cells_flow p cs) → HasSites h a cs → BindingsLie p h A (places a cs)
   places_lie h a [] m s = tt
-  places_lie h a (c ∷ cs) m s = (((c.site.0, s.0, m.0 (cell_of c.site.0) (one_word refl)), tt), places_lie h (suc a) cs (met_back (site_flows p c.site.0) (cells_flow p cs) m.1.1) s.1)
+  places_lie h a (c ∷ cs) m s = (((c.site.0, s.0, m.0 (cell_of c.site.0) (one_word refl)), tt), places_lie h (suc a) cs (met_back (site_flows p c.site.0 c.val) (cells_flow p cs) m.1) s.1)
 
   pub cells_lie : (h : List HeapCell) → GlobalsThere p h → (env : Env) → EnvLies p h A env → (cs : List Cell) → AllMet (tables p) A (cells_flow p cs) → IfSome (cells_of p env cs) (EachCell (CellLies h))
   cells_lie h gs env el [] m = tt
   cells_lie h gs env el (c ∷ cs) m = if_then (CellLies h) (EachCell (CellLies h)) (and_then (node_of p env c.val) (λ n. Some (record { site = c.site.0; node = n }))) _ one
-      (λ x l. if_then (EachCell (CellLies h)) (EachCell (CellLies h)) (cells_of p env cs) _ (cells_lie h gs env el cs (met_back (site_flows p c.site.0) (cells_flow p cs) m.1.1)) (λ hs k. (l, k)))
+      (λ x l. if_then (EachCell (CellLies h)) (EachCell (CellLies h)) (cells_of p env cs) _ (cells_lie h gs env el cs (met_back (site_flows p c.site.0 c.val) (cells_flow p cs) m.1)) (λ hs k. (l, k)))
     where
       one : IfSome (and_then (node_of p env c.val) (λ n. Some (record { site = c.site.0; node = n }))) (CellLies h)
       one = if_then (NodeIn p h (AsNodes (tables p) (width (value c.val)) (ValueGives (tables p) A c.val))) (CellLies h) (node_of p env c.val) _ (node_lies p h A gs env el c.val)
           (λ n l. (
             node_mono p h (AsNodes (tables p) (width (value c.val)) (ValueGives (tables p) A c.val)) (At A (site c.site.0)) n (m.1.0 tags _) (λ i. m.1.0 (field n.tag i)) l,
-            forced c.site.0 (has_eval p) (met_front (site_flows p c.site.0) (cells_flow p cs) m.1.1),
+            forced c.site.0 (has_eval p) (met_front (site_flows p c.site.0 c.val) (cells_flow p cs) m.1).1,
           ))

@@ -44,7 +44,8 @@ GlobalsThere p h = (i : ℕ) → IfSome (slice_get p.globals i) (λ c. site_at h
 -- each variable's value lies at the variable, and each cell's node at its site
 pub record Lies (p : Program) (A : Solution) (s : State) : Type 0 where
   pub variables : (x : ℕ) → IfSome (s.env x) (ValueIn p s.heap (At A (var x)))
-  pub cells : (a : ℕ) → IfSome (slice_get s.heap a) (λ c. NodeIn p s.heap (At A (site c.site)) c.node)
+  pub cells : (a : ℕ)
+      → IfSome (slice_get s.heap a) (λ c. NodeIn p s.heap (At A (site c.site)) c.node)
   pub globals : GlobalsThere p s.heap
 
 -- global cells have no fields, and the start's argument is one of them
@@ -55,10 +56,14 @@ pub record Started (p : Program) : Type 0 where
 abbrev pub FormedProgramsAreStarted : Type 0
 FormedProgramsAreStarted = (p : Program) → Formed p → Started p
 
--- every state that a run of the program passes through lies in the solution, and so does the heap at its end
+-- every state that a run of the program passes through lies in the solution, and so does the heap
+-- at its end
 pub record Covers (p : Program) (A : Solution) : Type 0 where
   pub passed : (i : List ℕ) (n : ℕ) → Every (Lies p A) (world_of (run p i n)).seen
-  pub at_end : (i : List ℕ) (n a : ℕ) → IfSome (slice_get (world_of (run p i n)).cells a) (λ c. NodeIn p (world_of (run p i n)).cells (At A (site c.site)) c.node)
+  pub at_end : (i : List ℕ) (n a : ℕ)
+      → IfSome (slice_get (world_of (run p i n)).cells a) (λ c.
+      NodeIn p (world_of (run p i n)).cells (At A (site c.site)) c.node)
 
 abbrev pub SolutionsCover : Type 0
-SolutionsCover = (p : Program) (A : Solution) → Started p → Solves (tables p) (system p) A → Covers p A
+SolutionsCover =
+    (p : Program) (A : Solution) → Started p → Solves (tables p) (system p) A → Covers p A

@@ -9,12 +9,14 @@ pub use Rattle.flow_system.specs.declared.fact.Element.TheVariants.{Cell as cell
 -- the places where values are: the cells of a site, a variable, the result of a procedure
 pub use Rattle.flow_system.specs.declared.fact.Place.{Place}
 pub use Rattle.flow_system.specs.declared.fact.Place.TheVariants.{Site as site, Var as var, Result as result}
--- the sets at a place: the tags of the nodes there, what stands in field i of the nodes of tag t, and what stands in word j of the words there
+-- the sets at a place: the tags of the nodes there, what stands in field i of the nodes of tag t,
+-- and what stands in word j of the words there
 pub use Rattle.flow_system.specs.declared.fact.Part.{Part}
 pub use Rattle.flow_system.specs.declared.fact.Part.TheVariants.{Tags as tags, Field as field, Word as word}
 
--- what flows: a value; a cell of a site; some number; what is at a place; the nodes, and word i of the nodes, of the cells of a word; the evaluated ones among some nodes;
--- a function that waits for arguments, with one argument more; the fields of a tag among some nodes, followed by words
+-- what flows: a value; a cell of a site; some number; what is at a place; the nodes, and word i of
+-- the nodes, of the cells of a word; the evaluated ones among some nodes; a function that waits for
+-- arguments, with one argument more; the fields of a tag among some nodes, followed by words
 pub data Source : Type 0 where
   value : Val → Source
   a_cell : ℕ → Source
@@ -26,7 +28,8 @@ pub data Source : Type 0 where
   extended : Val → Word → Source
   arguments : Source → ℕ → List Word → Source
 
--- where it flows to: the variables of a target; the cells of a site; the result of a procedure; the cells of a word
+-- where it flows to: the variables of a target; the cells of a site; the result of a procedure; the
+-- cells of a word
 pub data Sink : Type 0 where
   to : Target → Sink
   into_site : ℕ → Sink

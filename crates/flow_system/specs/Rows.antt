@@ -37,7 +37,8 @@ pub record NotesSet (ps : List Place) (n : ℕ) (q : Place) (old new : List (Lis
       → RowsAre ps (with_reader of n qs) old → RowsAre ps (with_reader of n (qs ++ q ∷ [])) new
 
 -- the inclusion n is noted as a reader of these sets
-pub record NotesSets (ps : List Place) (n : ℕ) (qs : List Place) (old new : List (List ℕ)) : Type 0 where
+pub record NotesSets (ps : List Place) (n : ℕ) (qs : List Place) (old new : List (List ℕ))
+    : Type 0 where
   pub as_many : length new ≡ length old
   pub notes : (of : Place → List ℕ) → ((p : Place) → Earlier n (of p)) → RowsAre ps of old
       → RowsAre ps (with_reader of n qs) new

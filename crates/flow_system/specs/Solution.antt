@@ -62,15 +62,20 @@ module _ (p : Tables) where
   pub data AsNodes (k : AtMost) (X : Sets) : Part → AbstractWord → Type 0 where
     node_tag : {u : AbstractWord} → X tags u → AsNodes k X tags u
     node_field : {t i : ℕ} {u : AbstractWord} → X (field t i) u → AsNodes k X (field t i) u
-    words_tag : {t m : ℕ} → X (word 0) (tag t) → fields_of p t ≡ Some m → Enough k m → AsNodes k X tags (tag t)
-    words_field : {t m i : ℕ} {u : AbstractWord} → X (word 0) (tag t) → fields_of p t ≡ Some m → Enough k m → i < m → X (word (suc i)) u → AsNodes k X (field t i) u
+    words_tag : {t m : ℕ} → X (word 0) (tag t) → fields_of p t ≡ Some m
+        → Enough k m → AsNodes k X tags (tag t)
+    words_field : {t m i : ℕ} {u : AbstractWord} → X (word 0) (tag t) → fields_of p t ≡ Some m
+        → Enough k m → i < m → X (word (suc i)) u → AsNodes k X (field t i) u
 
-  -- what stands there as words: the words, and for each node its tag, its fields, and numbers after them
+  -- what stands there as words: the words, and for each node its tag, its fields, and numbers after
+  -- them
   pub data AsWords (X : Sets) : ℕ → AbstractWord → Type 0 where
     word_word : {j : ℕ} {u : AbstractWord} → X (word j) u → AsWords X j u
     tag_word : {u : AbstractWord} → X tags u → AsWords X 0 u
-    field_word : {t m j : ℕ} {u : AbstractWord} → X tags (tag t) → fields_of p t ≡ Some m → j < m → X (field t j) u → AsWords X (suc j) u
-    zero_word : {t m j : ℕ} → X tags (tag t) → fields_of p t ≡ Some m → m ≤ j → AsWords X (suc j) num
+    field_word : {t m j : ℕ} {u : AbstractWord} → X tags (tag t) → fields_of p t ≡ Some m
+        → j < m → X (field t j) u → AsWords X (suc j) u
+    zero_word : {t m j : ℕ} → X tags (tag t) → fields_of p t ≡ Some m
+        → m ≤ j → AsWords X (suc j) num
 
   -- the tag of an evaluated node
   pub record IsEvaluated (t : ℕ) : Type 0 where
@@ -80,7 +85,8 @@ module _ (p : Tables) where
 
   pub data Evaluated (X : Sets) : Part → AbstractWord → Type 0 where
     evaluated_tag : {t : ℕ} → IsEvaluated t → X tags (tag t) → Evaluated X tags (tag t)
-    evaluated_field : {t i : ℕ} {u : AbstractWord} → IsEvaluated t → X (field t i) u → Evaluated X (field t i) u
+    evaluated_field : {t i : ℕ} {u : AbstractWord} → IsEvaluated t
+        → X (field t i) u → Evaluated X (field t i) u
 
   -- the tag of a delayed call of f
   pub record Delays (t f : ℕ) : Type 0 where
@@ -106,37 +112,55 @@ module _ (p : Tables) where
     pub data StandsFor : W.Word → AbstractWord → Type 0 where
       literal : {k : _} → StandsFor (Lit k) num
       variable : {x : VarId} {u : AbstractWord} → At A (var x.0) (word 0) u → StandsFor (Var x) u
-      global : {i : ℕ} {c : GlobalCell} → slice_get p.globals i ≡ Some c → StandsFor (Global i) (cell_of c.site.0)
+      global : {i : ℕ} {c : GlobalCell} → slice_get p.globals i ≡ Some c
+          → StandsFor (Global i) (cell_of c.site.0)
       tag_itself : {t : TagId} → StandsFor (TagWord t) (tag t.0)
 
     pub data WordAmong : List W.Word → ℕ → AbstractWord → Type 0 where
-      first : {w : W.Word} {ws : List W.Word} {u : AbstractWord} → StandsFor w u → WordAmong (w ∷ ws) 0 u
-      later : {w : W.Word} {ws : List W.Word} {j : ℕ} {u : AbstractWord} → WordAmong ws j u → WordAmong (w ∷ ws) (suc j) u
+      first : {w : W.Word} {ws : List W.Word} {u : AbstractWord}
+          → StandsFor w u → WordAmong (w ∷ ws) 0 u
+      later : {w : W.Word} {ws : List W.Word} {j : ℕ} {u : AbstractWord}
+          → WordAmong ws j u → WordAmong (w ∷ ws) (suc j) u
 
     -- what a value stands for
     pub data ValueGives : Val → Part → AbstractWord → Type 0 where
-      of_variable : {x : VarId} {part : Part} {u : AbstractWord} → At A (var x.0) part u → ValueGives (NodeVar x) part u
+      of_variable : {x : VarId} {part : Part} {u : AbstractWord} → At A (var x.0) part u
+          → ValueGives (NodeVar x) part u
       of_node : {t : TagId} {ws : List W.Word} → ValueGives (NodeVal t ws) tags (tag t.0)
-      of_field : {t : TagId} {ws : List W.Word} {i : ℕ} {u : AbstractWord} → WordAmong ws i u → ValueGives (NodeVal t ws) (field t.0 i) u
-      of_words : {ws : List W.Word} {j : ℕ} {u : AbstractWord} → WordAmong ws j u → ValueGives (VectorVal ws) (word j) u
+      of_field : {t : TagId} {ws : List W.Word} {i : ℕ} {u : AbstractWord}
+          → WordAmong ws i u → ValueGives (NodeVal t ws) (field t.0 i) u
+      of_words : {ws : List W.Word} {j : ℕ} {u : AbstractWord} → WordAmong ws j u
+          → ValueGives (VectorVal ws) (word j) u
       of_word : {w : W.Word} {u : AbstractWord} → StandsFor w u → ValueGives (OneVal w) (word 0) u
 
     -- word i of a cell of w: the tag, then the fields, then zeros
     pub data FetchGives (w : W.Word) : ℕ → AbstractWord → Type 0 where
-      its_tag : {s : ℕ} {u : AbstractWord} → StandsFor w (cell_of s) → At A (site s) tags u → FetchGives w 0 u
-      its_field : {s t m i : ℕ} {u : AbstractWord} → StandsFor w (cell_of s) → At A (site s) tags (tag t) → fields_of p t ≡ Some m → i < m → At A (site s) (field t i) u → FetchGives w (suc i) u
-      its_zero : {s t m i : ℕ} → StandsFor w (cell_of s) → At A (site s) tags (tag t) → fields_of p t ≡ Some m → m ≤ i → FetchGives w (suc i) num
+      its_tag : {s : ℕ} {u : AbstractWord} → StandsFor w (cell_of s)
+          → At A (site s) tags u → FetchGives w 0 u
+      its_field : {s t m i : ℕ} {u : AbstractWord} → StandsFor w (cell_of s)
+          → At A (site s) tags (tag t) → fields_of p t ≡ Some m → i < m
+          → At A (site s) (field t i) u → FetchGives w (suc i) u
+      its_zero : {s t m i : ℕ} → StandsFor w (cell_of s) → At A (site s) tags (tag t)
+          → fields_of p t ≡ Some m → m ≤ i → FetchGives w (suc i) num
 
     -- a function that waits for r arguments more, r above 1, takes one
     pub data ExtendGives (X : Sets) (a : W.Word) : Part → AbstractWord → Type 0 where
-      extended_tag : {t f r t' : ℕ} → X tags (tag t) → Waits t f (suc (suc r)) → part_from 0 p.tags f (suc r) ≡ Some t' → ExtendGives X a tags (tag t')
-      extended_field : {t f r t' i : ℕ} {u : AbstractWord} → X tags (tag t) → Waits t f (suc (suc r)) → part_from 0 p.tags f (suc r) ≡ Some t' → X (field t i) u → ExtendGives X a (field t' i) u
-      extended_last : {t f r t' m : ℕ} {u : AbstractWord} → X tags (tag t) → Waits t f (suc (suc r)) → part_from 0 p.tags f (suc r) ≡ Some t' → fields_of p t ≡ Some m → StandsFor a u → ExtendGives X a (field t' m) u
+      extended_tag : {t f r t' : ℕ} → X tags (tag t) → Waits t f (suc (suc r))
+          → part_from 0 p.tags f (suc r) ≡ Some t' → ExtendGives X a tags (tag t')
+      extended_field : {t f r t' i : ℕ} {u : AbstractWord} → X tags (tag t)
+          → Waits t f (suc (suc r)) → part_from 0 p.tags f (suc r) ≡ Some t'
+          → X (field t i) u → ExtendGives X a (field t' i) u
+      extended_last : {t f r t' m : ℕ} {u : AbstractWord} → X tags (tag t)
+          → Waits t f (suc (suc r)) → part_from 0 p.tags f (suc r) ≡ Some t'
+          → fields_of p t ≡ Some m → StandsFor a u → ExtendGives X a (field t' m) u
 
     -- the fields of t, then words
-    pub data ArgumentsGive (X : Sets) (t : ℕ) (ws : List W.Word) : Part → AbstractWord → Type 0 where
-      field_argument : {i : ℕ} {u : AbstractWord} → X tags (tag t) → X (field t i) u → ArgumentsGive X t ws (word i) u
-      word_argument : {m j n : ℕ} {u : AbstractWord} → X tags (tag t) → fields_of p t ≡ Some m → WordAmong ws j u → n ≡ m + j → ArgumentsGive X t ws (word n) u
+    pub data ArgumentsGive (X : Sets) (t : ℕ) (ws : List W.Word)
+        : Part → AbstractWord → Type 0 where
+      field_argument : {i : ℕ} {u : AbstractWord} → X tags (tag t) → X (field t i) u
+          → ArgumentsGive X t ws (word i) u
+      word_argument : {m j n : ℕ} {u : AbstractWord} → X tags (tag t) → fields_of p t ≡ Some m
+          → WordAmong ws j u → n ≡ m + j → ArgumentsGive X t ws (word n) u
 
     abbrev pub Gives : Source → Sets
     Gives (value v) = ValueGives v
@@ -152,7 +176,8 @@ module _ (p : Tables) where
     -- words j and on are in the sets of the variables
     abbrev pub WordsTo : Sets → ℕ → List VarId → Type 0
     WordsTo X j [] = Unit {0}
-    WordsTo X j (x ∷ xs) = ((u : AbstractWord) → AsWords X j u → At A (var x.0) (word 0) u) × WordsTo X (suc j) xs
+    WordsTo X j (x ∷ xs) =
+        ((u : AbstractWord) → AsWords X j u → At A (var x.0) (word 0) u) × WordsTo X (suc j) xs
 
     abbrev pub NodesTo : AtMost → Sets → Place → Type 0
     NodesTo k X q = (part : Part) (u : AbstractWord) → AsNodes k X part u → At A q part u
@@ -167,7 +192,8 @@ module _ (p : Tables) where
     abbrev pub Reaches : AtMost → Sets → Sink → Type 0
     Reaches k X (to t) = ReachesTarget k X t
     Reaches k X (into_site s) = NodesTo k X (site s)
-    Reaches k X (into_result f) = (part : Part) (u : AbstractWord) → X part u → At A (result f) part u
+    Reaches k X (into_result f) =
+        (part : Part) (u : AbstractWord) → X part u → At A (result f) part u
     Reaches k X (cells_at w) = (s : ℕ) → StandsFor w (cell_of s) → NodesTo k X (site s)
 
     abbrev pub FlowsTo : Source → Sink → Type 0
@@ -176,9 +202,12 @@ module _ (p : Tables) where
     abbrev pub Meets : Inclusion → Type 0
     Meets (flows s k) = FlowsTo s k
     Meets (forces s) = (t f : ℕ) → At A (site s) tags (tag t) → Delays t f
-        → FlowsTo (arguments (held (site s)) t []) (to (params_of p f)) × FlowsTo (evaluated (held (result f))) (into_site s)
-    Meets (applies v a k) = (t f : ℕ) → AsNodes (width (value v)) (ValueGives v) tags (tag t) → Waits t f 1
-        → FlowsTo (arguments (value v) t (a ∷ [])) (to (params_of p f)) × FlowsTo (held (result f)) k
+        → FlowsTo (arguments (held (site s)) t []) (to (params_of p f))
+        × FlowsTo (evaluated (held (result f))) (into_site s)
+    Meets (applies v a k) =
+        (t f : ℕ) → AsNodes (width (value v)) (ValueGives v) tags (tag t) → Waits t f 1
+        → FlowsTo (arguments (value v) t (a ∷ [])) (to (params_of p f))
+        × FlowsTo (held (result f)) k
 
     abbrev pub AllMet : List Inclusion → Type 0
     AllMet [] = Unit {0}
@@ -190,4 +219,5 @@ module _ (p : Tables) where
 
   pub record IsLeast (cs : List Inclusion) (A : Solution) : Type 0 where
     pub solves : Solves cs A
-    pub least : (B : Solution) → Solves cs B → (q : Place) (part : Part) (u : AbstractWord) → At A q part u → At B q part u
+    pub least : (B : Solution) → Solves cs B → (q : Place) (part : Part) (u : AbstractWord)
+        → At A q part u → At B q part u

@@ -10,7 +10,7 @@ use Rattle.grin_syntax.specs.declared.program.Cell.{Cell}
 use Rattle.grin_syntax.specs.declared.program.GlobalCell.{GlobalCell}
 use Rattle.grin_syntax.specs.Tree.{Code, end, store, bind, Act, unit, fetch, fetch_word, update, eval, apply, call, prim, read, write, case, nested, fail, Arms, no_arm, arm, Procedure, Program}
 use Rattle.flow_system.specs.Tables.{tables, params_of}
-use Rattle.flow_system.specs.Inclusions.{site, result, value, a_cell, a_number, held, nodes_at, word_at, evaluated, extended, arguments, Sink, to, into_site, into_result, cells_at, Inclusion, flows, forces, applies}
+use Rattle.flow_system.specs.Inclusions.{result, value, a_cell, a_number, held, nodes_at, word_at, evaluated, extended, arguments, Sink, to, into_site, into_result, cells_at, Inclusion, flows, forces, applies}
 
 -- whether a program has an eval
 unfoldable mutual
@@ -43,12 +43,14 @@ shape_flows v (Int k) = []
 shape_flows v Else = []
 
 module _ (p : Program) where
-  abbrev pub site_flows : ℕ → List Inclusion
-  site_flows s = cond (has_eval p) (forces s ∷ []) []
+  -- the cells of a site hold a node, and what a delayed call there gives
+  abbrev pub site_flows : ℕ → Val → List Inclusion
+  site_flows s v = flows (value v) (into_site s) ∷ cond (has_eval p) (forces s ∷ []) []
 
   abbrev pub cells_flow : List Cell → List Inclusion
   cells_flow [] = []
-  cells_flow (c ∷ cs) = flows (a_cell c.site.0) (to (OneTarget c.var)) ∷ flows (value c.val) (into_site c.site.0) ∷ site_flows c.site.0 ++ cells_flow cs
+  cells_flow (c ∷ cs) =
+      flows (a_cell c.site.0) (to (OneTarget c.var)) ∷ site_flows c.site.0 c.val ++ cells_flow cs
 
   unfoldable mutual
     -- an operation whose value goes to k
@@ -59,7 +61,9 @@ module _ (p : Program) where
     act_flows k (update a v) = flows (value v) (cells_at a) ∷ []
     act_flows k (eval a) = flows (evaluated (nodes_at a)) k ∷ []
     act_flows k (apply v a) = flows (extended v a) k ∷ applies v a k ∷ []
-    act_flows k (call f as') = flows (value (VectorVal as')) (to (params_of (tables p) f.0)) ∷ flows (held (result f.0)) k ∷ []
+    act_flows k (call f as') =
+        flows (value (VectorVal as')) (to (params_of (tables p) f.0))
+        ∷ flows (held (result f.0)) k ∷ []
     act_flows k (prim f a b) = flows a_number k ∷ []
     act_flows k read = flows a_number k ∷ []
     act_flows k (write a) = []
@@ -78,7 +82,7 @@ module _ (p : Program) where
 
   abbrev pub globals_flow : List GlobalCell → List Inclusion
   globals_flow [] = []
-  globals_flow (c ∷ cs) = flows (value (NodeVal c.tag [])) (into_site c.site.0) ∷ site_flows c.site.0 ++ globals_flow cs
+  globals_flow (c ∷ cs) = site_flows c.site.0 (NodeVal c.tag []) ++ globals_flow cs
 
   -- the procedures from number f on
   abbrev pub procs_flow : ℕ → List Procedure → List Inclusion
@@ -87,7 +91,8 @@ module _ (p : Program) where
 
   abbrev pub start_flows : Option ℕ → List Inclusion
   start_flows None = []
-  start_flows (Some i) = flows (value (VectorVal (Global i ∷ []))) (to (params_of (tables p) p.start.0)) ∷ []
+  start_flows (Some i) =
+      flows (value (VectorVal (Global i ∷ []))) (to (params_of (tables p) p.start.0)) ∷ []
 
   -- the flow system of the program
   abbrev pub system : List Inclusion

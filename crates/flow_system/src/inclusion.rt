@@ -10,8 +10,10 @@ use grin_syntax::program::{GlobalCell, ProcId, Site, Tag, TagId, Target, Val, Va
 use seq::Seq;
 use std::alloc::{AllocError, Global};
 
-/// What flows: a value; a cell of a site; some number; the result of a procedure; the nodes in the cells that a word may stand for, a word of them (0 is the tag), or the evaluated ones among them;
-/// a function that waits for at least two arguments, with one argument more; the fields of a tag among the nodes that a value may be.
+/// What flows: a value; a cell of a site; some number; the result of a procedure; the nodes in the
+/// cells that a word may stand for, a word of them (0 is the tag), or the evaluated ones among
+/// them; a function that waits for at least two arguments, with one argument more; the fields of a
+/// tag among the nodes that a value may be.
 #[derive(Drop)]
 pub enum Source {
     Value(Val),
@@ -25,7 +27,8 @@ pub enum Source {
     FieldsOf(Val, TagId),
 }
 
-/// Where it flows to: the variables of a target, the result of a procedure, the cells of a site, or the cells that a word may stand for.
+/// Where it flows to: the variables of a target, the result of a procedure, the cells of a site, or
+/// the cells that a word may stand for.
 #[derive(Drop)]
 pub enum Sink {
     To(Target),
@@ -34,8 +37,9 @@ pub enum Sink {
     CellsAt(Word),
 }
 
-/// What an inclusion says: that a source flows to a sink; that the delayed calls in the cells of a site are evaluated, there;
-/// that the functions a value may be, waiting for one argument, are called with this one, and their results flow to a sink.
+/// What an inclusion says: that a source flows to a sink; that the delayed calls in the cells of a
+/// site are evaluated, there; that the functions a value may be, waiting for one argument, are
+/// called with this one, and their results flow to a sink.
 #[derive(Drop)]
 pub enum Inclusion {
     Flows(Source, Sink),
@@ -43,9 +47,9 @@ pub enum Inclusion {
     Applies(Val, Word, Sink),
 }
 
-/// The flow system of a program: its tags, its global cells and the parameters of its procedures, to which the inclusions
-/// refer, and the inclusions, numbered from 0 in their order. `system` makes it, with the sets that the inclusions name
-/// and the readers of each set.
+/// The flow system of a program: its tags, its global cells and the parameters of its procedures,
+/// to which the inclusions refer, and the inclusions, numbered from 0 in their order. `system`
+/// makes it, with the sets that the inclusions name and the readers of each set.
 #[derive(Drop)]
 pub struct FlowSystem {
     pub tags: Seq<Tag>,

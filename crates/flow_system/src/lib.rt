@@ -1,5 +1,6 @@
-//! What may flow where in a program: its inclusions, which of them read which sets, their solutions, and the law that a
-//! solution covers each run. `system::system` gives the flow system of a program, `readers` the inclusions that read a set.
+//! What may flow where in a program: its inclusions, which of them read which sets, their
+//! solutions, and the law that a solution covers each run. `system::system` gives the flow system
+//! of a program, `readers` the inclusions that read a set.
 #![tactic(auto)]
 
 ghost use Rattle.flow_system.specs.Covers.{SolutionsCover, FormedProgramsAreStarted};
@@ -21,7 +22,8 @@ pub fn solutions_cover()
     ensures { SolutionsCover }
 {}
 
-/// A well-formed program can be started: its global cells have no fields, and the argument of its start is one of them.
+/// A well-formed program can be started: its global cells have no fields, and the argument of its
+/// start is one of them.
 pub fn formed_programs_are_started()
     ensures { FormedProgramsAreStarted }
 {}

@@ -7,9 +7,10 @@ ghost use Rattle.flow_system.specs.Readers.{sets, readers};
 use crate::fact::Place;
 use crate::inclusion::FlowSystem;
 
-/// The numbers of the inclusions that read the set of this number, ascending; none where no set has the number. A set is
-/// what a solution has at one site, variable or procedure's result. Sets are numbered from 0 in the order in which the
-/// inclusions first name them, an inclusion's sources and conditions before its target.
+/// The numbers of the inclusions that read the set of this number, ascending; none where no set has
+/// the number. A set is what a solution has at one site, variable or procedure's result. Sets are
+/// numbered from 0 in the order in which the inclusions first name them, an inclusion's sources and
+/// conditions before its target.
 pub fn readers(s: &FlowSystem, set: u32) -> &[u32]
     ensures { result.now ≡ readers (inclusions_of s.now) set }
 {

@@ -10,7 +10,8 @@ use std::alloc::{AllocError, Global};
 use std::collections::BTreeMap;
 use std::marker::Model;
 
-/// Sets, each once, with their numbers. A contract sees the list of their places, in which a set's number is its place.
+/// Sets, each once, with their numbers. A contract sees the list of their places, in which a set's
+/// number is its place.
 #[derive(Drop)]
 pub struct Sets {
     places: Seq<Place>,

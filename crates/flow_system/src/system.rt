@@ -2,7 +2,7 @@
 
 ghost use Rattle.std.specs.Prelude.{◌≡◌, ◌∷◌, [], ◌++◌, ◌||◌, cond, map, IfOk, OnOk};
 ghost use Rattle.grin_syntax.specs.Tree.{Code, Arms, arm, arms_of, act_of, before_of, arm_of, code_of, procedure_of, program_of};
-ghost use Rattle.flow_system.specs.Inclusions.{flows, forces, applies, extended, value, held, to, result as result'};
+ghost use Rattle.flow_system.specs.Inclusions.{flows, forces, applies, extended, value, held, to, into_site, result as result'};
 ghost use Rattle.grin_syntax.specs.declared.program.Val.TheVariants.{Vector};
 ghost use Rattle.flow_system.specs.System.{act_evals, code_evals, arms_eval, has_eval, act_flows, code_flows, arms_flow, cells_flow, shape_flows, site_flows, globals_flow, procs_flow, start_flows, system};
 ghost use Rattle.flow_system.specs.Tables.{tables, params_of};
@@ -110,10 +110,12 @@ fn params_of(alloc: Global, g: &Grin, f: ProcId) -> Result<Target, AllocError>
     }
 }
 
-// The delayed calls in the cells of a site.
-fn site_flows(evals: bool, s: Site, out: &mut Seq<Inclusion>) -> Result<(), AllocError>
-    ensures { OnOk result (shown out.new ≡ shown out.old ++ cond evals (forces s.0 ∷ []) []) }
+// A node in the cells of a site, and what a delayed call there gives.
+fn site_flows(evals: bool, s: Site, node: Val, out: &mut Seq<Inclusion>) -> Result<(), AllocError>
+    ensures { OnOk result (shown out.new
+        ≡ shown out.old ++ flows (value node) (into_site s.0) ∷ cond evals (forces s.0 ∷ []) []) }
 {
+    add(out, Source::Value(node), Sink::Site(s))?;
     if evals {
         out.push(Inclusion::Forces(s))?;
     }
@@ -137,12 +139,7 @@ fn cells_flow(
             Source::ACell(cell.site),
             Sink::To(Target::One(cell.var)),
         )?;
-        add(
-            out,
-            Source::Value(copy_val(alloc, &cell.val)?),
-            Sink::Site(cell.site),
-        )?;
-        site_flows(evals, cell.site, out)?;
+        site_flows(evals, cell.site, copy_val(alloc, &cell.val)?, out)?;
     }
     Ok(())
 }
@@ -343,20 +340,16 @@ fn globals_flow(
     alloc: Global,
     g: &Grin,
     evals: bool,
-    globals: &[GlobalCell],
     out: &mut Seq<Inclusion>,
 ) -> Result<(), AllocError>
     requires { evals ≡ has_eval (program_of g.now) }
     ensures { OnOk result
-        (shown out.new ≡ shown out.old ++ globals_flow (program_of g.now) globals.now) }
+        (shown out.new ≡ shown out.old ++ globals_flow (program_of g.now) g.now.globals) }
 {
+    let globals = g.globals.as_slice();
     for global in globals {
-        add(
-            out,
-            Source::Value(Val::Node(global.tag, Seq::new(alloc))),
-            Sink::Site(global.site),
-        )?;
-        site_flows(evals, global.site, out)?;
+        let node = Val::Node(global.tag, Seq::new(alloc));
+        site_flows(evals, global.site, node, out)?;
     }
     Ok(())
 }
@@ -436,9 +429,9 @@ fn copied_params(alloc: Global, g: &Grin) -> Result<Seq<Seq<VarId>>, AllocError>
     Ok(params)
 }
 
-/// The flow system of a program: what its inclusions refer to, the inclusions of all its statements, reachable or not, in
-/// the order of the text, and which of them read which sets. Its length is that of the text.
-/// Running out of procedure numbers counts as want of memory.
+/// The flow system of a program: what its inclusions refer to, the inclusions of all its
+/// statements, reachable or not, in the order of the text, and which of them read which sets. Its
+/// length is that of the text. Running out of procedure numbers counts as want of memory.
 pub fn system(alloc: Global, g: &Grin) -> Result<FlowSystem, AllocError>
     ensures tables { IfOk result (λ s. tables_of s ≡ tables (program_of g.now)) }
     ensures inclusions { IfOk result (λ s. inclusions_of s ≡ system (program_of g.now)) }
@@ -446,7 +439,7 @@ pub fn system(alloc: Global, g: &Grin) -> Result<FlowSystem, AllocError>
     let evals = has_eval(g);
     let mut inclusions = Seq::new(alloc);
     start_flows(alloc, g, &mut inclusions)?;
-    globals_flow(alloc, g, evals, g.globals.as_slice(), &mut inclusions)?;
+    globals_flow(alloc, g, evals, &mut inclusions)?;
     procs_flow(alloc, g, evals, g.procs.as_slice(), &mut inclusions)?;
     let listed = inclusions.as_slice();
     let places = all_named(alloc, listed)?;

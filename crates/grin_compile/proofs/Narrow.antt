@@ -12,15 +12,15 @@ use Rattle.grin_syntax.specs.Tree.{Code, end, store, bind, Act, unit, fetch, fet
 use Rattle.grin_syntax.specs.Binders.{target_vars}
 use Rattle.grin_syntax.specs.Formed.{AllOf}
 use Rattle.grin_meaning.specs.Checks.{is_fetch}
-use Rattle.grin_meaning.specs.Ready.{Any, EachAct, EachCode, EachArms, most_fields, value_fields, most_value_fields, Ready}
-use Rattle.vectorise.specs.Whole.{GivesNodes, NoVector, NoVectorTarget, IsWhole}
+use Rattle.grin_meaning.specs.Ready.{EachAct, EachCode, EachArms, most_fields, value_fields, most_value_fields, Ready, any_kind, EachBody, narrow_kind}
+use Rattle.vectorise.specs.Whole.{NoVectorTarget, IsWhole, whole_kind}
 use Rattle.vectorise.specs.Widened.{Width, ActWidths, CodeWidths, ArmsWidths, Widths, Widened}
 use Rattle.low_translate.specs.Lowers.{IsNarrow}
 
 abbrev Few : Target → Type 0
 Few t = length (target_vars t) ≤ 14
 
-any_cells : (cs : List Cell) → AllOf (λ c. Any c.val) cs
+any_cells : (cs : List Cell) → AllOf (λ c. any_kind.value c.val) cs
 any_cells [] = tt
 any_cells (c ∷ cs) = (tt, any_cells cs)
 
@@ -38,7 +38,7 @@ module _ (most most_value : ℕ) (few : most ≤ 13) (few_value : most_value ≤
   mutual
     unfolding EachAct ActWidths
 
-    act_narrow : (o o' : Act) → EachAct GivesNodes NoVectorTarget NoVector Any o → ActWidths most most_value o o' → EachAct Any Few Any Any o'
+    act_narrow : (o o' : Act) → EachAct whole_kind o → ActWidths most most_value o o' → EachAct (narrow_kind 14) o'
     act_narrow o (unit v') e w = (tt, tt)
     act_narrow o (fetch a') e w = tt
     act_narrow o (fetch_word a' k') e w = tt
@@ -77,7 +77,7 @@ module _ (most most_value : ℕ) (few : most ≤ 13) (few_value : most_value ≤
     act_narrow fail (nested b'') e w = absurd w
     act_narrow (case v as') (nested b'') e w = absurd w
 
-    code_narrow : (b b' : Code) → EachCode GivesNodes NoVectorTarget NoVector Any b → CodeWidths most most_value b b' → EachCode Any Few Any Any b'
+    code_narrow : (b b' : Code) → EachCode whole_kind b → CodeWidths most most_value b b' → EachCode (narrow_kind 14) b'
     code_narrow (end o) (end o') e w = act_narrow o o' e w
     code_narrow (end o) (store cs' b') e w = absurd w
     code_narrow (end o) (bind t' o' b') e w = absurd w
@@ -88,14 +88,14 @@ module _ (most most_value : ℕ) (few : most ≤ 13) (few_value : most_value ≤
     code_narrow (bind t o b) (store cs' b') e w = absurd w
     code_narrow (bind t o b) (bind t' o' b') e w = (narrow_target (is_fetch o) t t' e.0 w.0, act_narrow o o' e.1 w.1, code_narrow b b' e.2 w.2)
 
-    arms_narrow : (as' bs' : Arms) → EachArms GivesNodes NoVectorTarget NoVector Any as' → ArmsWidths most most_value as' bs' → EachArms Any Few Any Any bs'
+    arms_narrow : (as' bs' : Arms) → EachArms whole_kind as' → ArmsWidths most most_value as' bs' → EachArms (narrow_kind 14) bs'
     arms_narrow no_arm no_arm e w = tt
     arms_narrow no_arm (arm s' b' bs') e w = absurd w
     arms_narrow (arm s b as') no_arm e w = absurd w
     arms_narrow (arm s b as') (arm s' b' bs') e w = (tt, code_narrow b b' e.1 w.0, arms_narrow as' bs' e.2 w.1)
 
-  procs_narrow : (qs rs : List Procedure) → AllOf (λ q. EachCode GivesNodes NoVectorTarget NoVector Any q.body) qs → Widths most most_value qs rs
-      → AllOf (λ r. EachCode Any Few Any Any r.body) rs
+  procs_narrow : (qs rs : List Procedure) → EachBody whole_kind qs → Widths most most_value qs rs
+      → EachBody (narrow_kind 14) rs
   procs_narrow [] [] e w = tt
   procs_narrow [] (r ∷ rs) e w = absurd w
   procs_narrow (q ∷ qs) [] e w = absurd w

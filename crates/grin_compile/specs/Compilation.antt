@@ -51,8 +51,8 @@ pub record IsCompilation (p : core.Program) (cells stack : ℕ) (c : Compiled) :
   pub small_frames : (f : ℕ) → 4 * words_at c.places f ≤ frame_bound p solution
   pub addresses : List ℕ
   pub image : IsImageOf p solution g cells stack c.code.items addresses c.image.items
-  -- the code enters the procedures of the low code at the same addresses, and the stack is full only
-  -- where its frames are more
+  -- the code enters the procedures of the low code at the same addresses, and the stack is full
+  -- only where its frames are more
   pub within_frames :
       let l = low.program_of c.low in
       IsCodeFor (HeapOver cells) (FramesOver stack) (of_low l (words_at c.places))

@@ -43,9 +43,9 @@ SelectionCarries =
     Comes (HeapOver cells) (FramesOver stack) (of_low l (words_at a) i) n
     (of_items lay items start i k))
 
--- Words that are placed for items that are selected for low code, at most 2^28, are code for what the
--- low code tells. Its procedures are at the addresses of the labels at which theirs begin, and the
--- stack is full only where the words of its frames are more
+-- Words that are placed for items that are selected for low code, at most 2^28, are code for what
+-- the low code tells. Its procedures are at the addresses of the labels at which theirs begin, and
+-- the stack is full only where the words of its frames are more
 abbrev pub LowCodeIsCarried : Type 0
 LowCodeIsCarried =
     (l : Program) (a : Assignment) (cells stack : ℕ) (items : List Item) (words : List ℕ)
@@ -55,8 +55,8 @@ LowCodeIsCarried =
     (entered_by_low l (words_at a)) (length l.procs) words
     (start_with words (4 * l.width * cells) stack) (addresses_of placed.lay items s.begins)
 
--- and for what tells the same and enters the same, where the frames are within a bound for each level
--- of nesting
+-- and for what tells the same and enters the same, where the frames are within a bound for each
+-- level of nesting
 abbrev pub LayersCompose : Type 0
 LayersCompose =
     (told : Meaning) (entered : List ℕ → ℕ → List ℕ) (l : Program) (a : Assignment)
@@ -70,8 +70,8 @@ LayersCompose =
     → IsCodeFor (HeapOver cells) (StackOver frame stack) told entered (length l.procs) words
     (start_with words (4 * l.width * cells) stack) (addresses_of placed.lay items s.begins)
 
--- the machine keeps pace with what the low code tells, where all items take no more words than there
--- are steps for the start and for each unit
+-- the machine keeps pace with what the low code tells, where all items take no more words than
+-- there are steps for the start and for each unit
 abbrev pub LayersKeepPace : Type 0
 LayersKeepPace =
     (told : Meaning) (l : Program) (a : Assignment) (cells stack steps : ℕ) (items : List Item)

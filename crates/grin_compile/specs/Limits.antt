@@ -21,8 +21,8 @@ FramesOver stack t = stack < 4 * t.depth
 abbrev pub StackOver : (frame stack : ℕ) → Told → Type 0
 StackOver frame stack t = stack < frame * (t.depth + 1)
 
--- no frame has more bytes than this: a word for the return address, and at most twenty for each unit
--- of the size of the largest procedure, once evaluations and applications are inlined
+-- no frame has more bytes than this: a word for the return address, and at most twenty for each
+-- unit of the size of the largest procedure, once evaluations and applications are inlined
 abbrev pub frame_bound : core.Program → Solution → ℕ
 frame_bound p A = 4 * (1 + 20 * largest_procedure (inlined A (tr p)))
 

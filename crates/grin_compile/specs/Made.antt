@@ -28,7 +28,8 @@ pub record IsImageOf (p : core.Program) (A : Solution) (g : Program) (cells stac
       IsCodeFor (HeapOver cells) (StackOver (frame_bound p A) stack) (of_core p) (entered_by_grin g)
       (length g.procs) code (start_with code (heap_bytes g cells) stack) addresses
   pub paced :
-      KeepsPace (steps_each p A) (of_core p) (of_machine (start_with code (heap_bytes g cells) stack))
+      KeepsPace (steps_each p A) (of_core p)
+      (of_machine (start_with code (heap_bytes g cells) stack))
 
 -- all of this is chosen before the input
 pub record Made (p : core.Program) (cells stack : ℕ) (file : List ℕ) : Type 0 where

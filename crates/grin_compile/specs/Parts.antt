@@ -1,4 +1,4 @@
--- What the functions inside the crate have made of a program.
+-- What the functions of the crate have made of a program.
 use Rattle.std.specs.Prelude.{◌≡◌, ◌≤◌, ◌<◌, ◌%◌, ℕ, List, [], ◌∷◌, length}
 use Rattle.arity_check.specs.Program as core
 use Rattle.grin_syntax.specs.Tree as grin

@@ -16,8 +16,8 @@ use Rattle.grin_opt.specs.Schedule.{shape_of}
 abbrev pub passes : List PassName
 passes = Vectorise ∷ Simplify ∷ Fetch ∷ Copy ∷ Update ∷ Unbox ∷ Raise ∷ []
 
--- stages after g, one for each of these passes: each has the shape of its pass for the one before it,
--- and does what the translation does
+-- stages after g, one for each of these passes: each has the shape of its pass for the one before
+-- it, and does what the translation does
 abbrev pub AreStages : core.Program → List PassName → Program → List Program → Type 0
 AreStages p [] g [] = Unit {0}
 AreStages p (k ∷ ks) g (h ∷ hs) = Keeps (tr p) h × (shape_of k g h × AreStages p ks h hs)

@@ -22,15 +22,16 @@ use low_code::Low;
 use register_alloc::Places;
 use std::alloc::Global;
 
-/// The size of an image's heap, in cells, and of its stack, in bytes, of which as many are used as words fill.
+/// The size of an image's heap, in cells, and of its stack, in bytes, of which as many are used as
+/// words fill.
 #[derive(Clone, Copy, Debug, PartialEq, Eq)]
 pub struct Options {
     pub cells: u32,
     pub stack: u32,
 }
 
-/// A compiled program: its stages, the low code of the last of them of which code is made, the places of its variables, the
-/// words of the code, and the bytes of the image.
+/// A compiled program: its stages, the low code of the last of them of which code is made, the
+/// places of its variables, the words of the code, and the bytes of the image.
 #[derive(Drop)]
 pub struct Compiled {
     pub stages: Stages,
@@ -82,7 +83,8 @@ impl Compiled {
     }
 }
 
-/// Compiles a program. `ExpandedTooLarge` where it is over 131,072 in size once its evaluations and applications are inlined.
+/// Compiles a program. `ExpandedTooLarge` where it is over 131,072 in size once its evaluations and
+/// applications are inlined.
 pub fn compile(alloc: Global, p: &Checked, options: Options) -> Result<Compiled, CompileRefusal>
     requires valid { IsValid (program p.now) }
     requires range { InRange options.cells options.stack }

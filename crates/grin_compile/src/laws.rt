@@ -10,8 +10,8 @@ pub fn selection_carries()
     ensures { SelectionCarries }
 {}
 
-/// Words that are placed for items that are selected for low code are code for what the low code tells: they carry it, and enter
-/// its procedures in order, going forward.
+/// Words that are placed for items that are selected for low code are code for what the low code
+/// tells: they carry it, and enter its procedures in order, going forward.
 pub fn low_code_is_carried()
     ensures { LowCodeIsCarried }
 {}

@@ -15,19 +15,14 @@ use std::alloc::{AllocError, Global};
 
 /// Low code, the places of its variables, and the words that are made of them.
 #[derive(Drop)]
-pub(crate) struct Layers {
-    pub(crate) low: Low,
-    pub(crate) places: Places,
-    pub(crate) code: Vec<u32>,
+pub struct Layers {
+    pub low: Low,
+    pub places: Places,
+    pub code: Vec<u32>,
 }
 
 /// The layers below a program, for an image with so many cells and so many bytes of stack.
-pub(crate) fn layers_below(
-    alloc: Global,
-    g: &Grin,
-    cells: u32,
-    stack: u32,
-) -> Result<Layers, AllocError>
+pub fn layers_below(alloc: Global, g: &Grin, cells: u32, stack: u32) -> Result<Layers, AllocError>
     requires lowerable { IsLowerable (program_of g.now) }
     requires sizes { AreSizes cells stack }
     ensures { IfOk result (HasLayers (program_of g.now) cells stack) }

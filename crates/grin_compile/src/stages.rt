@@ -43,7 +43,8 @@ pub(crate) fn all_stages(alloc: Global, p: &Checked) -> Result<Stages, CompileRe
     ensures fits { IfOk result (λ s. Fits (program p.now)) }
     ensures refused { IfErr result (IsLarge (program p.now)) }
 {
-    // Laws: vectorising takes what is inlined, its stage is slim, and a program has one size once it is inlined.
+    // Laws: vectorising takes what is inlined, its stage is slim, and a program has one size once
+    // it is inlined.
     vectorise_takes_inlined();
     vectorised_is_slim();
     one_expanded_size();

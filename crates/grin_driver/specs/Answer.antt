@@ -22,19 +22,24 @@ most_of_text = 1048577
 abbrev pub most_of_image : ℕ
 most_of_image = 1342177281
 
--- Where the shelf tells its files, this one has these bytes; as many of them were taken as there are, but not more than the most.
+-- Where the shelf tells its files, this one has these bytes; as many of them were taken as there
+-- are, but not more than the most.
 abbrev pub IsTaken : {F : Type 0} → ShelfChange F → (most : ℕ) → (file bytes : List ℕ) → Type 0
 IsTaken f most file bytes =
-    Told (f.content f.old) (λ files. (file_named file files.named ≡ Some bytes) × (f.content f.new ≡ Some (open_behind files file (min (length bytes) most))))
+    Told (f.content f.old) (λ files. (file_named file files.named ≡ Some bytes)
+    × (f.content f.new ≡ Some (open_behind files file (min (length bytes) most))))
 
 -- the bytes of a file have this outcome
-abbrev pub OfFile : {F : Type 0} → ShelfChange F → (most : ℕ) → (file : List ℕ) → (outcome : List ℕ → Type 0) → Type 0
+abbrev pub OfFile : {F : Type 0} → ShelfChange F → (most : ℕ) → (file : List ℕ)
+    → (outcome : List ℕ → Type 0) → Type 0
 OfFile f most file outcome = (bytes : List ℕ) × IsTaken f most file bytes × outcome bytes
 
--- A status says of a file that it was not read, by a fault of the shelf or for want of memory, and then all else is untouched;
--- or it says this of the file's bytes.
-abbrev pub OfOperand : {F : Type 0} → ShelfChange F → (most : ℕ) → (untouched : Type 0) → (file : List ℕ) → (outcome : List ℕ → Status → Type 0) → Status → Type 0
-OfOperand f most untouched file outcome status = (IsUnread f status × untouched) ⊎ OfFile f most file (λ bytes. outcome bytes status)
+-- A status says of a file that it was not read, by a fault of the shelf or for want of memory, and
+-- then all else is untouched; or it says this of the file's bytes.
+abbrev pub OfOperand : {F : Type 0} → ShelfChange F → (most : ℕ) → (untouched : Type 0)
+    → (file : List ℕ) → (outcome : List ℕ → Status → Type 0) → Status → Type 0
+OfOperand f most untouched file outcome status =
+    (IsUnread f status × untouched) ⊎ OfFile f most file (λ bytes. outcome bytes status)
 
 -- this holds of the file that a command names, if it names one
 abbrev pub OfNamed : (List ℕ → Type 0) → CommandLine → Type 0
@@ -59,16 +64,24 @@ module _ {F I K : Type 0} (f : ShelfChange F) (i : SourceChange I) (o : SinkChan
 
   -- the status of a command over the text that it names, which reads no input
   abbrev pub FromText : (file : List ℕ) → (outcome : List ℕ → Status → Type 0) → Status → Type 0
-  FromText file outcome status = OfOperand f most_of_text (o.new ≡ o.old) file outcome status × (i.new ≡ i.old)
+  FromText file outcome status =
+      OfOperand f most_of_text (o.new ≡ o.old) file outcome status × (i.new ≡ i.old)
 
-  -- The status of a command line: Usage exactly where its words are no command. Only `run` and `exec` read the input.
+  -- The status of a command line: Usage exactly where its words are no command. Only `run` and
+  -- `exec` read the input.
   abbrev pub Answers : Option CommandLine → Status → Type 0
   Answers None status = IsUsage status
   Answers (Some (RunFile file cells stack steps)) status =
-      OfOperand f most_of_text (IsUntouched i o) file (λ text status. Outcome i o text cells stack steps status) status
-  Answers (Some (CheckFile file)) status = FromText file (λ text status. Checks o text status) status
-  Answers (Some (ListFile file after)) status = FromText file (λ text status. ListsAfter o text after status) status
-  Answers (Some (BuildFile file cells stack)) status = FromText file (λ text status. Builds o text cells stack status) status
+      OfOperand f most_of_text (IsUntouched i o) file
+      (λ text status. Outcome i o text cells stack steps status) status
+  Answers (Some (CheckFile file)) status =
+      FromText file (λ text status. Checks o text status) status
+  Answers (Some (ListFile file after)) status =
+      FromText file (λ text status. ListsAfter o text after status) status
+  Answers (Some (BuildFile file cells stack)) status =
+      FromText file (λ text status. Builds o text cells stack status) status
   Answers (Some (ExecImage image steps)) status =
-      OfOperand f most_of_image (IsUntouched i o) image (λ bytes status. Execution i o bytes steps status) status
-  Answers (Some (GenRun seed size)) status = Generates o (generated seed size) status × (f.new ≡ f.old) × (i.new ≡ i.old)
+      OfOperand f most_of_image (IsUntouched i o) image
+      (λ bytes status. Execution i o bytes steps status) status
+  Answers (Some (GenRun seed size)) status =
+      Generates o (generated seed size) status × (f.new ≡ f.old) × (i.new ≡ i.old)

@@ -6,8 +6,8 @@ use Rattle.grin_driver.specs.declared.status.Status.TheVariants.{Done, Refused, 
 use Rattle.grin_driver.specs.Outcome.{IsNotRun, IsImageOf}
 use Rattle.grin_driver.specs.Putting.{OfPieces}
 
--- The status of a text whose image is put, with so many cells and bytes of stack, and what became of
--- the sink: puts of the image's pieces, and none at a refusal or for want of memory.
+-- The status of a text whose image is put, with so many cells and bytes of stack, and what became
+-- of the sink: puts of the image's pieces, and none at a refusal or for want of memory.
 abbrev pub Builds :
     {K : Type 0} → SinkChange K → (text : List ℕ) → (cells stack : ℕ) → Status → Type 0
 Builds o text cells stack Done =

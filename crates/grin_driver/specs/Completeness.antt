@@ -78,7 +78,8 @@ pub record HasRun {I : Type 0} (i : SourceChange I) (status : Status) : Type 0 w
 
 -- want of memory, or the file has bytes of which this holds
 abbrev pub Or :
-    {F : Type 0} → ShelfChange F → (most : ℕ) → (file : List ℕ) → Status → (List ℕ → Type 0) → Type 0
+    {F : Type 0} → ShelfChange F → (most : ℕ) → (file : List ℕ) → Status
+    → (List ℕ → Type 0) → Type 0
 Or f most file status Holds = (status ≡ OutOfMemory) ⊎ OfFile f most file Holds
 
 module _ {F I K : Type 0} (f : ShelfChange F) (i : SourceChange I) (o : SinkChange K) where

@@ -50,12 +50,15 @@ stop_at (Stopped kind s) = Trap kind s.pc
 
 -- A program runs from a source to a sink.
 module _ {I K : Type 0} (i : SourceChange I) (o : SinkChange K) where
-  -- the run stopped so: the sink took just the pieces that the run puts, and what the run left of the input is left
+  -- the run stopped so: the sink took just the pieces that the run puts, and what the run left of
+  -- the input is left
   pub record Stops (program : Image) (steps : ℕ) (stop : Stop) : Type 0 where
-    pub stands : Told (i.left i.old) (λ bytes. let r = run steps bytes (start_of program) in (stop_at r.end ≡ stop) × (i.left i.new ≡ Some r.left))
+    pub stands : Told (i.left i.old) (λ bytes. let r = run steps bytes (start_of program) in
+        (stop_at r.end ≡ stop) × (i.left i.new ≡ Some r.left))
     pub took : Told (i.left i.old) (λ bytes. TookAll o (pieces steps bytes (start_of program)))
 
-  -- a call of the source or the sink failed, which was the last one; the pieces that were put were due
+  -- a call of the source or the sink failed, which was the last one; the pieces that were put were
+  -- due
   pub record Fails (program : Image) (steps : ℕ) (fault : Fault) : Type 0 where
     pub raised : Raised fault i o
     pub puts : Told (i.left i.old) (λ bytes. Broke fault o (pieces steps bytes (start_of program)))
@@ -68,10 +71,12 @@ module _ {I K : Type 0} (i : SourceChange I) (o : SinkChange K) where
   Executes program steps ReadFault = Fails program steps Read
   Executes program steps WriteFault = Fails program steps Write
   Executes program steps OutOfMemory = IsUntouched
-  Executes program steps status = (stop : Stop) × (status_of stop ≡ status) × Stops program steps stop
+  Executes program steps status =
+      (stop : Stop) × (status_of stop ≡ status) × Stops program steps stop
 
   -- The status of the bytes of a file: the rule that they break, or that of their program.
   abbrev pub Execution : (bytes : List ℕ) → (steps : ℕ) → Status → Type 0
   Execution bytes steps (Refused rule number) = IsUnloadable bytes rule number × IsUntouched
   Execution bytes steps OutOfMemory = IsUntouched
-  Execution bytes steps status = (program : Image) × Loads bytes program × Executes program steps status
+  Execution bytes steps status =
+      (program : Image) × Loads bytes program × Executes program steps status

@@ -17,7 +17,8 @@ use Rattle.grin_driver.specs.Putting.{OfPieces}
 
 -- ---- a stage
 
--- The text breaks no rule, and these bytes are the listing of its program's stage. Rule 36 is one of the rules behind the translation.
+-- The text breaks no rule, and these bytes are the listing of its program's stage. Rule 36 is one
+-- of the rules behind the translation.
 pub record IsListing (text : List ℕ) (after : PassName) (bytes : List ℕ) : Type 0 where
   pub source : tree.Program
   pub program : Program
@@ -27,7 +28,8 @@ pub record IsListing (text : List ℕ) (after : PassName) (bytes : List ℕ) : T
   pub fits : after ≢ Translate → Fits program
   pub is_listing : bytes ≡ grin_listing.listing stage
 
--- rule 36 is broken: the text breaks no rule before, and its program is too large once it is inlined
+-- rule 36 is broken: the text breaks no rule before, and its program is too large once it is
+-- inlined
 pub record IsLargeText (text : List ℕ) (size : ℕ) : Type 0 where
   pub source : tree.Program
   pub program : Program
@@ -35,9 +37,11 @@ pub record IsLargeText (text : List ℕ) (size : ℕ) : Type 0 where
   pub expanded : HasExpandedSize program size
   pub large : 131072 < size
 
--- which rule refuses a listing: the first one that the text breaks, else rule 36 where the stage is behind the translation
+-- which rule refuses a listing: the first one that the text breaks, else rule 36 where the stage is
+-- behind the translation
 abbrev pub IsNotListed : (text : List ℕ) → (after : PassName) → (rule number : ℕ) → Type 0
-IsNotListed text after rule number = IsRefusedBy text rule number ⊎ ((rule ≡ 36) × (after ≢ Translate) × IsLargeText text number)
+IsNotListed text after rule number =
+    IsRefusedBy text rule number ⊎ ((rule ≡ 36) × (after ≢ Translate) × IsLargeText text number)
 
 -- why a text has no listing
 abbrev pub IsUnlisted : (text : List ℕ) → (after : PassName) → Status → Type 0
@@ -45,27 +49,33 @@ IsUnlisted text after (Refused rule number) = IsNotListed text after rule number
 IsUnlisted text after OutOfMemory = Unit {0}
 IsUnlisted text after _ = ⊥
 
--- The status of a text that is listed, and what became of the sink: puts of the listing's pieces, and none at a refusal or for want of memory.
-abbrev pub Lists : {K : Type 0} → SinkChange K → (text : List ℕ) → (after : PassName) → Status → Type 0
+-- The status of a text that is listed, and what became of the sink: puts of the listing's pieces,
+-- and none at a refusal or for want of memory.
+abbrev pub Lists : {K : Type 0} → SinkChange K → (text : List ℕ)
+    → (after : PassName) → Status → Type 0
 Lists o text after Done = (bytes : List ℕ) × IsListing text after bytes × OfPieces bytes (TookAll o)
-Lists o text after WriteFault = (bytes : List ℕ) × IsListing text after bytes × OfPieces bytes (BrokeOff o)
+Lists o text after WriteFault =
+    (bytes : List ℕ) × IsListing text after bytes × OfPieces bytes (BrokeOff o)
 Lists o text after (Refused rule number) = IsNotListed text after rule number × (o.new ≡ o.old)
 Lists o text after OutOfMemory = o.new ≡ o.old
 Lists o text after _ = ⊥
 
 -- ---- the canonical text
 
--- the text breaks none of the rules of reading, and these bytes are the canonical text of its program
+-- the text breaks none of the rules of reading, and these bytes are the canonical text of its
+-- program
 pub record IsCanonicalText (text bytes : List ℕ) : Type 0 where
   pub source : tree.Program
   pub unbroken : IsUnbroken text
   pub stands : IsText text source
   pub is_canonical : bytes ≡ canonical source
 
--- The status of a text whose canonical text is put, and what became of the sink: puts of that text's pieces, and none at a refusal or for want of memory.
+-- The status of a text whose canonical text is put, and what became of the sink: puts of that
+-- text's pieces, and none at a refusal or for want of memory.
 abbrev pub Prints : {K : Type 0} → SinkChange K → (text : List ℕ) → Status → Type 0
 Prints o text Done = (bytes : List ℕ) × IsCanonicalText text bytes × OfPieces bytes (TookAll o)
-Prints o text WriteFault = (bytes : List ℕ) × IsCanonicalText text bytes × OfPieces bytes (BrokeOff o)
+Prints o text WriteFault =
+    (bytes : List ℕ) × IsCanonicalText text bytes × OfPieces bytes (BrokeOff o)
 Prints o text (Refused rule number) = IsFirstUnread text rule number × (o.new ≡ o.old)
 Prints o text OutOfMemory = o.new ≡ o.old
 Prints o text _ = ⊥

@@ -20,12 +20,13 @@ use Rattle.grin_driver.specs.Execution.{Stops, Fails, IsUntouched}
 
 -- ---- the image of a text
 
--- which rule refuses a run: the first one that the text breaks, else rule 36, at the size of its program once it is inlined
+-- which rule refuses a run: the first one that the text breaks, else rule 36, at the size of its
+-- program once it is inlined
 abbrev pub IsNotRun : (text : List ℕ) → (rule number : ℕ) → Type 0
 IsNotRun text rule number = IsRefusedBy text rule number ⊎ ((rule ≡ 36) × IsLargeText text number)
 
--- The text breaks no rule, and this is the file of an image that is made of its program, with so many cells and so many bytes of
--- stack, of which whole words are used.
+-- The text breaks no rule, and this is the file of an image that is made of its program, with so
+-- many cells and so many bytes of stack, of which whole words are used.
 pub record IsImageOf (text : List ℕ) (cells stack : ℕ) (file : List ℕ) : Type 0 where
   pub source : tree.Program
   pub program : Program
@@ -64,37 +65,43 @@ module _ {I K : Type 0} (i : SourceChange I) (o : SinkChange K) where
 
   -- the sink took bytes of which this holds, where it tells what it takes
   abbrev pub Took : (List ℕ → Type 0) → Type 0
-  Took Holds = Told (o.taken o.old) (λ before. (out : List ℕ) × (o.taken o.new ≡ Some (before ++ out)) × Holds out)
+  Took Holds = Told (o.taken o.old) (λ before.
+      (out : List ℕ) × (o.taken o.new ≡ Some (before ++ out)) × Holds out)
 
   -- the source gave so many of these bytes, and this holds of their number
   abbrev pub Gave : List ℕ → (ℕ → Type 0) → Type 0
-  Gave bytes Holds = (count : ℕ) × (count ≤ length bytes) × (i.left i.new ≡ Some (drop count bytes)) × Holds count
+  Gave bytes Holds =
+      (count : ℕ) × (count ≤ length bytes) × (i.left i.new ≡ Some (drop count bytes)) × Holds count
 
-  -- What a program tells on the bytes of an input, within each number of units; and when that needs more than was given.
+  -- What a program tells on the bytes of an input, within each number of units; and when that needs
+  -- more than was given.
   module _ (OutOfHeap OutOfStack : Telling → Type 0) (told : ℕ → Telling) (bytes : List ℕ) where
-    -- within some units the program has this end: just its output was taken, and just the bytes that it used were given
+    -- within some units the program has this end: just its output was taken, and just the bytes
+    -- that it used were given
     pub record Ends (end : End) : Type 0 where
       pub units : ℕ
       pub ended : (told units).end ≡ end
       pub took : Took (λ out. out ≡ (told units).out)
       pub gave : Gave bytes (λ count. count ≡ (told units).used)
 
-    -- within some units the program needs more than it was given: what was taken lies between its output within one unit less
-    -- and within these, and no more was given than it used
+    -- within some units the program needs more than it was given: what was taken lies between its
+    -- output within one unit less and within these, and no more was given than it used
     pub record Lacks (Needs : Telling → Type 0) : Type 0 where
       pub units : ℕ
       pub needs : Needs (told units)
       pub took : Took (λ out. After told units out × Begins out (told units).out)
       pub gave : Gave bytes (λ count. count ≤ (told units).used)
 
-    -- What was taken begins the program's output within some units, and no more was given than it used. For whatever number of
-    -- units the steps are enough, at so many steps for the start and for each unit, the program has no end within these units, and
-    -- its output within them begins what was taken.
+    -- What was taken begins the program's output within some units, and no more was given than it
+    -- used. For whatever number of units the steps are enough, at so many steps for the start and
+    -- for each unit, the program has no end within these units, and its output within them begins
+    -- what was taken.
     pub record Pauses (each steps : ℕ) : Type 0 where
       pub units : ℕ
       pub took : Took (λ out. Begins out (told units).out)
       pub gave : Gave bytes (λ count. count ≤ (told units).used)
-      pub keeps_pace : (n : ℕ) → each * (n + 1) ≤ steps → ((told n).end ≡ going) × Took (λ out. Begins (told n).out out)
+      pub keeps_pace : (n : ℕ) → each * (n + 1) ≤ steps
+          → ((told n).end ≡ going) × Took (λ out. Begins (told n).out out)
 
     -- what was taken begins the program's output within some units
     pub record Breaks : Type 0 where
@@ -114,8 +121,8 @@ module _ {I K : Type 0} (i : SourceChange I) (o : SinkChange K) where
 
   -- ---- the statuses of a text
 
-  -- There is an image of the text that loads. The status is the end of its run, and where the source tells its bytes, it is what
-  -- the program says on them.
+  -- There is an image of the text that loads. The status is the end of its run, and where the
+  -- source tells its bytes, it is what the program says on them.
   pub record Runs (text : List ℕ) (cells stack steps : ℕ) (status : Status) : Type 0 where
     pub file : List ℕ
     pub from : IsImageOf text cells stack file
@@ -124,10 +131,12 @@ module _ {I K : Type 0} (i : SourceChange I) (o : SinkChange K) where
     pub ran : RunsTo image steps status
     pub says :
         Told (i.left i.old) (λ bytes. IsBytes bytes
-        → Says (HeapOver cells) (StackOver (frame_bound from.program from.made.solution) (whole_words stack)) (of_core from.program bytes) bytes
+        → Says (HeapOver cells) (StackOver (frame_bound from.program from.made.solution)
+        (whole_words stack)) (of_core from.program bytes) bytes
         (steps_each from.program from.made.solution) steps status)
 
-  -- The status of a text, with so many cells, bytes of stack and steps. At a refusal and for want of memory nothing was touched.
+  -- The status of a text, with so many cells, bytes of stack and steps. At a refusal and for want
+  -- of memory nothing was touched.
   abbrev pub Outcome : (text : List ℕ) → (cells stack steps : ℕ) → Status → Type 0
   Outcome text cells stack steps (Refused rule number) = IsNotRun text rule number × IsUntouched i o
   Outcome text cells stack steps OutOfMemory = IsUntouched i o

@@ -1,10 +1,13 @@
 -- Outputs that are put in pieces.
 use Rattle.std.specs.Prelude.{◌≡◌, ℕ, ◌<◌, min, List, [], ◌∷◌, ◌++◌, length}
 
--- bytes are cut in these pieces of so many, of which the last one may be shorter; of no bytes there is no piece
+-- bytes are cut in these pieces of so many, of which the last one may be shorter; of no bytes there
+-- is no piece
 pub data IsCut (size : ℕ) : List ℕ → List (List ℕ) → Type 0 where
   no_piece : IsCut size [] []
-  next_piece : {piece rest : List ℕ} {pieces : List (List ℕ)} → 0 < length piece → length piece ≡ min size (length (piece ++ rest)) → IsCut size rest pieces → IsCut size (piece ++ rest) (piece ∷ pieces)
+  next_piece : {piece rest : List ℕ} {pieces : List (List ℕ)} → 0 < length piece
+      → length piece ≡ min size (length (piece ++ rest)) → IsCut size rest pieces
+      → IsCut size (piece ++ rest) (piece ∷ pieces)
 
 -- this holds of the bytes' pieces of 4,096
 abbrev pub OfPieces : List ℕ → (List (List ℕ) → Type 0) → Type 0

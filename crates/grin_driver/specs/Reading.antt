@@ -16,7 +16,9 @@ pub record IsBehind (files : Files) (file text : List ℕ) : Type 0 where
 
 -- the files stay, and of the open one these bytes were read, where the shelf tells it
 abbrev pub Reading : (before now : Option Files) → (file text : List ℕ) → Type 0
-Reading before now file text = (old : Files) → before ≡ Some old → (new : Files) × (now ≡ Some new) × (new.named ≡ old.named) × IsBehind new file text
+Reading before now file text =
+    (old : Files) → before ≡ Some old
+    → (new : Files) × (now ≡ Some new) × (new.named ≡ old.named) × IsBehind new file text
 
 -- bytes were read, or nothing of the file is behind these
 abbrev pub Goes : Files → (file text text' : List ℕ) → Bool → Type 0
@@ -27,7 +29,8 @@ Goes new file text text' false = file_named file new.named ≡ Some text'
 abbrev pub ReadsOn : (before now : Option Files) → (text text' : List ℕ) → Bool → Type 0
 ReadsOn before now text text' more =
     (old : Files) → before ≡ Some old → (file : List ℕ) → IsBehind old file text
-    → (new : Files) × (now ≡ Some new) × (new.named ≡ old.named) × IsBehind new file text' × Goes new file text text' more
+    → (new : Files) × (now ≡ Some new) × (new.named ≡ old.named)
+    × IsBehind new file text' × Goes new file text text' more
 
 -- the files, with this one open behind so many bytes
 abbrev pub open_behind : Files → (file : List ℕ) → ℕ → Files
@@ -35,7 +38,9 @@ open_behind files file place = record { named = files.named; opened = Some (file
 
 -- all bytes of the file were read, or as many as the most that are read, and no further ones
 pub record IsRead {F : Type 0} (f : ShelfChange F) (most : ℕ) (file text : List ℕ) : Type 0 where
-  pub front : Told (f.content f.old) (λ files. (bytes : List ℕ) × (file_named file files.named ≡ Some bytes) × (text ≡ take most bytes) × (f.content f.new ≡ Some (open_behind files file (length text))))
+  pub front : Told (f.content f.old) (λ files.
+      (bytes : List ℕ) × (file_named file files.named ≡ Some bytes) × (text ≡ take most bytes)
+      × (f.content f.new ≡ Some (open_behind files file (length text))))
   pub short : length text ≤ most
 
 -- the files stay, whichever is open
@@ -44,6 +49,7 @@ Stay before now = Told before (λ old. (new : Files) × (now ≡ Some new) × (n
 
 -- why a file was not read
 abbrev pub IsUnread : {F : Type 0} → ShelfChange F → Status → Type 0
-IsUnread f ReadFault = Rose (f.faults f.old) (f.faults f.new) × Stay (f.content f.old) (f.content f.new)
+IsUnread f ReadFault =
+    Rose (f.faults f.old) (f.faults f.new) × Stay (f.content f.old) (f.content f.new)
 IsUnread f OutOfMemory = Stay (f.content f.old) (f.content f.new)
 IsUnread f _ = ⊥

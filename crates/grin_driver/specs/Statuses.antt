@@ -32,14 +32,16 @@ kind_text Breakpoint = codes "breakpoint"
 -- the line on the error output
 abbrev pub line_of : Status → List ℕ
 line_of Done = []
-line_of (Refused rule number) = codes "grinc: refused " ++ (decimal rule ++ (codes " at " ++ (decimal number ++ codes "\n")))
+line_of (Refused rule number) =
+    codes "grinc: refused " ++ (decimal rule ++ (codes " at " ++ (decimal number ++ codes "\n")))
 line_of Usage = codes "grinc: usage\n"
 line_of NoAlternative = codes "grinc: no alternative\n"
 line_of HeapFull = codes "grinc: heap full\n"
 line_of StackFull = codes "grinc: stack full\n"
 line_of StepLimit = codes "grinc: step limit\n"
 line_of (Exited code) = codes "grinc: exited " ++ (decimal code ++ codes "\n")
-line_of (Trapped kind pc) = codes "grinc: trap " ++ (kind_text kind ++ (codes " at " ++ (decimal pc ++ codes "\n")))
+line_of (Trapped kind pc) =
+    codes "grinc: trap " ++ (kind_text kind ++ (codes " at " ++ (decimal pc ++ codes "\n")))
 line_of OutOfMemory = codes "grinc: out of memory\n"
 line_of ReadFault = codes "grinc: read fault\n"
 line_of WriteFault = codes "grinc: write fault\n"

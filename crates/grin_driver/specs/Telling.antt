@@ -15,8 +15,10 @@ abbrev pub Puts : {K : Type 0} → SinkChange K → Status → Type 0
 Puts o Done = o.new ≡ o.old
 Puts o status = IsOnePut o (line_of status)
 
--- The line of a status is told: by at most one put, and where the sink's count did not rise it took just the line.
+-- The line of a status is told: by at most one put, and where the sink's count did not rise it took
+-- just the line.
 pub record IsTold {K : Type 0} (o : SinkChange K) (status : Status) : Type 0 where
   pub puts : Puts o status
   pub later : o.faults o.old ≤ o.faults o.new
-  pub line : Rose (o.faults o.old) (o.faults o.new) ⊎ Told (o.taken o.old) (λ before. o.taken o.new ≡ Some (before ++ line_of status))
+  pub line : Rose (o.faults o.old) (o.faults o.new)
+      ⊎ Told (o.taken o.old) (λ before. o.taken o.new ≡ Some (before ++ line_of status))

@@ -14,7 +14,8 @@ use Rattle.grin_driver.specs.declared.status.Status.TheVariants.{Refused, OutOfM
 -- Which rule a text breaks first, and where: one of the text, else one of its program.
 pub data IsRefusedBy (text : List ℕ) : (rule number : ℕ) → Type 0 where
   Unread : (rule at : ℕ) → IsFirstUnread text rule at → IsRefusedBy text rule at
-  Unaccepted : (rule at : ℕ) (p : tree.Program) → IsUnbroken text → IsText text p → IsFirstBroken p rule at → IsRefusedBy text rule at
+  Unaccepted : (rule at : ℕ) (p : tree.Program) → IsUnbroken text → IsText text p
+      → IsFirstBroken p rule at → IsRefusedBy text rule at
 
 -- The text breaks no rule, and stands for a program that has this normal form.
 pub record IsAccepted (text : List ℕ) (source : tree.Program) (program : Program) : Type 0 where

@@ -12,8 +12,9 @@ use grin_compile::Options;
 use grin_io::Sink;
 use std::alloc::Global;
 
-/// Compiles a text to an image with so many cells and bytes of stack, and puts the image in pieces of 4,096 bytes. The stack is
-/// rounded down to a multiple of four. All memory is had before the first put.
+/// Compiles a text to an image with so many cells and bytes of stack, and puts the image in pieces
+/// of 4,096 bytes. The stack is rounded down to a multiple of four. All memory is had before the
+/// first put.
 pub(crate) fn build_text<K: Sink>(
     alloc: Global,
     text: &[u8],

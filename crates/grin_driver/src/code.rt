@@ -99,7 +99,8 @@ fn listed_code(alloc: Global, text: &[u8], options: Options) -> Result<Vec<u8>, 
     }
 }
 
-/// Lists the code of a text's image with the heap and the stack that it has by default, in pieces of 4,096 bytes.
+/// Lists the code of a text's image with the heap and the stack that it has by default, in pieces
+/// of 4,096 bytes.
 pub(crate) fn list_code<K: Sink>(alloc: Global, text: &[u8], out: &mut K) -> Status
     ensures lists { ListsCode (of_sink K.put_gives K.taken K.faults out.old out.new) text.now
         1000000 1048576 result }

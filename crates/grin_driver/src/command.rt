@@ -34,7 +34,8 @@ const MOST_OF_TEXT: usize = 1_048_577;
 /// The most bytes that are read of an image: one more than those of the longest one.
 const MOST_OF_IMAGE: usize = 1_342_177_281;
 
-/// Runs the text of a file on the input, with so many cells and bytes of stack, for at most so many instructions.
+/// Runs the text of a file on the input, with so many cells and bytes of stack, for at most so many
+/// instructions.
 fn run_file<F: Shelf, I: Source, K: Sink>(
     alloc: Global,
     file: &str,
@@ -215,10 +216,10 @@ fn run_line<F: Shelf, I: Source, K: Sink>(
 
 /// Runs the command that the words of a line stand for, and puts the line of its status on `err`.
 ///
-/// `run FILE` compiles a text and runs it on the input, `check FILE` puts the line of its program, `list FILE` lists it,
-/// `build FILE` puts its image, and `exec IMAGE` runs an executable on the input; `gen` runs a generated text and puts
-/// its summary. A file is read to its end, or up to the first byte past the longest one. A fault of `err`
-/// changes no status.
+/// `run FILE` compiles a text and runs it on the input, `check FILE` puts the line of its program,
+/// `list FILE` lists it, `build FILE` puts its image, and `exec IMAGE` runs an executable on the
+/// input; `gen` runs a generated text and puts its summary. A file is read to its end, or up to the
+/// first byte past the longest one. A fault of `err` changes no status.
 pub fn grinc_main<F: Shelf, I: Source, K: Sink, E: Sink>(
     alloc: Global,
     line: &Line,

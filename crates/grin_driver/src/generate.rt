@@ -51,7 +51,8 @@ fn summary(bytes: usize, functions: usize, size: u64, output: &[u8]) -> Note
     note
 }
 
-/// Runs an image on no input, and gives the sink that took what it wrote where its program is done; else the status.
+/// Runs an image on no input, and gives the sink that took what it wrote where its program is done;
+/// else the status.
 fn output(alloc: Global, image: &[u8]) -> Result<MemSink, Status>
     ensures done { IfOk result (λ sink. (text : List ℕ) → (from : IsDefaultImageOf text image.now)
         → IsOutput from sink.taken × (length sink.taken ≤ 4096)) }
@@ -89,8 +90,8 @@ fn summed(alloc: Global, text: &[u8]) -> Result<Note, Status>
     Ok(summary(text.len(), functions, accepted.size, sink.taken()))
 }
 
-/// Compiles and runs the text that is generated from a seed in so many rounds, and puts its summary in one put where its program is
-/// done. All else is had before that put.
+/// Compiles and runs the text that is generated from a seed in so many rounds, and puts its summary
+/// in one put where its program is done. All else is had before that put.
 pub(crate) fn generate<K: Sink>(alloc: Global, seed: u32, size: u32, out: &mut K) -> Status
     ensures generates { Generates (of_sink K.put_gives K.taken K.faults out.old out.new)
         (generated seed size) result }

@@ -53,7 +53,8 @@ pub(crate) fn unstaged(refusal: &CompileRefusal) -> Status
     }
 }
 
-/// Lists a text's program after a pass, in pieces of 4,096 bytes. All memory is had before the first put.
+/// Lists a text's program after a pass, in pieces of 4,096 bytes. All memory is had before the
+/// first put.
 pub fn list_text<K: Sink>(alloc: Global, text: &[u8], after: PassName, out: &mut K) -> Status
     ensures lists { Lists (of_sink K.put_gives K.taken K.faults out.old out.new) text.now after
         result }
@@ -83,7 +84,8 @@ fn canonical(alloc: Global, text: &[u8]) -> Result<Vec<u8>, Status>
     }
 }
 
-/// Puts the canonical text of a text's program, in pieces of 4,096 bytes. The text need only be read, not checked.
+/// Puts the canonical text of a text's program, in pieces of 4,096 bytes. The text need only be
+/// read, not checked.
 fn print_text<K: Sink>(alloc: Global, text: &[u8], out: &mut K) -> Status
     ensures prints { Prints (of_sink K.put_gives K.taken K.faults out.old out.new) text.now result }
     ensures later { K.faults out.old ≤ K.faults out.new }

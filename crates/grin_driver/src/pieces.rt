@@ -9,7 +9,8 @@ use grin_io::{Failed, Sink};
 /// The most bytes of one put.
 const PIECE: usize = 4096;
 
-/// Puts bytes in pieces of 4,096, of which the last one may be shorter, up to the first put that fails.
+/// Puts bytes in pieces of 4,096, of which the last one may be shorter, up to the first put that
+/// fails.
 pub(crate) fn put_pieces<K: Sink>(bytes: &[u8], out: &mut K) -> Result<(), Failed>
     ensures took { OnOk result
         (OfPieces bytes.now (TookAll (of_sink K.put_gives K.taken K.faults out.old out.new))) }

@@ -11,7 +11,8 @@ use std::alloc::Global;
 /// The most bytes of one reading.
 const PIECE: usize = 4096;
 
-/// Reads the next bytes of the open file after those that were read, up to so many in all; whether there were any.
+/// Reads the next bytes of the open file after those that were read, up to so many in all; whether
+/// there were any.
 fn read_piece<F: Shelf>(shelf: &mut F, most: usize, bytes: &mut Vec<u8>) -> Result<bool, Status>
     requires opened { F.is_open shelf.old ≡ true }
     requires room { length bytes.old.items < most }

@@ -24,9 +24,9 @@ pub(crate) fn named(status: Status) -> Status
     }
 }
 
-/// Compiles a text to an image with so many cells and bytes of stack, and runs it on the input for at most so many
-/// instructions. The stack is rounded down to a multiple of four. `Exited` and `Trapped` can't come of an input that tells its
-/// bytes.
+/// Compiles a text to an image with so many cells and bytes of stack, and runs it on the input for
+/// at most so many instructions. The stack is rounded down to a multiple of four. `Exited` and
+/// `Trapped` can't come of an input that tells its bytes.
 pub fn run_text<I: Source, K: Sink>(
     alloc: Global,
     text: &[u8],

@@ -13,10 +13,11 @@ use rv32_machine::TrapKind;
 /// How a command ended.
 #[derive(Clone, Copy, PartialEq, Eq, Debug, Drop)]
 pub enum Status {
-    /// The command did all that it says; at `run` the program's list ended, at `exec` the image exited with 0.
+    /// The command did all that it says; at `run` the program's list ended, at `exec` the image
+    /// exited with 0.
     Done,
-    /// The text or the image breaks this rule first; the number is its place in bytes, the size for rule 35, or the number of a
-    /// program header.
+    /// The text or the image breaks this rule first; the number is its place in bytes, the size for
+    /// rule 35, or the number of a program header.
     Refused { rule: u8, number: u64 },
     /// The words are no command.
     Usage,
@@ -60,7 +61,8 @@ impl Status {
         }
     }
 
-    /// Puts the line of the status on the error output, as one put; nothing at `Done`. A fault changes nothing else.
+    /// Puts the line of the status on the error output, as one put; nothing at `Done`. A fault
+    /// changes nothing else.
     pub(crate) fn tell<E: Sink>(&self, err: &mut E)
         ensures { IsTold (of_sink E.put_gives E.taken E.faults err.old err.new) self.now }
     {

@@ -1,5 +1,5 @@
--- What shelves, sources and sinks hold, and what a call does to it. An object that tells its content before a call
--- tells it after the call; of one that doesn't tell it nothing is said.
+-- What shelves, sources and sinks hold, and what a call does to it. An object that tells its
+-- content before a call tells it after the call; of one that doesn't tell it nothing is said.
 use Rattle.std.specs.Prelude.{◌≡◌, ℕ, ◌+◌, ◌≤◌, ◌<◌, ◌↔◌, List, [], ◌++◌, length, take, drop, Option, Some, None, IfSome, IsSome, option_map, unwrap_or, Result, Ok, Err, bytes_eq}
 use Rattle.std.specs.Map.{lookup}
 
@@ -21,8 +21,8 @@ rest_of named (Some (name, at)) = drop at (unwrap_or (file_named name named) [])
 abbrev pub moved_on : ℕ → Option (List ℕ × ℕ) → Option (List ℕ × ℕ)
 moved_on k opened = option_map (λ p. (p.0, p.1 + k)) opened
 
--- the first k bytes of what was left stand at the buffer's front, and its other bytes are as they were; a buffer that
--- isn't empty gets none exactly where nothing was left
+-- the first k bytes of what was left stand at the buffer's front, and its other bytes are as they
+-- were; a buffer that isn't empty gets none exactly where nothing was left
 pub record Fills (left buffer filled : List ℕ) (k : ℕ) : Type 0 where
   pub within : k ≤ length left
   pub front : filled ≡ take k left ++ drop k buffer
@@ -30,20 +30,29 @@ pub record Fills (left buffer filled : List ℕ) (k : ℕ) : Type 0 where
 
 -- an opening: that file at its start, which is there, or no file; the files stay
 abbrev pub Opens : {E : Type 0} → Option Files → Option Files → List ℕ → Result Unit E → Type 0
-Opens before now name (Ok _) = IfSome before (λ old. IsSome (file_named name old.named) × (now ≡ Some (record { named = old.named; opened = Some (name, 0) })))
-Opens before now name (Err _) = IfSome before (λ old. now ≡ Some (record { named = old.named; opened = None }))
+Opens before now name (Ok _) = IfSome before (λ old. IsSome (file_named name old.named)
+    × (now ≡ Some (record { named = old.named; opened = Some (name, 0) })))
+Opens before now name (Err _) =
+    IfSome before (λ old. now ≡ Some (record { named = old.named; opened = None }))
 
 -- a reading of the open file: the place moves by the bytes that were read; at a failure it stays
-abbrev pub ReadsFile : {E : Type 0} → Option Files → Option Files → List ℕ → List ℕ → Result ℕ E → Type 0
-ReadsFile before now buffer filled (Ok k) = IfSome before (λ old. Fills (rest_of old.named old.opened) buffer filled k × (now ≡ Some (record { named = old.named; opened = moved_on k old.opened })))
+abbrev pub ReadsFile : {E : Type 0} → Option Files → Option Files
+    → List ℕ → List ℕ → Result ℕ E → Type 0
+ReadsFile before now buffer filled (Ok k) = IfSome before (λ old.
+    Fills (rest_of old.named old.opened) buffer filled k
+    × (now ≡ Some (record { named = old.named; opened = moved_on k old.opened })))
 ReadsFile before now buffer filled (Err _) = IfSome before (λ old. now ≡ Some old)
 
 -- a reading of what is left: the bytes that were read are no longer left; at a failure all stay
-abbrev pub Reads : {E : Type 0} → Option (List ℕ) → Option (List ℕ) → List ℕ → List ℕ → Result ℕ E → Type 0
-Reads before now buffer filled (Ok k) = IfSome before (λ left. Fills left buffer filled k × (now ≡ Some (drop k left)))
+abbrev pub Reads : {E : Type 0} → Option (List ℕ) → Option (List ℕ)
+    → List ℕ → List ℕ → Result ℕ E → Type 0
+Reads before now buffer filled (Ok k) =
+    IfSome before (λ left. Fills left buffer filled k × (now ≡ Some (drop k left)))
 Reads before now buffer filled (Err _) = IfSome before (λ left. now ≡ Some left)
 
 -- a put: the whole piece is taken, or at a failure some of it from its front on
-abbrev pub Takes : {E : Type 0} → Option (List ℕ) → Option (List ℕ) → List ℕ → Result Unit E → Type 0
+abbrev pub Takes : {E : Type 0} → Option (List ℕ) → Option (List ℕ)
+    → List ℕ → Result Unit E → Type 0
 Takes before now piece (Ok _) = IfSome before (λ taken. now ≡ Some (taken ++ piece))
-Takes before now piece (Err _) = IfSome before (λ taken. (k : ℕ) × (now ≡ Some (taken ++ take k piece)))
+Takes before now piece (Err _) =
+    IfSome before (λ taken. (k : ℕ) × (now ≡ Some (taken ++ take k piece)))

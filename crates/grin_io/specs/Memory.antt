@@ -3,7 +3,8 @@ use Rattle.std.specs.Prelude.{ℕ, ◌+◌, ◌-◌, ◌^◌, min, Bool, cond, n
 use Rattle.std.specs.List.{list_any}
 use Rattle.grin_io.specs.Content.{Files, file_named, rest_of, moved_on}
 
--- the calls that are to fail, by their numbers; the number of the next call, from 0 on; and the faults so far
+-- the calls that are to fail, by their numbers; the number of the next call, from 0 on; and the
+-- faults so far
 pub record Calls : Type 0 where
   pub planned : List ℕ
   pub made : ℕ
@@ -23,7 +24,11 @@ is_planned c = list_any (λ k. k == c.made) c.planned
 
 -- one call later: a planned failure is a fault
 abbrev pub called : Calls → Calls
-called c = record { planned = c.planned; made = raised c.made; faults = cond (is_planned c) (raised c.faults) c.faults }
+called c = record {
+  planned = c.planned;
+  made = raised c.made;
+  faults = cond (is_planned c) (raised c.faults) c.faults;
+}
 
 -- one fault more
 abbrev pub faulted : Calls → Calls
@@ -34,9 +39,11 @@ pub record Stock : Type 0 where
   pub files : Files
   pub calls : Calls
 
--- the files with the first one of a name open at its start, or with none open where no file has the name
+-- the files with the first one of a name open at its start, or with none open where no file has the
+-- name
 abbrev pub opened_file : Files → List ℕ → Files
-opened_file f name = record { named = f.named; opened = option_map (λ _. (name, 0)) (file_named name f.named) }
+opened_file f name =
+    record { named = f.named; opened = option_map (λ _. (name, 0)) (file_named name f.named) }
 
 -- the files with none open
 abbrev pub closed : Files → Files
@@ -66,7 +73,10 @@ abbrev pub provided : Stock → ℕ → Option ℕ
 provided s room = cond (is_planned s.calls) None (Some (readable s.files room))
 
 abbrev pub after_file_read : Stock → ℕ → Stock
-after_file_read s room = record { files = cond (is_planned s.calls) s.files (read_on s.files (readable s.files room)); calls = called s.calls }
+after_file_read s room = record {
+  files = cond (is_planned s.calls) s.files (read_on s.files (readable s.files room));
+  calls = called s.calls;
+}
 
 -- a shelf in memory that fails only at names that aren't there
 pub record SureStock : Type 0 where
@@ -74,22 +84,30 @@ pub record SureStock : Type 0 where
   pub faults : ℕ
 
 abbrev pub after_sure_open : SureStock → List ℕ → SureStock
-after_sure_open s name = record { files = opened_file s.files name; faults = cond (is_some (file_named name s.files.named)) s.faults (raised s.faults) }
+after_sure_open s name = record {
+  files = opened_file s.files name;
+  faults = cond (is_some (file_named name s.files.named)) s.faults (raised s.faults);
+}
 
 abbrev pub after_sure_read : SureStock → ℕ → SureStock
-after_sure_read s room = record { files = read_on s.files (readable s.files room); faults = s.faults }
+after_sure_read s room =
+    record { files = read_on s.files (readable s.files room); faults = s.faults }
 
 -- a source in memory: the bytes that are left
 pub record Supply : Type 0 where
   pub left : List ℕ
   pub calls : Calls
 
--- the answer to a read into so much room: none at a planned failure, else as many bytes as there are and fit
+-- the answer to a read into so much room: none at a planned failure, else as many bytes as there
+-- are and fit
 abbrev pub supplied : Supply → ℕ → Option ℕ
 supplied s room = cond (is_planned s.calls) None (Some (min (length s.left) room))
 
 abbrev pub after_read : Supply → ℕ → Supply
-after_read s room = record { left = cond (is_planned s.calls) s.left (drop (min (length s.left) room) s.left); calls = called s.calls }
+after_read s room = record {
+  left = cond (is_planned s.calls) s.left (drop (min (length s.left) room) s.left);
+  calls = called s.calls;
+}
 
 -- a sink in memory: the bytes that it took, and how many it can take
 pub record Store : Type 0 where
@@ -110,5 +128,6 @@ abbrev pub after_put : Store → List ℕ → Store
 after_put s piece = record {
   taken = cond (is_planned s.calls) s.taken (s.taken ++ fitting s piece);
   capacity = s.capacity;
-  calls = cond (is_planned s.calls || is_stored s piece) (called s.calls) (faulted (called s.calls));
+  calls =
+      cond (is_planned s.calls || is_stored s piece) (called s.calls) (faulted (called s.calls));
 }

@@ -5,7 +5,8 @@ ghost use Rattle.grin_io.specs.Memory.{no_calls, is_planned, called, faulted};
 use crate::outside::Failed;
 use std::marker::Model;
 
-/// The calls on an object in memory: those that are to fail, how many there were, and how many faults.
+/// The calls on an object in memory: those that are to fail, how many there were, and how many
+/// faults.
 #[derive(Debug, Drop)]
 pub struct Schedule {
     planned: Vec<u64>,

@@ -52,7 +52,8 @@ impl Folder {
         }
     }
 
-    /// Opens the first file of this name at its start; whether there is one. Where there is none no file is open.
+    /// Opens the first file of this name at its start; whether there is one. Where there is none no
+    /// file is open.
     pub fn open(&mut self, name: &str) -> bool
         ensures found { result ≡ is_some (file_named name.now self.old.named) }
         ensures opened { self.new ≡ opened_file self.old name.now }

@@ -1,5 +1,5 @@
-//! The outside: shelves of files, sources and sinks of bytes, each with a count of faults; objects in memory that plan
-//! their failures; and the files and streams of the system.
+//! The outside: shelves of files, sources and sinks of bytes, each with a count of faults; objects
+//! in memory that plan their failures; and the files and streams of the system.
 #![tactic(auto)]
 
 mod calls;

@@ -42,8 +42,8 @@ impl Model for MemShelf {
 }
 
 impl MemShelf {
-    /// A shelf of these files, none of which is open; the calls with these numbers, counted from 0 over all calls, are to
-    /// fail. It takes no memory.
+    /// A shelf of these files, none of which is open; the calls with these numbers, counted from 0
+    /// over all calls, are to fail. It takes no memory.
     pub fn new(files: Vec<MemFile>, fail: Vec<u64>) -> MemShelf
         ensures { result ≡ record {
           files =
@@ -113,7 +113,8 @@ impl Model for MemSource {
 }
 
 impl MemSource {
-    /// A source of these bytes; the calls with these numbers, counted from 0, are to fail. It takes no memory.
+    /// A source of these bytes; the calls with these numbers, counted from 0, are to fail. It takes
+    /// no memory.
     pub fn new(bytes: Vec<u8>, fail: Vec<u64>) -> MemSource
         ensures { result ≡ record { left = bytes.items; calls = no_calls fail.items } }
     {
@@ -165,8 +166,8 @@ impl Model for MemSink {
 }
 
 impl MemSink {
-    /// A sink that takes at most so many bytes, whose memory it takes here; the calls with these numbers, counted from 0,
-    /// are to fail. `AllocError` where the memory is wanting.
+    /// A sink that takes at most so many bytes, whose memory it takes here; the calls with these
+    /// numbers, counted from 0, are to fail. `AllocError` where the memory is wanting.
     pub fn new(alloc: Global, capacity: usize, fail: Vec<u64>) -> Result<MemSink, AllocError>
         ensures { IfOk result (λ s. s
             ≡ record { taken = []; capacity = capacity; calls = no_calls fail.items }) }

@@ -16,7 +16,8 @@ pub enum Fault {
 
 /// Named files, of which at most one is open.
 pub trait Shelf {
-    /// The files, and which one is open at which place, where the shelf tells them. No call changes the files.
+    /// The files, and which one is open at which place, where the shelf tells them. No call changes
+    /// the files.
     ghost content: { Self → Option Files };
 
     /// Whether a file is open. Every shelf tells this.
@@ -28,13 +29,16 @@ pub trait Shelf {
     /// How many faults there were. No call lowers it.
     ghost faults: { Self → ℕ };
 
-    /// All that this kind of shelf says of an opening: the shelf before, the name, whether it went well, the shelf after.
+    /// All that this kind of shelf says of an opening: the shelf before, the name, whether it went
+    /// well, the shelf after.
     ghost open_gives: { Self → List ℕ → Bool → Self → Type 0 } = { λ _ _ _ _. Unit {0} };
 
-    /// All that this kind of shelf says of a read: the shelf before, the room in bytes, the bytes read, the shelf after.
+    /// All that this kind of shelf says of a read: the shelf before, the room in bytes, the bytes
+    /// read, the shelf after.
     ghost read_gives: { Self → ℕ → Option ℕ → Self → Type 0 } = { λ _ _ _ _. Unit {0} };
 
-    /// Opens a file at its start, in place of the one that was open. After `Failed` no file is open.
+    /// Opens a file at its start, in place of the one that was open. After `Failed` no file is
+    /// open.
     fn open(&mut self, name: &str) -> Result<(), Failed>
         requires { permitted name.now }
         ensures content { Opens (content self.old) (content self.new) name.now result }
@@ -42,8 +46,9 @@ pub trait Shelf {
         ensures cause { HasCause (faults self.old) (faults self.new) result }
         ensures exactly { open_gives self.old name.now (is_ok result) self.new };
 
-    /// Reads the next bytes of the open file into the front of the buffer; their number, which is 0 for a buffer that
-    /// isn't empty exactly at the file's end. After `Failed` the place in the file is unchanged.
+    /// Reads the next bytes of the open file into the front of the buffer; their number, which is 0
+    /// for a buffer that isn't empty exactly at the file's end. After `Failed` the place in the
+    /// file is unchanged.
     fn read(&mut self, buf: &mut [u8]) -> Result<usize, Failed>
         requires { is_open self.old ≡ true }
         ensures content { ReadsFile (content self.old) (content self.new) buf.old buf.new result }
@@ -64,11 +69,12 @@ pub trait Source {
     /// How many faults there were. No call lowers it.
     ghost faults: { Self → ℕ };
 
-    /// All that this kind of source says of a read: the source before, the room in bytes, the bytes read, the source after.
+    /// All that this kind of source says of a read: the source before, the room in bytes, the bytes
+    /// read, the source after.
     ghost read_gives: { Self → ℕ → Option ℕ → Self → Type 0 } = { λ _ _ _ _. Unit {0} };
 
-    /// Reads the next bytes into the front of the buffer; their number, which is 0 for a buffer that isn't empty exactly
-    /// where none is left. After `Failed` all bytes are still left.
+    /// Reads the next bytes into the front of the buffer; their number, which is 0 for a buffer
+    /// that isn't empty exactly where none is left. After `Failed` all bytes are still left.
     fn read(&mut self, buf: &mut [u8]) -> Result<usize, Failed>
         ensures content { Reads (left self.old) (left self.new) buf.old buf.new result }
         ensures within { IfOk result (λ k. k ≤ length buf.old) }
@@ -84,10 +90,12 @@ pub trait Sink {
     /// How many faults there were. No call lowers it.
     ghost faults: { Self → ℕ };
 
-    /// All that this kind of sink says of a put: the sink before, the piece, whether it was taken whole, the sink after.
+    /// All that this kind of sink says of a put: the sink before, the piece, whether it was taken
+    /// whole, the sink after.
     ghost put_gives: { Self → List ℕ → Bool → Self → Type 0 } = { λ _ _ _ _. Unit {0} };
 
-    /// Takes a piece. After `Failed` some of it, from its front on, was taken, maybe nothing and maybe all.
+    /// Takes a piece. After `Failed` some of it, from its front on, was taken, maybe nothing and
+    /// maybe all.
     fn put(&mut self, piece: &[u8]) -> Result<(), Failed>
         ensures content { Takes (taken self.old) (taken self.new) piece.now result }
         ensures cause { HasCause (faults self.old) (faults self.new) result }

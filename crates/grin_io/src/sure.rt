@@ -8,7 +8,8 @@ use crate::memory::{MemFile, fill};
 use crate::outside::{Failed, Shelf, Source};
 use std::marker::Model;
 
-/// Files in memory, without planned failures: an opening fails only where no file has the name, and a read never fails.
+/// Files in memory, without planned failures: an opening fails only where no file has the name, and
+/// a read never fails.
 #[derive(Debug, Drop)]
 pub struct SureShelf {
     folder: Folder,

@@ -8,7 +8,7 @@ use Rattle.grin_meaning.specs.Values.{Datum, Value, Env, World, missing, Answer,
 use Rattle.grin_meaning.specs.Checks.{has_block, is_fetch, is_node_target, is_given, not_delayed, is_bound_well}
 use Rattle.grin_meaning.specs.Run.{act, act_by, code, code_by, arms, arms_by, calls, calls_by, run, run_by, looking, looking_at, choose, spend, spent, passing, places, place_of, cells_of, with_cells, start_words, start_world}
 use Rattle.grin_meaning.specs.Reached.{Called, begins, by_call, Runs, entered, stored, bound, within, chosen, Does, first, last, Tries, of_case, next}
-use Rattle.grin_meaning.specs.Ready.{Any, Inlined, IsInlined, EachAct, EachCode, EachArms, HasBlock, NotFetch, RunsWell}
+use Rattle.grin_meaning.specs.Ready.{IsInlined, EachAct, EachCode, EachArms, HasBlock, NotFetch, RunsWell, inlined_kind}
 use Rattle.grin_meaning.proofs.Checked.{true_not_false, both_true, is_given-so, not_delayed-so, fills-so, all_fill-so}
 
 -- ---- the same where the parts are the same
@@ -73,7 +73,7 @@ module _ (g : Program) (i : List ℕ) (n : ℕ) (inlined : IsInlined g) (well : 
     mutual
       unfolding act EachAct
 
-      act_seen : (env : Env) (d : ℕ) (o : Act) (w : World) → EachAct Inlined Any Any Any o → Does g i n m env d o w → act_by g (calls_by g true m) true env d o w ≡ act g (calls g m) env d o w
+      act_seen : (env : Env) (d : ℕ) (o : Act) (w : World) → EachAct inlined_kind o → Does g i n m env d o w → act_by g (calls_by g true m) true env d o w ≡ act g (calls g m) env d o w
       act_seen env d (unit v) w k r = need_same (value_of g env v) w _ _ (λ x _. looking_same _ w _ _ (fills-so g env v (well.units m d env v w r)) refl)
       act_seen env d (fetch a) w k r = refl
       act_seen env d (fetch_word a x) w k r = refl
@@ -89,7 +89,7 @@ module _ (g : Program) (i : List ℕ) (n : ℕ) (inlined : IsInlined g) (well : 
       act_seen env d (nested b) w k r = code_seen env d b w k.1 (within r)
       act_seen env d fail w k r = refl
 
-      code_seen : (env : Env) (d : ℕ) (b : Code) (w : World) → EachCode Inlined Any Any Any b → Runs g i n m env d b w → code_by g (calls_by g true m) true env d b w ≡ code g (calls g m) env d b w
+      code_seen : (env : Env) (d : ℕ) (b : Code) (w : World) → EachCode inlined_kind b → Runs g i n m env d b w → code_by g (calls_by g true m) true env d b w ≡ code g (calls g m) env d b w
       code_seen env d (end o) w k r = act_seen env d o w k (last r)
       code_seen env d (store cs b) w k r =
           let env' : Env = with_vars (places (length w.cells) cs) env in
@@ -97,7 +97,7 @@ module _ (g : Program) (i : List ℕ) (n : ℕ) (inlined : IsInlined g) (well : 
       code_seen env d (bind t o b) w k r = then_after _ _ _ _ (act_seen env (suc d) o w k.1 (first r)) (λ v w' e.
           looking_same _ w' _ _ (bound_well m d env t o b w w' v r e) (need_same (bindings_of g t v) w' _ _ (λ bs e'. code_seen (with_vars bs env) d b (passing (with_vars bs env) w') k.2 (bound r e e'))))
 
-      arms_seen : (env : Env) (d : ℕ) (v : Value) (as' : Arms) (w : World) → EachArms Inlined Any Any Any as' → Tries g i n m env d v as' w → arms_by g (calls_by g true m) true env d v as' w ≡ arms g (calls g m) env d v as' w
+      arms_seen : (env : Env) (d : ℕ) (v : Value) (as' : Arms) (w : World) → EachArms inlined_kind as' → Tries g i n m env d v as' w → arms_by g (calls_by g true m) true env d v as' w ≡ arms g (calls g m) env d v as' w
       arms_seen env d v no_arm w k r = refl
       arms_seen env d v (arm s b as') w k r = choose_same (fit_of g s v) w _ _ _ _
           (λ bs e. code_seen (with_vars bs env) d b (passing (with_vars bs env) w) k.1 (chosen r e)) (λ e. arms_seen env d v as' w k.2 (next r e))
@@ -115,7 +115,7 @@ module _ (g : Program) (i : List ℕ) (n : ℕ) (inlined : IsInlined g) (well : 
     by = λ f xs d w r. spend_same w.left w _ _ (λ u el. need_same (slice_get g.procs f) w _ _ (λ q eq. need_same (one_each q.params xs) w _ _ (λ bs eb.
         let env : Env = with_vars bs (λ y. None) in
         let same : code_by g (calls_by g true m) true env d q.body (passing env (spent f d u w)) ≡ code g (calls g m) env d q.body (passing env (spent f d u w))
-        = code_seen m (calls_seen m) env d q.body (passing env (spent f d u w)) (all_get (λ q. EachCode Inlined Any Any Any q.body) g.procs f q inlined eq) (entered r el eq eb) in
+        = code_seen m (calls_seen m) env d q.body (passing env (spent f d u w)) (all_get (λ q. EachCode inlined_kind q.body) g.procs f q inlined eq) (entered r el eq eb) in
         ap (looking_at true (is_given g)) same ∙ given_same _ _ (λ v w' e. is_given-so g v (well.results (suc m) f d xs w w' v r (enters m f d u xs w q bs el eq eb ∙ e))))));
   }
 

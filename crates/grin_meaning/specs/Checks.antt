@@ -80,7 +80,9 @@ module _ (p : Program) where
   all_fill env [] = true
   all_fill env (c ∷ cs) = fills env c.val && all_fill env cs
 
-  -- what a bound operation gives its target: a block gives as a procedure does, and no node variable that a fetch does not
-  -- fill gets a delayed call
+  -- what a bound operation gives its target: a block gives as a procedure does, and no node
+  -- variable that a fetch does not fill gets a delayed call
   abbrev pub is_bound_well : Target → Act → Value → Bool
-  is_bound_well t o v = cond (has_block o) (is_given v) true && cond (is_node_target t && not (is_fetch o)) (not_delayed v) true
+  is_bound_well t o v =
+      cond (has_block o) (is_given v) true
+      && cond (is_node_target t && not (is_fetch o)) (not_delayed v) true

@@ -1,6 +1,7 @@
--- The run that looks: something is missing in it, beside where it is in a run, where a procedure, a bound case or a bound nested
--- block gives a delayed call or a number without its zeros, where a delayed call goes into a node variable that no fetch fills,
--- and where a vector that a unit, a store or an update takes has more than zeros past its tag's fields.
+-- The run that looks: something is missing in it, beside where it is in a run, where a procedure, a
+-- bound case or a bound nested block gives a delayed call or a number without its zeros, where a
+-- delayed call goes into a node variable that no fetch fills, and where a vector that a unit, a
+-- store or an update takes has more than zeros past its tag's fields.
 use Rattle.std.specs.Prelude.{ℕ, ◌≡◌, ◌≢◌, List, true}
 use Rattle.grin_syntax.specs.Tree.{Program}
 use Rattle.grin_meaning.specs.Values.{Answer, missing}
@@ -18,7 +19,8 @@ NeverMissing g = (i : List ℕ) (n : ℕ) → end_of (run g i n) ≢ ended missi
 abbrev pub NeverMissed : Program → Type 0
 NeverMissed g = (i : List ℕ) (n : ℕ) → end_of (look g i n) ≢ ended missing
 
--- a looking run of an inlined program is never missing exactly where its runs are well and never missing, and then it is the run
+-- a looking run of an inlined program is never missing exactly where its runs are well and never
+-- missing, and then it is the run
 pub record LooksWell (g : Program) : Type 0 where
   pub sees : NeverMissing g → ((i : List ℕ) (n : ℕ) → RunsWell g i n) → NeverMissed g
   pub never_missing : NeverMissed g → NeverMissing g

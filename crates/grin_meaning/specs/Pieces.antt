@@ -1,4 +1,5 @@
--- What stands in the text of a program: operations, targets, values and patterns of some kind, and how wide they are.
+-- What stands in the text of a program: operations, targets, values and patterns of some kind, and
+-- how wide they are.
 use Rattle.std.specs.Prelude.{ℕ, ◌≡◌, ◌≤◌, max, List, [], ◌∷◌, length}
 use Rattle.grin_syntax.specs.declared.program.TagKind.{TagKind}
 use Rattle.grin_syntax.specs.declared.program.TagKind.TheVariants as kind
@@ -7,32 +8,49 @@ use Rattle.grin_syntax.specs.declared.program.Val as V
 use Rattle.grin_syntax.specs.declared.program.Val.TheVariants.{NodeVar, Node, Vector, One}
 use Rattle.grin_syntax.specs.declared.program.Target as T
 use Rattle.grin_syntax.specs.declared.program.Target.TheVariants as to
-use Rattle.grin_syntax.specs.Tree.{Code, end, store, bind, Act, unit, fetch, update, eval, apply, case, nested, Arms, no_arm, arm, Program}
-use Rattle.grin_syntax.specs.Binders.{shape_vars}
+use Rattle.grin_syntax.specs.Tree.{Code, end, store, bind, Act, unit, fetch, update, eval, apply, case, nested, Arms, no_arm, arm, Procedure, Program}
+use Rattle.grin_syntax.specs.Binders.{shape_vars, target_vars}
 use Rattle.grin_syntax.specs.Formed.{AllOf}
 
--- each operation and target of a piece is of some kind
-module _ (OpOk : Act → Type 0) (TargetOk : T.Target → Type 0) (ValOk : V.Val → Type 0) (ShapeOk : List ℕ → Type 0) where
+-- what may stand in a piece: which operations, targets, values and variables of a pattern
+pub record Kind : Type 1 where
+  pub operation : Act → Type 0
+  pub target : T.Target → Type 0
+  pub value : V.Val → Type 0
+  pub pattern : List ℕ → Type 0
+
+-- whatever it is
+abbrev pub any_kind : Kind
+any_kind = record {
+  operation = λ o. Unit {0};
+  target = λ t. Unit {0};
+  value = λ v. Unit {0};
+  pattern = λ xs. Unit {0};
+}
+
+-- all that stands in a piece is of the kind
+module _ (K : Kind) where
   unfoldable mutual
     pub EachAct : Act → Type 0
-    EachAct (case v as') = OpOk (case v as') × ValOk v × EachArms as'
-    EachAct (nested b) = OpOk (nested b) × EachCode b
-    EachAct (unit v) = OpOk (unit v) × ValOk v
-    EachAct (update w v) = OpOk (update w v) × ValOk v
-    EachAct (apply v w) = OpOk (apply v w) × ValOk v
-    EachAct o = OpOk o
+    EachAct (case v as') = K.operation (case v as') × K.value v × EachArms as'
+    EachAct (nested b) = K.operation (nested b) × EachCode b
+    EachAct (unit v) = K.operation (unit v) × K.value v
+    EachAct (update w v) = K.operation (update w v) × K.value v
+    EachAct (apply v w) = K.operation (apply v w) × K.value v
+    EachAct o = K.operation o
 
     pub EachCode : Code → Type 0
     EachCode (end o) = EachAct o
-    EachCode (store cs b) = AllOf (λ c. ValOk c.val) cs × EachCode b
-    EachCode (bind t o b) = TargetOk t × EachAct o × EachCode b
+    EachCode (store cs b) = AllOf (λ c. K.value c.val) cs × EachCode b
+    EachCode (bind t o b) = K.target t × EachAct o × EachCode b
 
     pub EachArms : Arms → Type 0
     EachArms no_arm = Unit {0}
-    EachArms (arm s b as') = ShapeOk (shape_vars s) × EachCode b × EachArms as'
+    EachArms (arm s b as') = K.pattern (shape_vars s) × EachCode b × EachArms as'
 
-abbrev pub Any : {A : Type 0} → A → Type 0
-Any a = Unit {0}
+-- all that stands in the procedures of a program is of the kind
+abbrev pub EachBody : Kind → List Procedure → Type 0
+EachBody K = AllOf (λ q. EachCode K q.body)
 
 -- no eval and no apply
 abbrev pub Inlined : Act → Type 0
@@ -40,10 +58,16 @@ Inlined (eval w) = ⊥
 Inlined (apply v w) = ⊥
 Inlined _ = Unit {0}
 
+abbrev pub inlined_kind : Kind
+inlined_kind = record any_kind { operation = Inlined }
+
 -- no fetch of a whole node
 abbrev pub ByWords : Act → Type 0
 ByWords (fetch w) = ⊥
 ByWords _ = Unit {0}
+
+abbrev pub by_words_kind : Kind
+by_words_kind = record any_kind { operation = ByWords }
 
 abbrev pub NoNodeTarget : T.Target → Type 0
 NoNodeTarget (to.Node x) = ⊥
@@ -56,15 +80,26 @@ NoNodeVar _ = Unit {0}
 abbrev pub BindsNothing : List ℕ → Type 0
 BindsNothing xs = xs ≡ []
 
-abbrev pub IsInlined : Program → Type 0
-IsInlined g = AllOf (λ q. EachCode Inlined Any Any Any q.body) g.procs
-
 -- no node variable, and no pattern that binds a variable
+abbrev pub vectorised_kind : Kind
+vectorised_kind = record any_kind {
+  target = NoNodeTarget;
+  value = NoNodeVar;
+  pattern = BindsNothing;
+}
+
+-- no operation goes to more than so many variables
+abbrev pub narrow_kind : ℕ → Kind
+narrow_kind most = record any_kind { target = λ t. length (target_vars t) ≤ most }
+
+abbrev pub IsInlined : Program → Type 0
+IsInlined g = EachBody inlined_kind g.procs
+
 abbrev pub IsVectorised : Program → Type 0
-IsVectorised g = AllOf (λ q. EachCode Any NoNodeTarget NoNodeVar BindsNothing q.body) g.procs
+IsVectorised g = EachBody vectorised_kind g.procs
 
 abbrev pub IsFetchedByWords : Program → Type 0
-IsFetchedByWords g = AllOf (λ q. EachCode ByWords Any Any Any q.body) g.procs
+IsFetchedByWords g = EachBody by_words_kind g.procs
 
 -- the largest number of fields of these tags, and of those that stand for values
 abbrev pub most_fields : List Tag → ℕ
@@ -79,7 +114,8 @@ abbrev pub most_value_fields : List Tag → ℕ
 most_value_fields [] = 0
 most_value_fields (t ∷ ts) = max (value_fields t.kind t.fields) (most_value_fields ts)
 
--- how many words an operation at the end of a block gives, where a node counts as so many; a call gives what its procedure does
+-- how many words an operation at the end of a block gives, where a node counts as so many; a call
+-- gives what its procedure does
 abbrev pub val_width : ℕ → V.Val → ℕ
 val_width node_width (NodeVar x) = node_width
 val_width node_width (Node t ws) = node_width
@@ -102,4 +138,5 @@ unfoldable mutual
 
   pub NarrowArms : ℕ → ℕ → Arms → Type 0
   NarrowArms node_width most no_arm = Unit {0}
-  NarrowArms node_width most (arm s b as') = NarrowCode node_width most b × NarrowArms node_width most as'
+  NarrowArms node_width most (arm s b as') =
+      NarrowCode node_width most b × NarrowArms node_width most as'

@@ -1,4 +1,5 @@
--- What the passes after the inlining need of their input: what stands in its text, and what holds in its runs.
+-- What the passes after the inlining need of their input: what stands in its text, and what holds
+-- in its runs.
 use Rattle.std.specs.Prelude.{ℕ, ℤ, pos, suc, ◌+◌, ◌≡◌, ◌≢◌, ◌≤◌, List, ◌∷◌, drop, length, Some, slice_get}
 use Rattle.grin_syntax.specs.declared.program.TagKind.TheVariants as kind
 use Rattle.grin_syntax.specs.declared.program.Tag.{Tag}
@@ -16,7 +17,8 @@ use Rattle.grin_meaning.specs.Values.{Datum, number, tag, Value, Env, World, mis
 use Rattle.grin_meaning.specs.Run.{act, calls, run, places}
 use Rattle.grin_meaning.specs.Keeps.{ended, end_of}
 use Rattle.grin_meaning.specs.Reached.{Called, Runs, Does}
-unfoldable pub use Rattle.grin_meaning.specs.Pieces.{EachAct, EachCode, EachArms, Any, Inlined, ByWords, NoNodeTarget, NoNodeVar, BindsNothing, IsInlined, IsVectorised, IsFetchedByWords, most_fields, value_fields, most_value_fields, val_width, NarrowAct, NarrowCode, NarrowArms}
+pub use Rattle.grin_meaning.specs.Pieces.{Kind}
+unfoldable pub use Rattle.grin_meaning.specs.Pieces.{any_kind, EachAct, EachCode, EachArms, EachBody, Inlined, inlined_kind, ByWords, by_words_kind, NoNodeTarget, NoNodeVar, BindsNothing, vectorised_kind, narrow_kind, IsInlined, IsVectorised, IsFetchedByWords, most_fields, value_fields, most_value_fields, val_width, NarrowAct, NarrowCode, NarrowArms}
 
 module _ (g : Program) where
   -- a node with this tag is a delayed call
@@ -43,7 +45,9 @@ module _ (g : Program) where
 
   -- a vector with a tag: no word but zeros past that tag's fields
   abbrev pub Filled : List Datum → Type 0
-  Filled ds = (t k : ℕ) (rest : List Datum) → ds ≡ tag t ∷ rest → fields_of g t ≡ Some k → AllZero (drop k rest)
+  Filled ds =
+      (t k : ℕ) (rest : List Datum) → ds ≡ tag t ∷ rest → fields_of g t ≡ Some k
+      → AllZero (drop k rest)
 
   abbrev pub ValFilled : Env → V.Val → Type 0
   ValFilled env (Vector ws) = (ds : List Datum) → words_of g env ws ≡ Some ds → Filled ds
@@ -61,14 +65,23 @@ module _ (g : Program) where
   -- in the run on input i with n units
   pub record RunsWell (i : List ℕ) (n : ℕ) : Type 0 where
     -- a node variable that no fetch binds holds no delayed call
-    pub node_variables : (m d : ℕ) (env : Env) (x : VarId) (o : Act) (b : Code) (w w' : World) (v : Value) → Runs g i n m env d (bind (to.Node x) o b) w → NotFetch o → act g (calls g m) env (suc d) o w ≡ gives v w' → NotDelayed v
+    pub node_variables : (m d : ℕ) (env : Env) (x : VarId) (o : Act) (b : Code)
+        (w w' : World) (v : Value) → Runs g i n m env d (bind (to.Node x) o b) w → NotFetch o
+        → act g (calls g m) env (suc d) o w ≡ gives v w' → NotDelayed v
     -- what a procedure, a bound case and a bound nested block give
-    pub results : (m f d : ℕ) (xs : List Datum) (w w' : World) (v : Value) → Called g i n m f xs d w → calls g m f xs d w ≡ gives v w' → Given v
-    pub blocks : (m d : ℕ) (env : Env) (t : T.Target) (o : Act) (b : Code) (w w' : World) (v : Value) → Runs g i n m env d (bind t o b) w → HasBlock o → act g (calls g m) env (suc d) o w ≡ gives v w' → Given v
+    pub results : (m f d : ℕ) (xs : List Datum) (w w' : World) (v : Value)
+        → Called g i n m f xs d w → calls g m f xs d w ≡ gives v w' → Given v
+    pub blocks : (m d : ℕ) (env : Env) (t : T.Target) (o : Act) (b : Code)
+        (w w' : World) (v : Value) → Runs g i n m env d (bind t o b) w → HasBlock o
+        → act g (calls g m) env (suc d) o w ≡ gives v w' → Given v
     -- the vectors that units, updates and stores take
-    pub units : (m d : ℕ) (env : Env) (v : V.Val) (w : World) → Does g i n m env d (unit v) w → ValFilled env v
-    pub updates : (m d : ℕ) (env : Env) (a : W.Word) (v : V.Val) (w : World) → Does g i n m env d (update a v) w → ValFilled env v
-    pub stores : (m d : ℕ) (env : Env) (cs : List Cell) (b : Code) (w : World) → Runs g i n m env d (store cs b) w → AllOf (λ c. ValFilled (with_vars (places (length w.cells) cs) env) c.val) cs
+    pub units : (m d : ℕ) (env : Env) (v : V.Val) (w : World)
+        → Does g i n m env d (unit v) w → ValFilled env v
+    pub updates : (m d : ℕ) (env : Env) (a : W.Word) (v : V.Val) (w : World)
+        → Does g i n m env d (update a v) w → ValFilled env v
+    pub stores : (m d : ℕ) (env : Env) (cs : List Cell) (b : Code) (w : World)
+        → Runs g i n m env d (store cs b) w
+        → AllOf (λ c. ValFilled (with_vars (places (length w.cells) cs) env) c.val) cs
 
 -- what all passes after the inlining need
 pub record Ready (g : Program) : Type 0 where

@@ -112,12 +112,14 @@ module _ (p : Program) where
 
   -- the cells of a group, once their variables stand for their places
   abbrev pub cells_of : Env → List Cell → Option (List HeapCell)
-  cells_of env = each (λ c. and_then (node_of p env c.val) (λ n. Some (record { site = c.site.0; node = n })))
+  cells_of env =
+      each (λ c. and_then (node_of p env c.val) (λ n. Some (record { site = c.site.0; node = n })))
 
   module _ (calls : Calls) where
     -- the result of an evaluation goes into the cell
     abbrev pub updated : ℕ → Value → World → Answer
-    updated a v w = need (as_node p v) w (λ n. need (slice_get w.cells a) w (λ c. cond (is_evaluated n) (gives (node n) (with_node a n c w)) (stops missing w)))
+    updated a v w = need (as_node p v) w (λ n. need (slice_get w.cells a) w (λ c.
+        cond (is_evaluated n) (gives (node n) (with_node a n c w)) (stops missing w)))
 
     abbrev pub eval_tag : ℕ → ℕ → Node → Tag → World → Answer
     eval_tag d a n t w = cond (is_fun_kind t.kind)
@@ -125,13 +127,15 @@ module _ (p : Program) where
         (gives (node n) w)
 
     abbrev pub eval_cell : ℕ → ℕ → World → Answer
-    eval_cell d a w = need (slice_get w.cells a) w (λ c. need (slice_get p.tags c.node.tag) w (λ t. eval_tag d a c.node t w))
+    eval_cell d a w = need (slice_get w.cells a) w (λ c.
+        need (slice_get p.tags c.node.tag) w (λ t. eval_tag d a c.node t w))
 
     -- an argument more for a function that waits for some
     abbrev pub apply_part : ℕ → Node → Datum → ℕ → ℕ → World → Answer
     apply_part d n x f zero w = stops missing w
     apply_part d n x f (suc zero) w = calls f (n.fields ++ x ∷ []) d w
-    apply_part d n x f (suc (suc r)) w = need (part_from 0 p.tags f (suc r)) w (λ t. need (made_node p t (n.fields ++ x ∷ [])) w (λ m. gives (node m) w))
+    apply_part d n x f (suc (suc r)) w = need (part_from 0 p.tags f (suc r)) w (λ t.
+        need (made_node p t (n.fields ++ x ∷ [])) w (λ m. gives (node m) w))
 
     abbrev pub apply_node : ℕ → Node → Datum → World → Answer
     apply_node d n x w = need (slice_get p.tags n.tag) w (λ t. cond (is_part_kind t.kind)
@@ -151,13 +155,17 @@ module _ (p : Program) where
         act_by env d (update a v) w = need (and_then (word_of p env a) place_of) w (λ i.
             need (slice_get w.cells i) w (λ c. need (node_of p env v) w (λ n.
             looking looks (fills p env v) w (gives (words []) (with_node i n c w)))))
-        act_by env d (eval a) w = need (and_then (word_of p env a) place_of) w (λ i. eval_cell d i w)
-        act_by env d (apply v a) w = need (node_of p env v) w (λ n. need (word_of p env a) w (λ x. apply_node d n x w))
+        act_by env d (eval a) w =
+            need (and_then (word_of p env a) place_of) w (λ i. eval_cell d i w)
+        act_by env d (apply v a) w =
+            need (node_of p env v) w (λ n. need (word_of p env a) w (λ x. apply_node d n x w))
         act_by env d (call f as') w = need (words_of p env as') w (λ xs. calls f.0 xs d w)
         act_by env d (prim f a b) w = need (word_of p env a) w (λ x. need (word_of p env b) w (λ y.
             need (on_numbers f x y) w (λ v. gives v w)))
-        act_by env d read w = gives (words (number (byte_or_end w.input) ∷ [])) (after_read w.input w)
-        act_by env d (write a) w = need (and_then (word_of p env a) number_of) w (λ k. gives (words []) (written k w))
+        act_by env d read w =
+            gives (words (number (byte_or_end w.input) ∷ [])) (after_read w.input w)
+        act_by env d (write a) w =
+            need (and_then (word_of p env a) number_of) w (λ k. gives (words []) (written k w))
         act_by env d (case v as') w = need (value_of p env v) w (λ x. arms_by env d x as' w)
         act_by env d (nested b) w = code_by env d b w
         act_by env d fail w = stops no_alternative w
@@ -177,7 +185,8 @@ module _ (p : Program) where
         pub arms_by : Env → ℕ → Value → Arms → World → Answer
         arms_by env d v no_arm w = stops missing w
         arms_by env d v (arm s b as') w = choose (fit_of p s v) w
-            (λ bs. code_by (with_vars bs env) d b (passing (with_vars bs env) w)) (arms_by env d v as' w)
+            (λ bs. code_by (with_vars bs env) d b (passing (with_vars bs env) w))
+            (arms_by env d v as' w)
 
     -- what they do in a run that does not look
     unfoldable pub act : Env → ℕ → Act → World → Answer
@@ -196,7 +205,8 @@ module _ (p : Program) where
     calls_by zero f xs d w = stops out_of_units w
     calls_by (suc n) f xs d w = spend w.left w (λ m. need (slice_get p.procs f) w (λ q.
         need (one_each q.params xs) w (λ bs. let env : Env = with_vars bs (λ y. None) in
-        looking_at looks (is_given p) (code_by (calls_by n) looks env d q.body (passing env (spent f d m w))))))
+        looking_at looks (is_given p)
+        (code_by (calls_by n) looks env d q.body (passing env (spent f d m w))))))
 
   unfoldable pub calls : ℕ → Calls
   unfolding calls_by
@@ -204,10 +214,20 @@ module _ (p : Program) where
 
   -- the start: the global cells are there
   abbrev pub global_cells : List HeapCell
-  global_cells = map (λ c. record { site = c.site.0; node = record { tag = c.tag.0; fields = [] } }) p.globals
+  global_cells =
+      map (λ c. record { site = c.site.0; node = record { tag = c.tag.0; fields = [] } }) p.globals
 
   abbrev pub start_world : List ℕ → ℕ → World
-  start_world i n = record { cells = global_cells; out = []; left = n; depth = 0; entered = []; seen = []; input = i; used = 0 }
+  start_world i n = record {
+    cells = global_cells;
+    out = [];
+    left = n;
+    depth = 0;
+    entered = [];
+    seen = [];
+    input = i;
+    used = 0;
+  }
 
   -- the run of the program on the input i with n units, where it looks or not
   unfoldable pub run_by : Bool → List ℕ → ℕ → Answer

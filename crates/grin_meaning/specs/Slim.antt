@@ -1,4 +1,5 @@
--- How large a program is for the back end: its weight, its calls, and the words of a procedure's frame.
+-- How large a program is for the back end: its weight, its calls, and the words of a procedure's
+-- frame.
 --     A node is counted as 14 words, a tag and 13 fields.
 use Rattle.std.specs.Prelude.{ℕ, ◌+◌, ◌*◌, ◌≤◌, List, [], ◌∷◌, length}
 use Rattle.grin_syntax.specs.declared.program.Val as V

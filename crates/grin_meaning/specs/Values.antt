@@ -43,7 +43,9 @@ pub record State : Type 0 where
   pub env : Env
   pub heap : List HeapCell
 
--- how far a run has come: the heap, the bytes written, the units left, the greatest nesting at which one was spent, the procedures entered, the states passed through, one each time variables were bound, the bytes of the input that are left, and how many were taken
+-- how far a run has come: the heap, the bytes written, the units left, the greatest nesting at
+-- which one was spent, the procedures entered, the states passed through, one each time variables
+-- were bound, the bytes of the input that are left, and how many were taken
 pub record World : Type 0 where
   pub cells : List HeapCell
   pub out : List ℕ
@@ -134,12 +136,14 @@ module _ (p : Program) where
 
   -- the node of a tag with words, as many as the tag has fields
   abbrev pub made_node : ℕ → List Datum → Option Node
-  made_node t ds = and_then (fields_of t) (λ k. cond (nat_eq k (length ds)) (Some (record { tag = t; fields = ds })) None)
+  made_node t ds = and_then (fields_of t) (λ k.
+      cond (nat_eq k (length ds)) (Some (record { tag = t; fields = ds })) None)
 
   -- a node, or words that stand for one: a tag with as many words as it has fields
   abbrev pub as_node : Value → Option Node
   as_node (node n) = Some n
-  as_node (words (tag t ∷ ds)) = and_then (fields_of t) (λ k. cond (nat_le k (length ds)) (Some (record { tag = t; fields = take k ds })) None)
+  as_node (words (tag t ∷ ds)) = and_then (fields_of t) (λ k.
+      cond (nat_le k (length ds)) (Some (record { tag = t; fields = take k ds })) None)
   as_node (words _) = None
 
   abbrev pub word_of : Env → W.Word → Option Datum
@@ -153,14 +157,16 @@ module _ (p : Program) where
 
   abbrev pub value_of : Env → V.Val → Option Value
   value_of env (NodeVar x) = env x.0
-  value_of env (Node' t ws) = and_then (words_of env ws) (λ ds. and_then (made_node t.0 ds) (λ n. Some (node n)))
+  value_of env (Node' t ws) =
+      and_then (words_of env ws) (λ ds. and_then (made_node t.0 ds) (λ n. Some (node n)))
   value_of env (Vector ws) = and_then (words_of env ws) (λ ds. Some (words ds))
   value_of env (One w) = and_then (word_of env w) (λ d. Some (words (d ∷ [])))
 
   abbrev pub node_of : Env → V.Val → Option Node
   node_of env v = and_then (value_of env v) as_node
 
-  -- what a target binds: a node for a node variable, a word for a variable, a word for each variable of a vector, zeros after a node
+  -- what a target binds: a node for a node variable, a word for a variable, a word for each
+  -- variable of a vector, zeros after a node
   abbrev pub bindings_of : Target → Value → Option (List Binding)
   bindings_of Nothing (words []) = Some []
   bindings_of Nothing _ = None

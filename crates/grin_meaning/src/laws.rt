@@ -3,8 +3,8 @@
 ghost use Rattle.grin_meaning.specs.Looking.{LookingIsRunningWell};
 ghost use Rattle.grin_meaning.specs.Full.{NodesAreFull};
 
-/// A law: the looking run of a program without eval and apply is never missing exactly where its runs are well and never
-/// missing, and then it is the run.
+/// A law: the looking run of a program without eval and apply is never missing exactly where its
+/// runs are well and never missing, and then it is the run.
 #[tactic(auto, using(crate::proofs::Looked::looking_law))]
 pub fn looking_is_running_well()
     ensures { LookingIsRunningWell }

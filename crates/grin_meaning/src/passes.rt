@@ -9,13 +9,14 @@ ghost use Rattle.grin_meaning.specs.Laws.{KeepingComposes};
 use grin_syntax::Grin;
 use std::alloc::{AllocError, Global};
 
-/// A pass over programs: wherever a run of the input is not missing, the answer's run has the same output, end, bytes
-/// taken and units, and no more cells and no greater depth.
+/// A pass over programs: wherever a run of the input is not missing, the answer's run has the same
+/// output, end, bytes taken and units, and no more cells and no greater depth.
 pub trait Pass {
     /// Holds of the programs that it takes; that they are well formed, where the pass needs it.
     ghost takes: { Grin → Type 0 };
 
-    /// Holds of a program and what it makes of it: the shape of the answer, and that it is well formed.
+    /// Holds of a program and what it makes of it: the shape of the answer, and that it is well
+    /// formed.
     ghost gives: { Grin → Grin → Type 0 };
 
     /// The program that this pass makes of `g`, which is dropped where memory is wanting.

@@ -1,5 +1,5 @@
--- What is counted in a piece of a program: its weight, its calls, the words that it needs in a frame,
--- and its size.
+-- What is counted in a piece of a program: its weight, its calls, the words that it needs in a
+-- frame, and its size.
 use Rattle.std.specs.Prelude.{ℕ, ◌+◌, ◌-◌, ◌^◌, min, List, length}
 use Rattle.grin_syntax.specs.declared.program.Val.{Val}
 use Rattle.grin_syntax.specs.declared.program.Target.{Target}
@@ -47,7 +47,9 @@ unfoldable pub of_arms : Arms → Counts
 of_arms as' = counts (arms_weight as') (arms_calls as') (arms_words as') (arms_size as')
 
 abbrev pub of_procedure : Procedure → Counts
-of_procedure q = sum (counts (length q.params) 0 (length q.params) (length q.params)) (of_code q.body)
+of_procedure q =
+    sum (counts (length q.params) 0 (length q.params) (length q.params)) (of_code q.body)
 
 abbrev pub of_procs : List Procedure → Counts
-of_procs qs = counts (procs_weight qs) (procs_calls qs) (total procedure_words qs) (total procedure_size qs)
+of_procs qs =
+    counts (procs_weight qs) (procs_calls qs) (total procedure_words qs) (total procedure_size qs)

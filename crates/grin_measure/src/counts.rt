@@ -6,8 +6,8 @@ ghost use Rattle.grin_measure.specs.Counts.{counts, sum, of_val, of_target, of_c
 
 use grin_syntax::{Cell, Shape, Target, Val};
 
-/// What is counted in a piece of a program: its weight, its calls, the words that it needs in a frame, and its size. A count that passes
-/// the largest number stays there.
+/// What is counted in a piece of a program: its weight, its calls, the words that it needs in a
+/// frame, and its size. A count that passes the largest number stays there.
 #[derive(Clone, Copy, Debug, PartialEq, Eq)]
 pub struct Counts {
     pub weight: u64,

@@ -34,7 +34,8 @@ pub fn sizes_of(g: &Grin) -> Sizes
     }
 }
 
-/// Whether the counts so far, the last procedure's among them, are within what is slim beside a program of these sizes.
+/// Whether the counts so far, the last procedure's among them, are within what is slim beside a
+/// program of these sizes.
 fn is_within(all: Counts, own: Counts, sizes: Sizes) -> bool
     requires program { sizes.program ≤ 131072 }
     requires largest { sizes.largest ≤ 131072 }
@@ -46,7 +47,8 @@ fn is_within(all: Counts, own: Counts, sizes: Sizes) -> bool
         && own.words <= 20 * sizes.largest
 }
 
-/// Whether a program is slim beside one of these sizes. It counts no further than to the first procedure with which it isn't.
+/// Whether a program is slim beside one of these sizes. It counts no further than to the first
+/// procedure with which it isn't.
 pub fn is_slim(g: &Grin, sizes: Sizes) -> bool
     requires program { sizes.program ≤ 131072 }
     requires largest { sizes.largest ≤ 131072 }

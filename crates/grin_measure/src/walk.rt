@@ -9,8 +9,8 @@ ghost use Rattle.grin_measure.specs.Counts.{sum, of_act, of_code, of_arms, of_ce
 use crate::counts::{Counts, called, cell, parameters, pattern, target, val};
 use grin_syntax::{Alt, Block, Cell, Op, Proc, Stmt};
 
-/// The words for the value of an operation: 14 for a call and the fetch of a whole node, which may give any node, and otherwise
-/// this many.
+/// The words for the value of an operation: 14 for a call and the fetch of a whole node, which may
+/// give any node, and otherwise this many.
 fn value_words(op: &Op, otherwise: u64) -> u64
     ensures bound { otherwise ≡ 0 → result ≡ node_words (act_of op.now) }
     ensures last { otherwise ≡ 1 → result ≡ end_words (act_of op.now) }

@@ -53,8 +53,8 @@ before Unbox = Update
 before Raise = Unbox
 before k = k
 
--- what the programs of such a stage are: of vectors, from the first pass on, and without a fetch of a
--- whole node, from the pass on that splits these
+-- what the programs of such a stage are: of vectors, from the first pass on, and without a fetch of
+-- a whole node, from the pass on that splits these
 abbrev pub IsOfStage : PassName → Program → Type 0
 IsOfStage Translate g = ⊥
 IsOfStage Eval g = ⊥
@@ -72,8 +72,8 @@ pub record IsPassedBy (k : PassName) (g h : Program) : Type 0 where
   pub shape : shape_of k g h
   pub keeps : Keeps g h
 
--- The program after the passes up to this one: itself; or it has the pass's shape beside the program
--- before, and keeps what g does.
+-- The program after the passes up to this one: itself; or it has the pass's shape beside the
+-- program before, and keeps what g does.
 pub data IsOptimised (g : Program) : PassName → Program → Type 0 where
   itself : IsOptimised g Apply g
   by_pass : {k : PassName} {h h' : Program} → IsOptimised g (before k) h → shape_of k h h'

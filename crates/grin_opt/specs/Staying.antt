@@ -36,9 +36,9 @@ pub record FromUpdates (g : Program) (k : PassName) (h : Program) : Type 0 where
   pub stage : IsOptimised g Update updated
   pub comes : ComesOf Update updated k h
 
--- At the stage of a pass and at every later one: no eval and no apply, from the inlining on; no node
--- variable, from vectorising on; no fetch of a whole node, from the splitting of fetches on; and no
--- more updates without a literal tag than the stage of updates has.
+-- At the stage of a pass and at every later one: no eval and no apply, from the inlining on; no
+-- node variable, from vectorising on; no fetch of a whole node, from the splitting of fetches on;
+-- and no more updates without a literal tag than the stage of updates has.
 pub record WhatIsOutStaysOut : Type 0 where
   pub inlined : (g h : Program) (k : PassName) → IsTaken g → IsOptimised g k h → IsInlined h
   pub vectorised : (g h : Program) (k : PassName) → IsFrom Vectorise k → IsOptimised g k h

@@ -50,7 +50,8 @@ fn stage_before(pass: PassName) -> PassName
     }
 }
 
-/// The program after the passes after the inlining, up to and with `upto`. `AllocError` where memory is wanting.
+/// The program after the passes after the inlining, up to and with `upto`. `AllocError` where
+/// memory is wanting.
 pub fn optimise(alloc: Global, g: Grin, upto: PassName) -> Result<Grin, AllocError>
     requires taken { IsTaken (program_of g) }
     requires after { IsAfterInlining upto }

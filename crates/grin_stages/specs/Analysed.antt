@@ -22,7 +22,8 @@ pub record IsAnalysisOf (p : Program) (a : Analysis) : Type 0 where
   pub never_missing : NeverMissing (tr p)
   pub fits : Fits p
 
--- a stage, which is well formed and does what the translation does, of a program that is not too large where it is after the translation
+-- a stage, which is well formed and does what the translation does, of a program that is not too
+-- large where it is after the translation
 pub record IsMade (p : Program) (upto : PassName) (g : grin.Program) : Type 0 where
   pub made : IsStage p upto g
   pub formed : Formed g

@@ -21,13 +21,15 @@ use Rattle.grin_stages.specs.declared.refusal.CompileRefusal.TheVariants.{Expand
 abbrev pub Analyses : Program → Solution → Type 0
 Analyses p A = IsLeast (tables (tr p)) (system (tr p)) A
 
--- The translation; then its evaluations are inlined by the least solution, and then its applications too. The stage of a later
--- pass has that pass's shape beside the stage before, and does what the translation does.
+-- The translation; then its evaluations are inlined by the least solution, and then its
+-- applications too. The stage of a later pass has that pass's shape beside the stage before, and
+-- does what the translation does.
 pub data IsStage (p : Program) : PassName → grin.Program → Type 0 where
   translated : IsStage p Translate (tr p)
   evaluations_inlined : {A : Solution} → Analyses p A → IsStage p Eval (eval_inlined A (tr p))
   both_inlined : {A : Solution} → Analyses p A → IsStage p Apply (inlined A (tr p))
-  by_pass : {k : PassName} {g h : grin.Program} → IsStage p (before k) g → shape_of k g h → Keeps (tr p) h → IsStage p k h
+  by_pass : {k : PassName} {g h : grin.Program} → IsStage p (before k) g
+      → shape_of k g h → Keeps (tr p) h → IsStage p k h
 
 -- the size of the program once both are inlined
 pub record HasExpandedSize (p : Program) (size : ℕ) : Type 0 where
@@ -48,12 +50,14 @@ IsLarge p (Memory e) = Unit {0}
 
 -- the stage is after the translation, and rule 36 is broken
 abbrev pub IsTooLarge : Program → PassName → CompileRefusal → Type 0
-IsTooLarge p upto (ExpandedTooLarge size) = (upto ≢ Translate) × HasExpandedSize p size × (131072 < size)
+IsTooLarge p upto (ExpandedTooLarge size) =
+    (upto ≢ Translate) × HasExpandedSize p size × (131072 < size)
 IsTooLarge p upto (Memory e) = Unit {0}
 
 -- a program has one expanded size, so it can't both fit and be too large
 abbrev pub OneExpandedSize : Type 0
-OneExpandedSize = (p : Program) (size size' : ℕ) → HasExpandedSize p size → HasExpandedSize p size' → size ≡ size'
+OneExpandedSize =
+    (p : Program) (size size' : ℕ) → HasExpandedSize p size → HasExpandedSize p size' → size ≡ size'
 
 -- the stages up to the inlining of applications, each of which is given by a function
 abbrev pub UpToInlining : PassName → Type 0
@@ -64,9 +68,13 @@ UpToInlining _ = ⊥
 
 -- each of these stages is one program
 abbrev pub OneStage : Type 0
-OneStage = (p : Program) (upto : PassName) (g h : grin.Program) → UpToInlining upto → IsStage p upto g → IsStage p upto h → g ≡ h
+OneStage =
+    (p : Program) (upto : PassName) (g h : grin.Program) → UpToInlining upto
+    → IsStage p upto g → IsStage p upto h → g ≡ h
 
--- the stage of vectorising is small for the back end, beside the size of the inlined program and that of its largest procedure
+-- the stage of vectorising is small for the back end, beside the size of the inlined program and
+-- that of its largest procedure
 abbrev pub VectorisedIsSlim : Type 0
 VectorisedIsSlim = (p : Program) (h : grin.Program) → IsStage p Vectorise h
-    → (A : Solution) → Analyses p A → Slim (inlined_size A (tr p)) (largest_procedure (inlined A (tr p))) h
+    → (A : Solution) → Analyses p A
+    → Slim (inlined_size A (tr p)) (largest_procedure (inlined A (tr p))) h

@@ -12,7 +12,8 @@ use arity_check::normal::Checked;
 use grin_syntax::{Grin, copy};
 use std::alloc::Global;
 
-/// A program's translation, that with its evaluations inlined, and that with its applications inlined too.
+/// A program's translation, that with its evaluations inlined, and that with its applications
+/// inlined too.
 #[derive(Drop)]
 pub struct InlinedStages {
     pub translated: Grin,
@@ -20,8 +21,8 @@ pub struct InlinedStages {
     pub applied: Grin,
 }
 
-/// The stages of a program up to the inlining of its applications. `ExpandedTooLarge` exactly where the program is over
-/// 131,072 in size once it is inlined.
+/// The stages of a program up to the inlining of its applications. `ExpandedTooLarge` exactly where
+/// the program is over 131,072 in size once it is inlined.
 pub fn inlined_stages(alloc: Global, p: &Checked) -> Result<InlinedStages, CompileRefusal>
     requires { IsValid (program p.now) }
     ensures stages { IfOk result (AreInlined (program p.now)) }

@@ -27,14 +27,16 @@ use vectorised_form::vectorise_takes_inlined;
 /// The largest size that a program may have once its evaluations and applications are inlined.
 const LARGEST_SIZE: u64 = 131_072;
 
-/// A translation that is not too large once it is inlined, and the least solution of its flow system.
+/// A translation that is not too large once it is inlined, and the least solution of its flow
+/// system.
 #[derive(Drop)]
 pub(crate) struct Analysis {
     pub(crate) translation: Grin,
     pub(crate) flow: Flow,
 }
 
-/// Translates and analyses a program. `ExpandedTooLarge` where it is over 131,072 in size once it is inlined.
+/// Translates and analyses a program. `ExpandedTooLarge` where it is over 131,072 in size once it
+/// is inlined.
 pub(crate) fn analyse(alloc: Global, p: &Checked) -> Result<Analysis, CompileRefusal>
     requires { IsValid (program p.now) }
     ensures analysed { IfOk result (IsAnalysisOf (program p.now)) }
@@ -85,7 +87,8 @@ fn applied(alloc: Global, p: &Checked) -> Result<Grin, CompileRefusal>
     Ok(applied)
 }
 
-/// The translation with its evaluations and applications inlined, and the passes after that up to and with `upto`.
+/// The translation with its evaluations and applications inlined, and the passes after that up to
+/// and with `upto`.
 fn optimised(alloc: Global, p: &Checked, upto: PassName) -> Result<Grin, CompileRefusal>
     requires valid { IsValid (program p.now) }
     requires after { IsAfterInlining upto }
@@ -99,8 +102,8 @@ fn optimised(alloc: Global, p: &Checked, upto: PassName) -> Result<Grin, Compile
     Ok(optimised)
 }
 
-/// The program of a stage. `ExpandedTooLarge` exactly where `upto` is after `Translate` and the program is over 131,072 in
-/// size once it is inlined.
+/// The program of a stage. `ExpandedTooLarge` exactly where `upto` is after `Translate` and the
+/// program is over 131,072 in size once it is inlined.
 pub fn stage(alloc: Global, p: &Checked, upto: PassName) -> Result<Grin, CompileRefusal>
     requires { IsValid (program p.now) }
     ensures made { IfOk result (λ g. IsStage (program p.now) upto (program_of g)) }

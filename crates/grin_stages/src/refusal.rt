@@ -9,7 +9,8 @@ use thiserror::Error;
 /// Why an accepted program is not compiled.
 #[derive(Clone, Copy, Debug, Error)]
 pub enum CompileRefusal {
-    /// Rule 36: once its evaluations and applications are inlined the program has this size, which is over 131,072.
+    /// Rule 36: once its evaluations and applications are inlined the program has this size, which
+    /// is over 131,072.
     #[error("the program has size {0} once it is inlined, which is over 131072")]
     ExpandedTooLarge(u64),
     #[error("out of memory")]

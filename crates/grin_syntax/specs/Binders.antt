@@ -73,7 +73,8 @@ abbrev pub procs_sites : List Procedure → List ℕ
 procs_sites [] = []
 procs_sites (q ∷ qs) = code_sites q.body ++ procs_sites qs
 
--- the variables that the procedures of a program bind, and the sites of its global cells and of its stores
+-- the variables that the procedures of a program bind, and the sites of its global cells and of its
+-- stores
 abbrev pub program_vars : Program → List ℕ
 program_vars p = procs_vars p.procs
 

@@ -59,7 +59,8 @@ module _ (p : Program) where
   abbrev pub GlobalKnown : ℕ → Type 0
   GlobalKnown i = i < length p.globals
 
-  -- each variable of a piece is in scope as what it stands for there, a node or a word; and its tags, procedures and globals are those of the program
+  -- each variable of a piece is in scope as what it stands for there, a node or a word; and its
+  -- tags, procedures and globals are those of the program
   module _ (scope : Scope) where
     abbrev pub WordFormed : W.Word → Type 0
     WordFormed (Lit k) = Unit {0}
@@ -97,16 +98,20 @@ module _ (p : Program) where
     ActFormed scope (nested b) = CodeFormed scope b
     ActFormed scope fail = Unit {0}
 
-    -- what a store binds is in scope in all its cells and after it, what an operation binds after it
+    -- what a store binds is in scope in all its cells and after it, what an operation binds after
+    -- it
     pub CodeFormed : Scope → Code → Type 0
     CodeFormed scope (end o) = ActFormed scope o
-    CodeFormed scope (store cs b) = AllOf (CellFormed (with_words (cell_vars cs) scope)) cs × CodeFormed (with_words (cell_vars cs) scope) b
+    CodeFormed scope (store cs b) =
+        AllOf (CellFormed (with_words (cell_vars cs) scope)) cs
+        × CodeFormed (with_words (cell_vars cs) scope) b
     CodeFormed scope (bind t o b) = ActFormed scope o × CodeFormed (with_target t scope) b
 
     -- what a pattern binds, words, is in scope in its alternative
     pub ArmsFormed : Scope → Arms → Type 0
     ArmsFormed scope no_arm = Unit {0}
-    ArmsFormed scope (arm s b as') = ShapeFormed s × CodeFormed (with_words (shape_vars s) scope) b × ArmsFormed scope as'
+    ArmsFormed scope (arm s b as') =
+        ShapeFormed s × CodeFormed (with_words (shape_vars s) scope) b × ArmsFormed scope as'
 
   abbrev pub ProcedureFormed : Procedure → Type 0
   ProcedureFormed q = CodeFormed (params_scope q) q.body
@@ -127,7 +132,8 @@ module _ (p : Program) where
   abbrev pub OnePart : ℕ → ℕ → ℕ → Type 0
   OnePart f r k = (t : Tag) × (filter (is_part f r) p.tags ≡ t ∷ []) × (t.fields ≡ k)
 
-  -- with two or more arguments missing and k fields: the tag with one missing less has one field more
+  -- with two or more arguments missing and k fields: the tag with one missing less has one field
+  -- more
   abbrev pub HasNext : Option ProcId → ℕ → ℕ → Type 0
   HasNext (Some f) (suc (suc r)) k = OnePart f.0 (suc r) (suc k)
   HasNext _ _ k = Unit {0}
@@ -148,12 +154,15 @@ module _ (p : Program) where
     -- each variable is bound at one place of the program, and each site stands at one
     pub variables_once : (x : ℕ) → times x (program_vars p) ≤ 1
     pub sites_once : (s : ℕ) → times s (program_sites p) ≤ 1
-    -- each variable is bound before its uses, and to what it stands for there; and what is named is there
+    -- each variable is bound before its uses, and to what it stands for there; and what is named is
+    -- there
     pub procedures : AllOf ProcedureFormed p.procs
     pub globals : AllOf GlobalFormed p.globals
     pub tags : AllOf TagFormed p.tags
     -- tag 0 is that of a number, its one field
-    pub number_tag : (t : Tag) × (slice_get p.tags 0 ≡ Some t) × (t.kind ≡ kind.Con) × (t.name ≡ codes "Int") × (t.fields ≡ 1)
+    pub number_tag : (t : Tag) × (slice_get p.tags 0 ≡ Some t) × (t.kind ≡ kind.Con)
+        × (t.name ≡ codes "Int") × (t.fields ≡ 1)
     -- the start takes the argument of the run
-    pub start : (q : Procedure) × (slice_get p.procs p.start.0 ≡ Some q) × (length q.params ≡ argument_words p.argument)
+    pub start : (q : Procedure) × (slice_get p.procs p.start.0 ≡ Some q)
+        × (length q.params ≡ argument_words p.argument)
     pub argument : ArgumentKnown p.argument

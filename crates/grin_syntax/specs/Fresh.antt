@@ -1,4 +1,5 @@
--- Variables that a program doesn't bind: those from the first one on that is past all that it binds.
+-- Variables that a program doesn't bind: those from the first one on that is past all that it
+-- binds.
 use Rattle.std.specs.Prelude.{ℕ, zero, suc, max, List, [], ◌∷◌}
 use Rattle.grin_syntax.specs.declared.program.VarId.{VarId}
 use Rattle.grin_syntax.specs.declared.program.Target.{Target}

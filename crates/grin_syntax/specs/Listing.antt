@@ -1,4 +1,5 @@
--- The listing of a program: first a line for each global cell, then each procedure after an empty line.
+-- The listing of a program: first a line for each global cell, then each procedure after an empty
+-- line.
 use Rattle.std.specs.Prelude.{ℕ, suc, List, [], ◌∷◌, ◌++◌, cond, nat_eq, codes, decimal, Option, Some, None, slice_get}
 use Rattle.std.specs.List.{flat_map}
 use Rattle.std.specs.Fmt.{signed_decimal}
@@ -113,7 +114,8 @@ module _ (p : Program) where
     shape_text shape.Else = codes "else"
 
     abbrev pub cell_line : List ℕ → Cell → List ℕ
-    cell_line margin c = margin ++ var_text rank c.var ++ codes " = " ++ val_text c.val ++ codes "\n"
+    cell_line margin c =
+        margin ++ var_text rank c.var ++ codes " = " ++ val_text c.val ++ codes "\n"
 
     -- the first line of an operation
     unfoldable pub first_line : Act → List ℕ
@@ -123,7 +125,8 @@ module _ (p : Program) where
     first_line (update w v) = codes "update " ++ word_text w ++ codes " " ++ val_text v
     first_line (eval w) = codes "eval " ++ word_text w
     first_line (apply v w) = codes "apply " ++ val_text v ++ codes " " ++ word_text w
-    first_line (call f ws) = codes "call " ++ procedure_name (slice_get p.procs f.0) ++ spaced word_text ws
+    first_line (call f ws) =
+        codes "call " ++ procedure_name (slice_get p.procs f.0) ++ spaced word_text ws
     first_line (prim o a b) = operator o ++ codes " " ++ word_text a ++ codes " " ++ word_text b
     first_line read = codes "read"
     first_line (write w) = codes "write " ++ word_text w
@@ -140,12 +143,17 @@ module _ (p : Program) where
 
       pub code_text : List ℕ → Code → List ℕ
       code_text margin (end o) = margin ++ (first_line o ++ codes "\n" ++ rest_text margin o)
-      code_text margin (store cs b) = margin ++ codes "store\n" ++ flat_map (cell_line (deeper margin)) cs ++ code_text margin b
-      code_text margin (bind t o b) = margin ++ target_text rank t ++ (first_line o ++ codes "\n" ++ rest_text margin o) ++ code_text margin b
+      code_text margin (store cs b) =
+          margin ++ codes "store\n" ++ flat_map (cell_line (deeper margin)) cs ++ code_text margin b
+      code_text margin (bind t o b) =
+          margin ++ target_text rank t ++ (first_line o ++ codes "\n" ++ rest_text margin o)
+          ++ code_text margin b
 
       pub arms_text : List ℕ → Arms → List ℕ
       arms_text margin no_arm = []
-      arms_text margin (arm s b as') = margin ++ shape_text s ++ codes " ->\n" ++ code_text (deeper margin) b ++ arms_text margin as'
+      arms_text margin (arm s b as') =
+          margin ++ shape_text s ++ codes " ->\n" ++ code_text (deeper margin) b
+          ++ arms_text margin as'
 
     -- an operation, from its first word to the end of its last line
     abbrev pub act_text : List ℕ → Act → List ℕ
@@ -155,7 +163,8 @@ module _ (p : Program) where
   abbrev pub procedure_text : Procedure → List ℕ
   procedure_text q =
       let rank : ℕ → Option ℕ = λ x. place x (procedure_vars q) in
-      codes "\n" ++ q.name ++ spaced (var_text rank) q.params ++ codes " =\n" ++ code_text rank (codes "  ") q.body
+      codes "\n" ++ q.name ++ spaced (var_text rank) q.params ++ codes " =\n"
+      ++ code_text rank (codes "  ") q.body
 
   abbrev pub listing : List ℕ
   listing = flat_map global_line p.globals ++ flat_map procedure_text p.procs

@@ -17,8 +17,12 @@ alt_vars a = shape_vars a.pattern ++ code_vars (code_of a.body)
 
 module _ (p : Program) (rank : ℕ → Option ℕ) (margin : List ℕ) where
   abbrev pub stmt_text : Stmt → List ℕ
-  stmt_text (Store cells) = margin ++ codes "store\n" ++ flat_map (cell_line p rank (deeper margin)) cells
-  stmt_text (Bind target op) = margin ++ target_text rank target ++ act_text p rank margin (act_of op)
+  stmt_text (Store cells) =
+      margin ++ codes "store\n" ++ flat_map (cell_line p rank (deeper margin)) cells
+  stmt_text (Bind target op) =
+      margin ++ target_text rank target ++ act_text p rank margin (act_of op)
 
   abbrev pub alt_text : Alt → List ℕ
-  alt_text a = margin ++ shape_text p rank a.pattern ++ codes " ->\n" ++ code_text p rank (deeper margin) (code_of a.body)
+  alt_text a =
+      margin ++ shape_text p rank a.pattern ++ codes " ->\n"
+      ++ code_text p rank (deeper margin) (code_of a.body)

@@ -1,4 +1,5 @@
--- What a tag stands for: a constructor, a delayed call of a procedure, or a procedure that lacks arguments.
+-- What a tag stands for: a constructor, a delayed call of a procedure, or a procedure that lacks
+-- arguments.
 use Rattle.std.specs.Prelude.{ℕ, suc, Bool, true, false, cond, nat_eq, ◌&&◌, List, [], ◌∷◌, Option, Some, None}
 use Rattle.grin_syntax.specs.declared.program.TagKind.{TagKind}
 use Rattle.grin_syntax.specs.declared.program.TagKind.TheVariants.{Fun, Part}

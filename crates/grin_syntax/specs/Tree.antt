@@ -1,4 +1,5 @@
--- Programs as trees: a block is its statements, one before the other, and at the end its last operation.
+-- Programs as trees: a block is its statements, one before the other, and at the end its last
+-- operation.
 use Rattle.std.specs.Prelude.{ℕ, List, [], ◌∷◌, map, Option}
 use Rattle.grin_syntax.specs.declared.program.VarId.{VarId}
 use Rattle.grin_syntax.specs.declared.program.ProcId.{ProcId}
@@ -113,4 +114,10 @@ abbrev pub procedure_of : Proc → Procedure
 procedure_of p = record { name = p.name; params = p.params; body = code_of p.body }
 
 abbrev pub program_of : Grin → Program
-program_of g = record { tags = g.tags; globals = g.globals; procs = map procedure_of g.procs; start = g.start; argument = g.argument }
+program_of g = record {
+  tags = g.tags;
+  globals = g.globals;
+  procs = map procedure_of g.procs;
+  start = g.start;
+  argument = g.argument;
+}

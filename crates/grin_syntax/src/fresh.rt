@@ -28,7 +28,8 @@ impl Fresh {
         Fresh { next }
     }
 
-    /// The next variable. Past the numbers of 32 bits there is none, which counts as want of memory.
+    /// The next variable. Past the numbers of 32 bits there is none, which counts as want of
+    /// memory.
     pub fn variable(&mut self) -> Result<VarId, AllocError>
         ensures is { IfOk result (λ x. x ≡ variable self.old.next) }
         ensures next { OnOk result (self.new.next ≡ suc self.old.next) }

@@ -18,9 +18,9 @@ use crate::program::{
 use crate::ranks::{Ranks, ranks};
 use std::alloc::{AllocError, Global};
 
-/// The listing of a program: a line for each global cell, then each procedure after an empty line, its variables named
-/// `v0`, `v1` and so on in the order of the text. Time and memory are linear in the listing, but for the ordered table
-/// of a procedure's variables.
+/// The listing of a program: a line for each global cell, then each procedure after an empty line,
+/// its variables named `v0`, `v1` and so on in the order of the text. Time and memory are linear in
+/// the listing, but for the ordered table of a procedure's variables.
 pub fn list(alloc: Global, g: &Grin) -> Result<Vec<u8>, AllocError>
     ensures { IfOk result (λ text. text.items ≡ listing (program_of g.now)) }
 {

@@ -18,8 +18,9 @@ pub struct ProcId(pub u32);
 #[derive(Clone, Copy, Debug, PartialEq, Eq)]
 pub struct TagId(pub u32);
 
-/// The operations on two numbers: the sum, difference and product modulo 2^32, the quotient and the remainder as RISC-V
-/// divides, and whether the first is equal to or less than the second, as 1 or 0.
+/// The operations on two numbers: the sum, difference and product modulo 2^32, the quotient and the
+/// remainder as RISC-V divides, and whether the first is equal to or less than the second, as 1 or
+/// 0.
 #[derive(Clone, Copy, Debug, PartialEq, Eq)]
 pub enum PrimOp {
     Add,

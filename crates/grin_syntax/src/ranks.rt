@@ -17,7 +17,8 @@ use std::collections::BTreeMap;
 /// The rank of each variable of a procedure.
 pub type Ranks = BTreeMap<u32, usize>;
 
-/// The ranks of the variables that a procedure binds: their places, from 0, in the order of its text.
+/// The ranks of the variables that a procedure binds: their places, from 0, in the order of its
+/// text.
 pub fn ranks(alloc: Global, proc: &Proc) -> Result<Ranks, AllocError>
     ensures { IfOk result (λ ranks. tree.get nat_cmp ranks
         ≡ (λ x. place x (procedure_vars (procedure_of proc.now)))) }

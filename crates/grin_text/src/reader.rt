@@ -10,8 +10,9 @@ use grin_syntax::{GlobalCell, Grin, Proc, ProcId, Site, Tag, TagKind};
 use seq::{Seq, Text};
 use std::alloc::{AllocError, Global};
 
-/// The program of a listing. A tag stands for the procedure of its name, if there is one, and the start is given the first
-/// global cell, if it has a parameter. `Malformed` says which line cannot be read.
+/// The program of a listing. A tag stands for the procedure of its name, if there is one, and the
+/// start is given the first global cell, if it has a parameter. `Malformed` says which line cannot
+/// be read.
 pub fn program(alloc: Global, text: &str) -> Result<Grin, ReadError> {
     let all = Lines::of(alloc, text)?;
     let procs = procs(alloc, &all)?;
@@ -41,7 +42,8 @@ fn argument(procs: &Seq<Proc>, start: ProcId) -> Option<u32> {
     }
 }
 
-// The procedures, from the last line to the first, so that what stands below a line is there before it.
+// The procedures, from the last line to the first, so that what stands below a line is there before
+// it.
 fn procs(alloc: Global, all: &Lines) -> Result<Seq<Proc>, ReadError> {
     let mut levels = Levels::new(alloc)?;
     let mut procs = Vec::new(alloc);

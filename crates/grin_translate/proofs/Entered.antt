@@ -18,7 +18,7 @@ use Rattle.grin_translate.specs.declared.tags.Kind.TheVariants.{Number, Waits}
 use Rattle.grin_translate.specs.Tags.{delays, tag, numbers_from, delays_in, is_delayed, delay_params}
 use Rattle.grin_translate.specs.Blocks.{local, temp}
 use Rattle.grin_translate.specs.Translation.{tr, delay_body, byte_body, input_body, fun_body}
-use Rattle.grin_translate.specs.WellFormed.{AllOf, In, FunOk, VarOk, WellFormed}
+use Rattle.grin_translate.specs.WellFormed.{AllOf, InLocals, FunOk, VarOk, WellFormed}
 use Rattle.grin_translate.proofs.Places.{Has, has_number_from}
 use Rattle.grin_translate.proofs.Found.{has_number}
 use Rattle.grin_translate.proofs.Alike.{delay_of, args_of, value_node, Names, IsDelayed, heaps_long, Alike, alike_passing, alike_append, Match, both_give}
@@ -60,10 +60,10 @@ numbers_at (suc n) k (suc j) (a ∷ xs) env e lt =
     let z : k + suc j ≡ suc k + j = omega arith in
     rw z (numbers_at n (suc k) j xs (with_local env k a) (omega (arith, e)) (omega (arith, lt)))
 
-in_numbers_from : (n k x : ℕ) → k ≤ x → x < k + n → In (numbers_from k n) x
+in_numbers_from : (n k x : ℕ) → k ≤ x → x < k + n → InLocals (numbers_from k n) x
 in_numbers_from n k x le lt = of_has (numbers_from k n) (has_number_from n k x le lt)
   where
-    of_has : (ys : List ℕ) → Has x ys → In ys x
+    of_has : (ys : List ℕ) → Has x ys → InLocals ys x
     of_has [] h = h
     of_has (y ∷ ys) (inl e) = inl e
     of_has (y ∷ ys) (inr h) = inr (of_has ys h)

@@ -25,7 +25,7 @@ use Rattle.grin_translate.specs.Tags.{kinds, tag, binds, delays_in, delays_in_br
 use Rattle.grin_translate.specs.Blocks.{local, temp, cell_of, as_act, block, temps}
 use Rattle.grin_translate.specs.Blocks as blocks
 use Rattle.grin_translate.specs.Translation.{tr}
-use Rattle.grin_translate.specs.WellFormed.{AllOf, In, InGroup, HasFields, FormOk, TermOk, BranchesOk}
+use Rattle.grin_translate.specs.WellFormed.{AllOf, InLocals, InGroup, HasFields, FormOk, TermOk, BranchesOk}
 use Rattle.grin_translate.proofs.Places.{Has, true_not_false}
 use Rattle.grin_translate.proofs.Found.{has_number, has_constructor, tags_tell}
 use Rattle.grin_translate.proofs.Alike.{value_kind, value_node, IsValue, value_grows, Heaps, heaps_long, Alike, alike_passing, alike_append, Match, none_accepts, match_then, match_less}
@@ -120,7 +120,7 @@ module _ (p : Program) where
     -- a constructor's branch, where the constructors are told apart already
     con_match : (x : ℕ) (xs : List ℕ) (y : ℕ) (ys : List ℕ) (same : Bool) → nat_eq y x ≡ same → (b : Code) (others : tree.Arms) (S : ℕ → Type 0) (env : core.Env) (d : ℕ) (out : List ℕ) (s : State) (w : World) (genv : Env) (go : core.Env → core'.Answer) (else : core'.Answer)
         → Alike p out s w → Knows p base S (length s.heap) env genv → HasFields p x (length xs) → IsValue p (length s.heap) (Con y ys)
-        → ((env' : core.Env) (genv' : Env) → Alike p out s (passing genv' w) → Knows p base (λ z. S z ⊎ In xs z) (length s.heap) env' genv' → Match p (length s.heap) out (go env') (code (tr p) c genv' d b (passing genv' w)))
+        → ((env' : core.Env) (genv' : Env) → Alike p out s (passing genv' w) → Knows p base (λ z. S z ⊎ InLocals xs z) (length s.heap) env' genv' → Match p (length s.heap) out (go env') (code (tr p) c genv' d b (passing genv' w)))
         → Match p (length s.heap) out else (arms (tr p) c genv d (node (value_node p (Con y ys))) others w)
         → Match p (length s.heap) out (elim same [ true ↦ go (with_locals env xs ys) | false ↦ else ])
         (choose (cond same (fields_fit (map (local p base) xs) (map cell ys)) fits_not) w (λ bs. code (tr p) c (with_vars bs genv) d b (passing (with_vars bs genv) w)) (arms (tr p) c genv d (node (value_node p (Con y ys))) others w))
@@ -163,7 +163,7 @@ module _ (p : Program) where
       select_match (OnCon x xs e rest) (Con y ys) S env u t d out s w genv al k ok waits g at =
           rw (tags_tell p (value_kind p (Con y ys)) (Constructor x) (kind_there p (length s.heap) (Con y ys) g) (has_constructor p x (length xs) ok.0))
           (con_match x xs y ys (nat_eq y x) refl (block p base t e) (blocks.arms p base (temp p base u) (t + temps e) rest) S env d out s w genv (λ env. eval p o e env d s) (select p o rest (Con y ys) env d s) al k ok.0 g
-          (λ env' genv' al' k'. eval_match e (λ z. S z ⊎ In xs z) env' t d out s _ genv' al' k' ok.1 (λ d i. waits d (or_first _ _ i)))
+          (λ env' genv' al' k'. eval_match e (λ z. S z ⊎ InLocals xs z) env' t d out s _ genv' al' k' ok.1 (λ d i. waits d (or_first _ _ i)))
           (select_match rest (Con y ys) S env u (t + temps e) d out s w genv al k ok.2 (λ d i. waits d (or_second (delays_in d e) _ i)) g at))
       select_match (OnInt i e rest) (Int j) S env u t d out s w genv al k ok waits g at =
           rw (tag_zero Number (has_number p))

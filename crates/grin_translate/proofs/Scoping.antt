@@ -25,7 +25,7 @@ use Rattle.grin_translate.specs.Tags.{binds, is_delayed, tag}
 use Rattle.grin_translate.specs.Blocks.{local, temp, word, cell_of}
 use Rattle.grin_translate.specs.Blocks as blocks
 use Rattle.grin_translate.specs.Translation.{tr, global_cells}
-use Rattle.grin_translate.specs.WellFormed.{AllOf, In, InGroup, HasParams, VarOk, FormOk}
+use Rattle.grin_translate.specs.WellFormed.{AllOf, InLocals, InGroup, HasParams, VarOk, FormOk}
 use Rattle.grin_translate.proofs.Places.{Has, true_not_false}
 use Rattle.grin_translate.proofs.Found.{has_applies, has_operates, delay_itself}
 use Rattle.grin_translate.proofs.Alike.{binding_node, Names, IsBinding, Heaps, shared}
@@ -119,7 +119,7 @@ module _ (p : Program) where
     pub record KnowsFields (xs as' : List ℕ) (S : ℕ → Type 0) (n : ℕ) (env : core.Env) (genv : Env) : Type 0 where
       pub bindings : List grin.Binding
       pub is : one_each (map (local p base) xs) (map cell as') ≡ Some bindings
-      pub knows : Knows (λ x. S x ⊎ In xs x) n (with_locals env xs as') (with_vars bindings genv)
+      pub knows : Knows (λ x. S x ⊎ InLocals xs x) n (with_locals env xs as') (with_vars bindings genv)
 
     pub knows_fields : (xs as' : List ℕ) (S : ℕ → Type 0) (n : ℕ) (env : core.Env) (genv : Env) → length as' ≡ length xs → Names p n as' → Knows S n env genv → KnowsFields xs as' S n env genv
     knows_fields [] [] S n env genv e g k = record { bindings = []; is = refl; knows = knows_less out (omega arith) k }
@@ -137,7 +137,7 @@ module _ (p : Program) where
           knows = knows_less turn (omega arith) rest.knows;
         }
       where
-        turn : (y : ℕ) → S y ⊎ ((y ≡ x) ⊎ In xs y) → (S y ⊎ (y ≡ x)) ⊎ In xs y
+        turn : (y : ℕ) → S y ⊎ ((y ≡ x) ⊎ InLocals xs y) → (S y ⊎ (y ≡ x)) ⊎ InLocals xs y
         turn y (inl s) = inl (inl s)
         turn y (inr (inl e)) = inl (inr e)
         turn y (inr (inr i)) = inr i

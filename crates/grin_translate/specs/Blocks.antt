@@ -61,8 +61,8 @@ abbrev mutual
   branch_temps (OnInt k e rest) = temps e + branch_temps rest
   branch_temps (OnAny x e rest) = temps e
 
--- In a procedure whose variables are numbered from `base` on, the locals have every other number, and the values between
--- operations have the numbers between these
+-- In a procedure whose variables are numbered from `base` on, the locals have every other number,
+-- and the values between operations have the numbers between these
 module _ (p : Program) (base : ℕ) where
   abbrev pub local : ℕ → VarId
   local x = record { 0 = base + 2 * x }
@@ -93,7 +93,8 @@ module _ (p : Program) (base : ℕ) where
   -- the node v is given these words, one at a time
   abbrev pub give_block : ℕ → VarId → Word → List Word → Code
   give_block t v a [] = end (apply (NodeVar v) a)
-  give_block t v a (b ∷ bs) = bind (to.Node (temp t)) (apply (NodeVar v) a) (give_block (suc t) (temp t) b bs)
+  give_block t v a (b ∷ bs) =
+      bind (to.Node (temp t)) (apply (NodeVar v) a) (give_block (suc t) (temp t) b bs)
 
   abbrev pub apply_block : ℕ → Word → List Word → Code
   apply_block t x [] = end (eval x)
@@ -125,11 +126,16 @@ module _ (p : Program) (base : ℕ) where
     pub block : ℕ → Term → Code
     block t (App f) = form_block t f
     block t (Let group e) = store (map cell_of group) (block t e)
-    block t (Case e branches) = bind (to.Node (temp t)) (as_act (block (suc t) e)) (end (case (NodeVar (temp t)) (arms (temp t) (suc t + temps e) branches)))
+    block t (Case e branches) =
+        bind (to.Node (temp t)) (as_act (block (suc t) e))
+        (end (case (NodeVar (temp t)) (arms (temp t) (suc t + temps e) branches)))
 
     pub arms : VarId → ℕ → Branches → Arms
     arms v t NoMore = else_fail
-    arms v t (OnCon c xs e rest) = arm (shape.Node (tag p (Constructor c)) (map local xs)) (block t e) (arms v (t + temps e) rest)
+    arms v t (OnCon c xs e rest) =
+        arm (shape.Node (tag p (Constructor c)) (map local xs)) (block t e)
+        (arms v (t + temps e) rest)
     arms v t (OnInt k e rest) = arm (shape.Int k) (block t e) (arms v (t + temps e) rest)
     arms v t (OnAny None e rest) = arm shape.Else (block t e) no_arm
-    arms v t (OnAny (Some x) e rest) = arm shape.Else (store (cell x (NodeVar v) ∷ []) (block t e)) no_arm
+    arms v t (OnAny (Some x) e rest) =
+        arm shape.Else (store (cell x (NodeVar v) ∷ []) (block t e)) no_arm

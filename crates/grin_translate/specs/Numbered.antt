@@ -6,7 +6,8 @@ use Rattle.grin_translate.specs.declared.tags.Delay.{Delay}
 use Rattle.grin_translate.specs.declared.tags.Delay.TheVariants.{Calls, Applies, Operates, Reads}
 use Rattle.grin_translate.specs.Tags.{delays as all_that_waits}
 
--- the first number for each function, where each has as many as it has parameters; and the number after them
+-- the first number for each function, where each has as many as it has parameters; and the number
+-- after them
 abbrev pub starts : ℕ → List ℕ → List ℕ
 starts first [] = []
 starts first (n ∷ ns) = first ∷ starts (first + n) ns

@@ -25,7 +25,8 @@ variable n = record { 0 = n }
 
 -- the cell of a local whose number is x, where variables begin at base
 abbrev pub cell_at : ℕ → ℕ → Val → Cell
-cell_at base x v = record { var = variable (base + 2 * x); site = record { 0 = base + 2 * x }; val = v }
+cell_at base x v =
+    record { var = variable (base + 2 * x); site = record { 0 = base + 2 * x }; val = v }
 
 -- further alternatives before others
 abbrev pub arms_onto : List (Shape × Code) → Arms → Arms
@@ -35,7 +36,9 @@ arms_onto (a ∷ as') rest = arm a.0 a.1 (arms_onto as' rest)
 module _ (p : Program) where
   -- k is the operation's result, which the block gives
   abbrev pub result_of : PrimOp → VarId → VarId → VarId → Code
-  result_of op i j k = bind (to.One k) (prim (operation op) (Var i) (Var j)) (end (unit (Node (tag p Number) (Var k ∷ []))))
+  result_of op i j k =
+      bind (to.One k) (prim (operation op) (Var i) (Var j))
+      (end (unit (Node (tag p Number) (Var k ∷ []))))
 
   -- the word's value is v, and where this is a number it is i in what follows
   abbrev pub evaluated_of : Word → VarId → VarId → Code → Code
@@ -44,18 +47,30 @@ module _ (p : Program) where
   -- the operation o gives a node, which is given these words, one at a time
   abbrev pub given_to : ℕ → ℕ → Act → List Word → Code
   given_to base t o [] = end o
-  given_to base t o (a ∷ as') = bind (to.Node (temp p base t)) o (given_to base (suc t) (apply (NodeVar (temp p base t)) a) as')
+  given_to base t o (a ∷ as') =
+      bind (to.Node (temp p base t)) o
+      (given_to base (suc t) (apply (NodeVar (temp p base t)) a) as')
 
   -- the list of the next byte and of the others: the byte's cell and that of the rest of the input
   abbrev pub more_of : ℕ → Code
   more_of base =
-      store (cell p base 0 (Node (tag p Number) (Var (temp p base 0) ∷ [])) ∷ (cell p base 1 (Node (tag p (Waits Reads)) []) ∷ []))
-      (end (unit (Node (tag p (Constructor (cons p))) (Var (local p base 0) ∷ Var (local p base 1) ∷ []))))
+      store (cell p base 0 (Node (tag p Number) (Var (temp p base 0) ∷ []))
+      ∷ (cell p base 1 (Node (tag p (Waits Reads)) []) ∷ []))
+      (end (unit
+      (Node (tag p (Constructor (cons p))) (Var (local p base 0) ∷ Var (local p base 1) ∷ []))))
 
   -- the global cell of a function, where it has no parameters
   abbrev pub shared_of : ℕ → List GlobalCell
-  shared_of f = if params p f == 0 then record { name = fun_name (slice_get p.funs f); site = record { 0 = f }; tag = tag p (Waits (Calls f)) } ∷ [] else []
+  shared_of f =
+      if params p f == 0 then record {
+        name = fun_name (slice_get p.funs f);
+        site = record { 0 = f };
+        tag = tag p (Waits (Calls f));
+      } ∷ [] else []
 
-  -- the start, where main takes the input; rest is the first number after the variables of what waits
+  -- the start, where main takes the input; rest is the first number after the variables of what
+  -- waits
   abbrev pub start_if : ℕ → List Procedure
-  start_if rest = cond (takes_input p) (procedure p (rest + 10) (codes "@start") 0 (start_body p (rest + 10)) ∷ []) []
+  start_if rest =
+      cond (takes_input p)
+      (procedure p (rest + 10) (codes "@start") 0 (start_body p (rest + 10)) ∷ []) []

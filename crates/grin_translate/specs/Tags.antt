@@ -1,4 +1,5 @@
--- The tags of the translated program. A tag stands for a number, a constructor, what is delayed, or a function that lacks arguments.
+-- The tags of the translated program. A tag stands for a number, a constructor, what is delayed, or
+-- a function that lacks arguments.
 use Rattle.std.specs.Prelude.{ℕ, zero, suc, ◌-◌, Bool, true, false, cond, not, ◌&&◌, ◌||◌, nat_eq, List, [], ◌∷◌, ◌++◌, map, filter, length, codes, decimal, Option, Some, None, slice_get}
 use Rattle.std.specs.List.{list_any}
 use Rattle.arity_check.specs.declared.normal.Con as arity
@@ -98,7 +99,8 @@ fun_name (Some f) = f.name
 
 abbrev pub con_tag : Option arity.Con → Tag
 con_tag None = record { kind = kind.Con; name = []; missing = 0; fields = 0; proc = None }
-con_tag (Some c) = record { kind = kind.Con; name = c.name; missing = 0; fields = c.fields; proc = None }
+con_tag (Some c) =
+    record { kind = kind.Con; name = c.name; missing = 0; fields = c.fields; proc = None }
 
 module _ (p : Program) where
   unfoldable pub is_delayed : Delay → Bool
@@ -116,7 +118,9 @@ module _ (p : Program) where
       ++ cond takes_input (Reads ∷ []) [])
 
   unfoldable pub kinds : List Kind
-  kinds = Number ∷ (map Constructor (numbers_from 0 (length p.cons)) ++ (map Waits delays ++ parts p.funs 0))
+  kinds =
+      Number
+      ∷ (map Constructor (numbers_from 0 (length p.cons)) ++ (map Waits delays ++ parts p.funs 0))
 
   abbrev pub tag : Kind → TagId
   tag k = record { 0 = first_place (same_kind k) kinds }
@@ -137,7 +141,20 @@ module _ (p : Program) where
   delay_params Reads = 0
 
   abbrev pub tag_of : Kind → Tag
-  tag_of Number = record { kind = kind.Con; name = codes "Int"; missing = 0; fields = 1; proc = None }
+  tag_of Number =
+      record { kind = kind.Con; name = codes "Int"; missing = 0; fields = 1; proc = None }
   tag_of (Constructor c) = con_tag (slice_get p.cons c)
-  tag_of (Waits d) = record { kind = kind.Fun; name = delay_name d; missing = 0; fields = delay_params d; proc = Some (proc d) }
-  tag_of (Lacks f r) = record { kind = kind.Part; name = fun_name (slice_get p.funs f); missing = r; fields = params p f - r; proc = Some (proc (Calls f)) }
+  tag_of (Waits d) = record {
+    kind = kind.Fun;
+    name = delay_name d;
+    missing = 0;
+    fields = delay_params d;
+    proc = Some (proc d);
+  }
+  tag_of (Lacks f r) = record {
+    kind = kind.Part;
+    name = fun_name (slice_get p.funs f);
+    missing = r;
+    fields = params p f - r;
+    proc = Some (proc (Calls f));
+  }

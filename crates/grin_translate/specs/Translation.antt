@@ -40,12 +40,18 @@ module _ (p : core.Program) where
   -- the cells of the functions without parameters; a site has the number of its function
   abbrev pub global_cells : List Function → ℕ → List GlobalCell
   global_cells [] f = []
-  global_cells (g ∷ gs) f = (if g.params == 0 then record { name = g.name; site = record { 0 = f }; tag = tag p (Waits (Calls f)) } ∷ [] else []) ++ global_cells gs (suc f)
+  global_cells (g ∷ gs) f =
+      (if g.params == 0 then record {
+        name = g.name;
+        site = record { 0 = f };
+        tag = tag p (Waits (Calls f));
+      } ∷ [] else []) ++ global_cells gs (suc f)
 
   module _ (base : ℕ) where
     -- a procedure of n parameters
     abbrev pub procedure : List ℕ → ℕ → Code → Procedure
-    procedure name n b = record { name = name; params = map (local p base) (numbers_from 0 n); body = b }
+    procedure name n b =
+        record { name = name; params = map (local p base) (numbers_from 0 n); body = b }
 
     abbrev pub fun_body : Option Function → Code
     fun_body None = end fail
@@ -58,8 +64,10 @@ module _ (p : core.Program) where
         (end (case (NodeVar (temp p base 1))
         (arm (shape.Int (negsuc 0)) (end (unit (Node (tag p (Constructor (nil p))) [])))
         (arm shape.Else
-        (store (cell p base 0 (Node (tag p Number) (Var (temp p base 0) ∷ [])) ∷ (cell p base 1 (Node (tag p (Waits Reads)) []) ∷ []))
-        (end (unit (Node (tag p (Constructor (cons p))) (Var (local p base 0) ∷ Var (local p base 1) ∷ [])))))
+        (store (cell p base 0 (Node (tag p Number) (Var (temp p base 0) ∷ []))
+        ∷ (cell p base 1 (Node (tag p (Waits Reads)) []) ∷ []))
+        (end (unit
+        (Node (tag p (Constructor (cons p))) (Var (local p base 0) ∷ Var (local p base 1) ∷ [])))))
         no_arm))))
 
     abbrev pub input_body : Code
@@ -68,17 +76,21 @@ module _ (p : core.Program) where
     -- what is done where a delayed form is forced
     abbrev pub delay_body : Delay → Code
     delay_body (Calls f) = fun_body (slice_get p.funs f)
-    delay_body (Applies m) = form_block p base 0 (flat.Apply (var.Local 0) (map var.Local (numbers_from 1 m)))
+    delay_body (Applies m) =
+        form_block p base 0 (flat.Apply (var.Local 0) (map var.Local (numbers_from 1 m)))
     delay_body (Operates op) = form_block p base 0 (flat.Prim op (var.Local 0) (var.Local 1))
     delay_body Reads = input_body
 
     -- puts out a number, and goes on with the tail
     abbrev pub write_block : Code
-    write_block = bind to.Nothing (write (Var (temp p base 4))) (end (call print (Var (temp p base 2) ∷ [])))
+    write_block =
+        bind to.Nothing (write (Var (temp p base 4))) (end (call print (Var (temp p base 2) ∷ [])))
 
     -- what is done with a head and a tail
     abbrev pub pair_block : Code
-    pair_block = bind (to.Node (temp p base 3)) (eval (Var (temp p base 1))) (on_number p base (temp p base 3) (temp p base 4) write_block)
+    pair_block =
+        bind (to.Node (temp p base 3)) (eval (Var (temp p base 1)))
+        (on_number p base (temp p base 3) (temp p base 4) write_block)
 
     abbrev pub nil_block : Code
     nil_block = end (unit (Node (tag p (Constructor (nil p))) []))
@@ -88,7 +100,8 @@ module _ (p : core.Program) where
     list_block =
         end (case (NodeVar (temp p base 0))
         (arm (shape.Node (tag p (Constructor (nil p))) []) nil_block
-        (arm (shape.Node (tag p (Constructor (cons p))) (temp p base 1 ∷ temp p base 2 ∷ [])) pair_block
+        (arm (shape.Node (tag p (Constructor (cons p))) (temp p base 1 ∷ temp p base 2 ∷ []))
+        pair_block
         else_fail)))
 
     abbrev pub print_body : Code
@@ -96,7 +109,8 @@ module _ (p : core.Program) where
 
     abbrev pub start_body : Code
     start_body =
-        store (cell p base 0 (Node (tag p (Waits Reads)) []) ∷ (cell p base 1 (Node (tag p (Waits (Calls p.main))) (Var (local p base 0) ∷ [])) ∷ []))
+        store (cell p base 0 (Node (tag p (Waits Reads)) [])
+        ∷ (cell p base 1 (Node (tag p (Waits (Calls p.main))) (Var (local p base 0) ∷ [])) ∷ []))
         (end (call print (Var (local p base 1) ∷ [])))
 
   -- the variables of a procedure have so many numbers
@@ -112,7 +126,9 @@ module _ (p : core.Program) where
 
   abbrev pub delayed_procs : ℕ → List Delay → List Procedure
   delayed_procs base [] = []
-  delayed_procs base (d ∷ ds) = procedure base (delay_name p d) (delay_params p d) (delay_body base d) ∷ delayed_procs (base + span d) ds
+  delayed_procs base (d ∷ ds) =
+      procedure base (delay_name p d) (delay_params p d) (delay_body base d)
+      ∷ delayed_procs (base + span d) ds
 
   abbrev pub spans : List Delay → ℕ
   spans [] = 0
@@ -123,7 +139,10 @@ module _ (p : core.Program) where
   rest = length p.funs + spans (delays p)
 
   abbrev pub print_procs : List Procedure
-  print_procs = procedure rest (codes "@print") 1 (print_body rest) ∷ cond (takes_input p) (procedure (rest + 10) (codes "@start") 0 (start_body (rest + 10)) ∷ []) []
+  print_procs =
+      procedure rest (codes "@print") 1 (print_body rest)
+      ∷ cond (takes_input p)
+      (procedure (rest + 10) (codes "@start") 0 (start_body (rest + 10)) ∷ []) []
 
   abbrev pub tr : Program
   tr = record {

@@ -1,2 +1,2 @@
 -- Well-formed programs, as the meaning of Core has them.
-pub use Rattle.core_meaning.specs.WellFormed.{In, InGroup, AllOf, HasFields, HasParams, VarOk, FormOk, TermOk, BranchesOk, FunOk, WellFormed}
+pub use Rattle.core_meaning.specs.WellFormed.{InLocals, InGroup, AllOf, HasFields, HasParams, VarOk, FormOk, TermOk, BranchesOk, FunOk, WellFormed}

@@ -434,7 +434,8 @@ pub fn block(
     }
 }
 
-/// The alternative of a branch of a case on the node v, and whether it is taken for all that comes to it.
+/// The alternative of a branch of a case on the node v, and whether it is taken for all that comes
+/// to it.
 #[cycle(blocks)]
 fn alternative(
     alloc: Global,

@@ -132,7 +132,8 @@ fn waiting_block(
     }
 }
 
-/// The procedure of what waits, whose variables begin with the number `base`, and the first number after its variables.
+/// The procedure of what waits, whose variables begin with the number `base`, and the first number
+/// after its variables.
 pub fn waiting_procedure(
     alloc: Global,
     p: &Checked,

@@ -1,8 +1,9 @@
 //! The translation of a program in normal form to GRIN.
 //!
-//! `translate` gives exactly the program that `specs/Translation` says, with the tags of `specs/Tags` and the blocks of
-//! `specs/Blocks`. `translation_does_as` says that it does what evaluation by need does, and `valid_translation_does_as` that
-//! this holds for each program that breaks no rule. `specs/Lib` names the devices of the proofs apart.
+//! `translate` gives exactly the program that `specs/Translation` says, with the tags of
+//! `specs/Tags` and the blocks of `specs/Blocks`. `translation_does_as` says that it does what
+//! evaluation by need does, and `valid_translation_does_as` that this holds for each program that
+//! breaks no rule. `specs/Lib` names the devices of the proofs apart.
 #![tactic(auto)]
 
 ghost use Rattle.std.specs.Prelude.{◌≡◌, IfOk};

@@ -65,8 +65,8 @@ pub struct Numbers {
     pub shared: u32,
 }
 
-/// Numbers that begin with `first`, and for each function the next one after as many as the function before has parameters;
-/// with the number after the last.
+/// Numbers that begin with `first`, and for each function the next one after as many as the
+/// function before has parameters; with the number after the last.
 fn parts_from(alloc: Global, first: u32, functions: &[Fun]) -> Result<(Vec<u32>, u32), AllocError>
     ensures { IfOk result (λ r. (r.0.items ≡ starts first (map (λ f. f.params) functions.now))
         × (r.1 ≡ after first (map (λ f. f.params) functions.now))) }

@@ -261,7 +261,8 @@ fn more_block(
     )
 }
 
-/// What gives the rest of the input: a list of its next byte and of what follows, or the empty list at its end.
+/// What gives the rest of the input: a list of its next byte and of what follows, or the empty list
+/// at its end.
 pub fn input_block(
     alloc: Global,
     p: &Checked,

@@ -5,8 +5,8 @@ ghost use Rattle.grin_translate.specs.Tags.{same_delay};
 
 use arity_check::normal::PrimOp;
 
-/// What can wait in a cell until it is forced: a call of a function, an application to so many arguments, an operation, or the
-/// rest of the input.
+/// What can wait in a cell until it is forced: a call of a function, an application to so many
+/// arguments, an operation, or the rest of the input.
 #[derive(Clone, Copy, Debug, PartialEq, Eq)]
 pub enum Delay {
     /// A call of the function of this number.
@@ -20,8 +20,8 @@ pub enum Delay {
 }
 
 impl Delay {
-    /// Whether two cells wait for the same: a call of one function, an application to as many arguments, one operation, or the
-    /// rest of the input.
+    /// Whether two cells wait for the same: a call of one function, an application to as many
+    /// arguments, one operation, or the rest of the input.
     pub fn is_same(self, other: Delay) -> bool
         ensures { result ≡ same_delay self other }
     {
@@ -54,7 +54,8 @@ impl Delay {
     }
 }
 
-/// What a tag stands for: a number, a constructor, what waits, or a function that lacks so many of its arguments.
+/// What a tag stands for: a number, a constructor, what waits, or a function that lacks so many of
+/// its arguments.
 #[derive(Clone, Copy, Debug, PartialEq, Eq)]
 pub enum Kind {
     /// A number, its one field.

@@ -1,5 +1,5 @@
-//! The variables of a procedure: every other number from the first one on is a local's, the others are those of values between
-//! operations.
+//! The variables of a procedure: every other number from the first one on is a local's, the others
+//! are those of values between operations.
 
 ghost use Rattle.std.specs.Prelude.{◌≡◌, ◌+◌, ◌*◌, IfOk, OnOk, map};
 ghost use Rattle.grin_translate.specs.Pieces.{variable};

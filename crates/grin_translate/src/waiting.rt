@@ -170,8 +170,8 @@ fn with_input(p: &Checked, found: Vec<Delay>) -> Result<Vec<Delay>, AllocError>
     Ok(found)
 }
 
-/// What waits in a program: a call of each function, the delayed applications and operations that it has, and the rest of the
-/// input where `main` takes it.
+/// What waits in a program: a call of each function, the delayed applications and operations that
+/// it has, and the rest of the input where `main` takes it.
 pub fn delays(alloc: Global, p: &Checked) -> Result<Vec<Delay>, AllocError>
     ensures { IfOk result (λ ds. ds.items ≡ delays (program p.now)) }
 {

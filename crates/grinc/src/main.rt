@@ -7,7 +7,8 @@ use std::env;
 use std::io::ErrorKind;
 use std::process::ExitCode;
 
-/// The words of the command line. `Usage` where one of them isn't UTF-8, and `OutOfMemory` where memory is wanting.
+/// The words of the command line. `Usage` where one of them isn't UTF-8, and `OutOfMemory` where
+/// memory is wanting.
 fn words(runtime: &HostRuntime) -> Result<Line, Status> {
     let mut line = Line::new(runtime.alloc());
     let words = match env::args(runtime) {

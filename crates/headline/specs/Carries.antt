@@ -1,16 +1,17 @@
 -- A meaning that is bounded by units and a machine that is bounded by steps say the same.
 use Rattle.std.specs.Prelude.{◌⊎◌, ◌≡◌, ℕ, zero, suc, ◌+◌, ◌*◌, ◌≤◌, ◌<◌, List, [], ◌∷◌, ◌++◌}
 
--- how a program stands within its units: it goes on, its list has ended, a value is accepted by nothing, or something is missing
--- that no program of ours lacks
+-- how a program stands within its units: it goes on, its list has ended, a value is accepted by
+-- nothing, or something is missing that no program of ours lacks
 pub data End : Type 0 where
   going : End
   done : End
   no_alternative : End
   missing : End
 
--- what a meaning tells: the bytes put out, the end, the number of cells, the greatest depth, and the bytes taken. Depth is
--- counted in nestings of evaluations, or in words of frames where the meaning has frames
+-- what a meaning tells: the bytes put out, the end, the number of cells, the greatest depth, and
+-- the bytes taken. Depth is counted in nestings of evaluations, or in words of frames where the
+-- meaning has frames
 pub record Told : Type 0 where
   pub out : List ℕ
   pub end : End
@@ -18,7 +19,8 @@ pub record Told : Type 0 where
   pub depth : ℕ
   pub used : ℕ
 
--- how a machine stands after its steps: it runs, or it has ended by an exit with a code or by a trap
+-- how a machine stands after its steps: it runs, or it has ended by an exit with a code or by a
+-- trap
 pub data Finish : Type 0 where
   runs : Finish
   exits : (code : ℕ) → Finish
@@ -45,7 +47,8 @@ IsBytes (b ∷ bs) = (b < 256) × IsBytes bs
 abbrev pub Begins : List ℕ → List ℕ → Type 0
 Begins xs ys = (more : List ℕ) × (ys ≡ xs ++ more)
 
--- an end is matched by an exit: 0 for the list's end, 3 for a value that is accepted by nothing, with all of the output
+-- an end is matched by an exit: 0 for the list's end, 3 for a value that is accepted by nothing,
+-- with all of the output
 abbrev pub Matches : End → Told → Seen → Type 0
 Matches going t s = Unit {0}
 Matches done t s = (s.out ≡ t.out) × (s.finish ≡ exits 0)
@@ -56,7 +59,8 @@ Matches missing t s = ⊥
 abbrev pub IsFull : Finish → Type 0
 IsFull f = (f ≡ exits 4) ⊎ (f ≡ exits 5)
 
--- the machine has written what the meaning tells and ended where that has, or it was full on the way there
+-- the machine has written what the meaning tells and ended where that has, or it was full on the
+-- way there
 abbrev pub Reaches : Told → Seen → Type 0
 Reaches t s = (Begins t.out s.out × Matches t.end t s) ⊎ (IsFull s.finish × Begins s.out t.out)
 
@@ -70,11 +74,13 @@ module _ (HeapFull StackFull : Told → Type 0) where
   -- what each finish of the machine says of what n units tell
   abbrev pub Finishes : (ℕ → Told) → (n : ℕ) → Seen → Finish → Type 0
   Finishes told n s runs = Unit {0}
-  Finishes told n s (exits zero) = (s.out ≡ (told n).out) × (s.used ≡ (told n).used) × ((told n).end ≡ done)
+  Finishes told n s (exits zero) =
+      (s.out ≡ (told n).out) × (s.used ≡ (told n).used) × ((told n).end ≡ done)
   Finishes told n s (exits (suc (suc (suc zero)))) =
       (s.out ≡ (told n).out) × (s.used ≡ (told n).used) × ((told n).end ≡ no_alternative)
   Finishes told n s (exits (suc (suc (suc (suc zero))))) = HeapFull (told n) × After told n s.out
-  Finishes told n s (exits (suc (suc (suc (suc (suc zero)))))) = StackFull (told n) × After told n s.out
+  Finishes told n s (exits (suc (suc (suc (suc (suc zero)))))) =
+      StackFull (told n) × After told n s.out
   Finishes told n s (exits _) = ⊥
   Finishes told n s traps = ⊥
 
@@ -84,8 +90,8 @@ module _ (HeapFull StackFull : Told → Type 0) where
     pub used : s.used ≤ (told n).used
     pub finish : Finishes told n s s.finish
 
-  -- the machine carries the meaning: each says what the other says, however far they go, but that the machine may be full; and
-  -- there is no trap and no other exit
+  -- the machine carries the meaning: each says what the other says, however far they go, but that
+  -- the machine may be full; and there is no trap and no other exit
   pub record Carries (told : Meaning) (seen : Machine) : Type 0 where
     pub reaches : (i : List ℕ) → IsBytes i → (n : ℕ) → (m : ℕ) × Reaches (told i n) (seen i m)
     pub comes : (i : List ℕ) → IsBytes i → (m : ℕ) → (n : ℕ) × Comes (told i) n (seen i m)

@@ -6,10 +6,10 @@ use Rattle.grin_syntax.specs.declared.program.Val.{Val}
 use Rattle.grin_syntax.specs.declared.program.Val.TheVariants.{NodeVar, Node, Vector, One}
 use Rattle.grin_syntax.specs.Tree.{Code, end, store, bind, Act, unit, fetch, fetch_word, update, eval, apply, call, prim, read, write, case, nested, fail, Arms, no_arm, arm, Procedure}
 use Rattle.grin_syntax.specs.Formed.{AllOf}
-use Rattle.grin_meaning.specs.Ready.{EachAct, EachCode, EachArms, Any, Inlined, val_width, NarrowAct, NarrowCode, NarrowArms}
+use Rattle.grin_meaning.specs.Ready.{EachAct, EachCode, EachArms, val_width, NarrowAct, NarrowCode, NarrowArms, any_kind, EachBody, inlined_kind}
 use Rattle.inlined_form.proofs.Sorts.{Sorts, nothing_known, vars_sorted, cells_sorted, target_sorted, sort_of, GivenFits, alternative_sorted, ActFits, CodeFits, ArmsFit, ProcedureFits}
 
-all_any : (cs : List Cell) → AllOf (λ c. Any c.val) cs
+all_any : (cs : List Cell) → AllOf (λ c. any_kind.value c.val) cs
 all_any [] = tt
 all_any (c ∷ cs) = (tt, all_any cs)
 
@@ -17,7 +17,7 @@ module _ (ts : List Tag) where
   mutual
     unfolding ActFits EachAct
 
-    act_inlined : (o : Act) (Γ : Sorts) → ActFits ts ⊥ ⊥ Γ o → EachAct Inlined Any Any Any o
+    act_inlined : (o : Act) (Γ : Sorts) → ActFits ts ⊥ ⊥ Γ o → EachAct inlined_kind o
     act_inlined (unit v) Γ h = (tt, tt)
     act_inlined (fetch a) Γ h = tt
     act_inlined (fetch_word a i) Γ h = tt
@@ -32,16 +32,16 @@ module _ (ts : List Tag) where
     act_inlined (nested b) Γ h = (tt, code_inlined b Γ h)
     act_inlined fail Γ h = tt
 
-    code_inlined : (b : Code) (Γ : Sorts) → CodeFits ts ⊥ ⊥ Γ b → EachCode Inlined Any Any Any b
+    code_inlined : (b : Code) (Γ : Sorts) → CodeFits ts ⊥ ⊥ Γ b → EachCode inlined_kind b
     code_inlined (end o) Γ h = act_inlined o Γ h.1
     code_inlined (store cs b) Γ h = (all_any cs, code_inlined b (cells_sorted cs Γ) h.1)
     code_inlined (bind t o b) Γ h = (tt, act_inlined o Γ h.1, code_inlined b (target_sorted t (sort_of o) Γ) h.2)
 
-    arms_inlined : (as' : Arms) (v : Val) (Γ : Sorts) → ArmsFit ts ⊥ ⊥ Γ v as' → EachArms Inlined Any Any Any as'
+    arms_inlined : (as' : Arms) (v : Val) (Γ : Sorts) → ArmsFit ts ⊥ ⊥ Γ v as' → EachArms inlined_kind as'
     arms_inlined no_arm v Γ h = tt
     arms_inlined (arm s b as') v Γ h = (tt, code_inlined b (alternative_sorted ts s v Γ) h.0, arms_inlined as' v Γ h.1)
 
-  pub procs_inlined : (qs : List Procedure) → AllOf (ProcedureFits ts ⊥ ⊥) qs → AllOf (λ q. EachCode Inlined Any Any Any q.body) qs
+  pub procs_inlined : (qs : List Procedure) → AllOf (ProcedureFits ts ⊥ ⊥) qs → EachBody inlined_kind qs
   procs_inlined [] h = tt
   procs_inlined (q ∷ qs) h = (code_inlined q.body (vars_sorted q.params nothing_known) h.0, procs_inlined qs h.1)
 

@@ -11,9 +11,11 @@ use Rattle.flow_system.specs.System.{system}
 use Rattle.flow_system.specs.Tables.{tables}
 use Rattle.grin_translate.specs.Translation.{tr}
 
--- A translated program whose evaluations and applications are inlined by a solution of its flow system is well formed, can be started, and is ready for the passes after.
+-- A translated program whose evaluations and applications are inlined by a solution of its flow
+-- system is well formed, can be started, and is ready for the passes after.
 abbrev pub InlinedProgramsAreReady : Type 0
-InlinedProgramsAreReady = (p : core.Program) → IsValid p → (A : Solution) → Solves (tables (tr p)) (system (tr p)) A
+InlinedProgramsAreReady =
+    (p : core.Program) → IsValid p → (A : Solution) → Solves (tables (tr p)) (system (tr p)) A
     → Formed (inlined A (tr p)) × Started (inlined A (tr p)) × Ready (inlined A (tr p))
 
 -- Whichever tags a solution has, the size of the inlined program is a number of 64 bits.

@@ -5,9 +5,9 @@ ghost use Rattle.inlined_form.specs.Laws.{InlinedProgramsAreReady, InlinedSizesF
 
 use translated_form::valid_translations_are_formed;
 
-/// A translated program whose evaluations and applications are inlined is well formed and ready for the passes after: they find no
-/// evaluation and no application, few parameters, fields and results, no run in which something is missing, and results that are
-/// evaluated nodes.
+/// A translated program whose evaluations and applications are inlined is well formed and ready for
+/// the passes after: they find no evaluation and no application, few parameters, fields and
+/// results, no run in which something is missing, and results that are evaluated nodes.
 pub fn inlined_programs_are_ready()
     ensures { InlinedProgramsAreReady }
 {
@@ -15,7 +15,8 @@ pub fn inlined_programs_are_ready()
     valid_translations_are_formed();
 }
 
-/// The size of a translated program whose evaluations and applications are inlined is a number of 64 bits.
+/// The size of a translated program whose evaluations and applications are inlined is a number of
+/// 64 bits.
 pub fn inlined_sizes_fit()
     ensures { InlinedSizesFit }
 {}

@@ -19,7 +19,8 @@ alternative over k = number 6 k ∷ Branch Ne 5 6 k ∷ number 10 k ∷ Jump 0 o
 abbrev pub alternatives : (over n : ℕ) → List Item
 alternatives over n = pieces (alternative over) n
 
--- x5 gets the value; one without an alternative goes over all of them. Then the program exits with x10
+-- x5 gets the value; one without an alternative goes over all of them. Then the program exits with
+-- x10
 abbrev pub first_items : (count value : ℕ) → List Item
 first_items count value = number 5 value ∷ number 6 count ∷ Branch Geu 5 6 count ∷ []
 

@@ -12,7 +12,8 @@ idle = Plain (OpImm Addi 0 0 (pos 0))
 
 -- label 0, so many idle instructions, the item, so many again, and a last label
 abbrev pub spread : (before after last : ℕ) → Item → List Item
-spread before after last i = (Label 0 ∷ replicate before idle) ++ (i ∷ (replicate after idle ++ Label last ∷ []))
+spread before after last i =
+    (Label 0 ∷ replicate before idle) ++ (i ∷ (replicate after idle ++ Label last ∷ []))
 
 -- the item goes to one of the two labels
 abbrev pub GoesThere : (last : ℕ) → Item → Type 0

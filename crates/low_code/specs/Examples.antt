@@ -6,11 +6,12 @@ use Rattle.low_code.specs.Tree.{Code, prim, load, save, take, put, get, call, jo
 use Rattle.low_code.specs.Values.{no_alternative, out_of_units, missing, heap_full, stack_full, Answer}
 use Rattle.low_code.specs.Run.{run, limited, done, ended, end_of, world_of}
 
--- the start stores the next byte in a new cell and calls `shows` on it; of the word that it gives it writes C where that is the
--- letter B, and else D; then it goes on as `shows`
+-- the start stores the next byte in a new cell and calls `shows` on it; of the word that it gives
+-- it writes C where that is the letter B, and else D; then it goes on as `shows`
 abbrev pub start : Code
 start = get 1 (take (2 ∷ []) (save (Var 2) 1 (Var 1) (call 1 0 (Var 2 ∷ []) (3 ∷ [])
-    (join (4 ∷ []) (choose (arm (record { left = Var 3; right = 66 } ∷ []) (give (Num 67 ∷ [])) (otherwise (give (Num 68 ∷ [])))))
+    (join (4 ∷ []) (choose (arm (record { left = Var 3; right = 66 } ∷ [])
+    (give (Num 67 ∷ [])) (otherwise (give (Num 68 ∷ [])))))
     (put (Var 4) (tail 1 1 (Var 2 ∷ [])))))))
 
 -- writes the byte in a cell, and gives it
@@ -19,7 +20,9 @@ shows = load 11 (Var 10) 1 (put (Var 11) (give (Var 11 ∷ [])))
 
 abbrev pub letters : Code → Program
 letters first = record {
-  procs = record { params = 0 ∷ []; results = 1; body = first } ∷ record { params = 10 ∷ []; results = 1; body = shows } ∷ [];
+  procs =
+      record { params = 0 ∷ []; results = 1; body = first }
+      ∷ record { params = 10 ∷ []; results = 1; body = shows } ∷ [];
   start = 0;
   argument = Some 0;
   globals = 3 ∷ [];
@@ -36,7 +39,9 @@ misplaced = join (4 ∷ []) (tail 1 1 (Var 0 ∷ [])) (give (Var 4 ∷ []))
 
 -- the second test would meet a cell, but the first one fails
 abbrev pub tested : Code
-tested = choose (arm (record { left = Num 1; right = 2 } ∷ record { left = Var 0; right = 0 } ∷ []) (give (Num 1 ∷ [])) (otherwise (give (Num 2 ∷ []))))
+tested =
+    choose (arm (record { left = Num 1; right = 2 } ∷ record { left = Var 0; right = 0 } ∷ [])
+    (give (Num 1 ∷ [])) (otherwise (give (Num 2 ∷ []))))
 
 -- a word of the global cell, which has three
 abbrev pub loaded : ℕ → Code
@@ -64,7 +69,8 @@ pub record Examples : Type 0 where
   pub last_word : end_of (ran (loaded 2) [] 1) ≡ done
   pub index_at_the_width : end_of (ran (loaded 3) [] 1) ≡ ended missing
   pub cell_is_no_byte : end_of (ran (put (Var 0) (give (Num 1 ∷ []))) [] 1) ≡ ended missing
-  pub cell_is_no_number : end_of (ran (prim Add 1 (Var 0) (Num 1) (give (Var 1 ∷ []))) [] 1) ≡ ended missing
+  pub cell_is_no_number : end_of (ran (prim Add 1 (Var 0) (Num 1) (give (Var 1 ∷ []))) [] 1)
+      ≡ ended missing
   pub too_few_results : end_of (ran (give []) [] 1) ≡ ended missing
   pub too_many_arguments : end_of (ran (tail 1 0 (Num 1 ∷ Num 2 ∷ [])) [] 2) ≡ ended missing
   pub fails : end_of (ran fail [] 1) ≡ ended no_alternative

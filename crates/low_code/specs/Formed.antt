@@ -114,13 +114,16 @@ abbrev mutual
   -- each variable is bound before its uses on every way, and globals are in range
   pub Scoped : ℕ → List ℕ → Code → Type 0
   Scoped globals scope (set x a c) = Known globals scope a × Scoped globals (x ∷ scope) c
-  Scoped globals scope (prim f x a b c) = Known globals scope a × Known globals scope b × Scoped globals (x ∷ scope) c
+  Scoped globals scope (prim f x a b c) =
+      Known globals scope a × Known globals scope b × Scoped globals (x ∷ scope) c
   Scoped globals scope (load x a k c) = Known globals scope a × Scoped globals (x ∷ scope) c
-  Scoped globals scope (save a k b c) = Known globals scope a × Known globals scope b × Scoped globals scope c
+  Scoped globals scope (save a k b c) =
+      Known globals scope a × Known globals scope b × Scoped globals scope c
   Scoped globals scope (take xs c) = Scoped globals (xs ++ scope) c
   Scoped globals scope (put a c) = Known globals scope a × Scoped globals scope c
   Scoped globals scope (get x c) = Scoped globals (x ∷ scope) c
-  Scoped globals scope (call f site as' xs c) = AllKnown globals scope as' × Scoped globals (xs ++ scope) c
+  Scoped globals scope (call f site as' xs c) =
+      AllKnown globals scope as' × Scoped globals (xs ++ scope) c
   Scoped globals scope (join xs b c) = Scoped globals scope b × Scoped globals (xs ++ scope) c
   Scoped globals scope (give as') = AllKnown globals scope as'
   Scoped globals scope (tail f site as') = AllKnown globals scope as'
@@ -129,7 +132,8 @@ abbrev mutual
 
   pub ArmsScoped : ℕ → List ℕ → Arms → Type 0
   ArmsScoped globals scope (otherwise c) = Scoped globals scope c
-  ArmsScoped globals scope (arm ts c as') = TestsKnown globals scope ts × Scoped globals scope c × ArmsScoped globals scope as'
+  ArmsScoped globals scope (arm ts c as') =
+      TestsKnown globals scope ts × Scoped globals scope c × ArmsScoped globals scope as'
 
 -- the variables of a procedure
 abbrev pub variables : Procedure → List ℕ
@@ -165,8 +169,8 @@ Starts p None a = ⊥
 Starts p (Some q) None = q.params ≡ []
 Starts p (Some q) (Some i) = (length q.params ≡ 1) × (i < length p.globals)
 
--- no variable and no site of a call stands twice in a program, uses come below what binds them, each procedure and global that
--- is named is there, and literals are words
+-- no variable and no site of a call stands twice in a program, uses come below what binds them,
+-- each procedure and global that is named is there, and literals are words
 pub record Formed (p : Program) : Type 0 where
   pub variables_once : Distinct (all_variables p.procs)
   pub sites_once : Distinct (all_sites p.procs)

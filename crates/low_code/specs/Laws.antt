@@ -10,8 +10,9 @@ use Rattle.low_code.specs.Told.{of_low}
 abbrev pub with_more : ℕ → World → World
 with_more m w = record w { left = w.left + m }
 
--- a run with m more units goes on from where one stood: the output and the procedures entered begin as before, cells, frames
--- and bytes taken are no fewer, and where the first one has ended only the units left differ
+-- a run with m more units goes on from where one stood: the output and the procedures entered begin
+-- as before, cells, frames and bytes taken are no fewer, and where the first one has ended only the
+-- units left differ
 pub record Extends (m : ℕ) (a b : Answer) : Type 0 where
   pub output : Begins (world_of a).out (world_of b).out
   pub entered : Begins (world_of a).entered (world_of b).entered
@@ -30,7 +31,8 @@ abbrev pub OneEntryAUnit : Type 0
 OneEntryAUnit = (p : Program) (frame_words : ℕ → ℕ) (room : Room) (i : List ℕ) (n : ℕ)
     → let w = world_of (run_in p frame_words room i n) in length w.entered + w.left ≡ n
 
--- a is a run with room for so many cells and bytes of frames, b the one without limits: b is a, or a is full on the way to b
+-- a is a run with room for so many cells and bytes of frames, b the one without limits: b is a, or
+-- a is full on the way to b
 pub record Within (cells stack : ℕ) (a b : Answer) : Type 0 where
   pub not_full : end_of a ≢ ended heap_full → end_of a ≢ ended stack_full → a ≡ b
   pub heap_full : end_of a ≡ ended heap_full → cells < length (world_of b).cells
@@ -39,8 +41,8 @@ pub record Within (cells stack : ℕ) (a b : Answer) : Type 0 where
   pub entered : Begins (world_of a).entered (world_of b).entered
   pub used : (world_of a).used ≤ (world_of b).used
 
--- limits change nothing but that a run may be full; where no unit is left, a run without limits and with one unit less has come
--- to no more output
+-- limits change nothing but that a run may be full; where no unit is left, a run without limits and
+-- with one unit less has come to no more output
 abbrev pub LimitsOnlyStop : Type 0
 LimitsOnlyStop = (p : Program) (frame_words : ℕ → ℕ) (cells stack : ℕ) (i : List ℕ) (n : ℕ)
     → let a = limited p frame_words cells stack i n in

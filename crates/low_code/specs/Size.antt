@@ -4,8 +4,8 @@ use Rattle.low_code.specs.Tree.{Code, set, prim, load, save, take, put, get, cal
 use Rattle.low_code.specs.Formed.{calls_in}
 
 abbrev mutual
-  -- a statement, an end of a block, a variable where it is bound and an operand that is not in a test count one each; a put and
-  -- a get eight on top of that; an arm three
+  -- a statement, an end of a block, a variable where it is bound and an operand that is not in a
+  -- test count one each; a put and a get eight on top of that; an arm three
   pub code_size : Code → ℕ
   code_size (set x a c) = 3 + code_size c
   code_size (prim f x a b c) = 4 + code_size c

@@ -1,4 +1,5 @@
--- What a program of low code tells: its output, its end, its cells and the words of its frames; and the procedures it enters.
+-- What a program of low code tells: its output, its end, its cells and the words of its frames; and
+-- the procedures it enters.
 use Rattle.std.specs.Prelude.{ℕ, List, length}
 use Rattle.headline.specs.Carries.{Told, Meaning}
 use Rattle.headline.specs.Carries as told
@@ -16,7 +17,14 @@ told_end (ended heap_full) = told.going
 told_end (ended stack_full) = told.going
 
 abbrev pub told_by : Answer → Told
-told_by a = let w = world_of a in record { out = w.out; end = told_end (end_of a); cells = length w.cells; depth = w.frames; used = w.used }
+told_by a =
+    let w = world_of a in record {
+      out = w.out;
+      end = told_end (end_of a);
+      cells = length w.cells;
+      depth = w.frames;
+      used = w.used;
+    }
 
 -- what a program tells over frames of so many words
 abbrev pub of_low : Program → (frame_words : ℕ → ℕ) → Meaning

@@ -9,11 +9,11 @@ use Rattle.grin_syntax.specs.Formed.{AllOf}
 use Rattle.grin_syntax.specs.Tree as grin_tree
 use Rattle.grin_syntax.specs.Tree.{Act, unit, fetch, fetch_word, update, eval, apply, call, prim, read, write, case, nested, fail}
 use Rattle.grin_meaning.specs.Values as grin
-use Rattle.grin_meaning.specs.Values.{Datum, tag, Node, Value, node, words_of, value_of}
+use Rattle.grin_meaning.specs.Values.{Datum, Node, Value, node, words_of, value_of}
 use Rattle.grin_meaning.specs.Run as grin_run
 use Rattle.grin_meaning.specs.Run.{act_by, looking}
 use Rattle.grin_meaning.specs.Checks.{fills}
-use Rattle.grin_meaning.specs.Ready.{Any, Inlined, NoNodeTarget, NoNodeVar, BindsNothing, EachAct, most_fields}
+use Rattle.grin_meaning.specs.Ready.{NoNodeVar, EachAct, most_fields, inlined_kind, vectorised_kind}
 use Rattle.low_code.specs.declared.program.Operand.{Operand}
 use Rattle.low_code.specs.Tree as low_tree
 use Rattle.low_code.specs.Values as low
@@ -107,7 +107,7 @@ module _ (g : grin_tree.Program) (p : low_tree.Program) (fw : ℕ → ℕ) (most
     fetch_fits _ v pv sv gives = tt
 
     module _ (scope : List ℕ) (below : (x : ℕ) → 0 < times x scope → x < first) (env : grin.Env) (e : low.Env) (w : grin.World) (frames : ℕ) (h : At scope env e w frames) where
-      through_runs : (o : Act) → IsThrough o → EachAct Inlined Any Any Any o → EachAct Any NoNodeTarget NoNodeVar BindsNothing o → PlainRanged o → plain.Lies g p fw most rs first same_globals width wide gcalls lcalls calls_match top under o d
+      through_runs : (o : Act) → IsThrough o → EachAct inlined_kind o → EachAct vectorised_kind o → PlainRanged o → plain.Lies g p fw most rs first same_globals width wide gcalls lcalls calls_match top under o d
           → Giving g rs width most goal (Gives g rs width most o)
           → Matches P goal.words (act_by g gcalls true env d o w) (does e (through width rs goal n o) (world_image width frames w))
       through_runs o th inl' vec r lies gives = subst (λ a. Matches P goal.words a (does e (through width rs goal n o) (world_image width frames w))) (then_gives (act_by g gcalls true env d o w))
@@ -172,7 +172,7 @@ module _ (g : grin_tree.Program) (p : low_tree.Program) (fw : ℕ → ℕ) (most
               (any_match P goal.words _ _ (subst (λ k. Matches (λ v. Unit {0}) k (gcalls f.0 ds d w) (lcalls f.0 (images ds) b.0 (world_image width frames w))) same
               (calls_match f.0 ds d w b.0 frames u.ranged h.sound b.2 h.within)))
 
-      call_ends : (f : ProcId) (ws : List W.Word) → EachAct Inlined Any Any Any (call f ws) → EachAct Any NoNodeTarget NoNodeVar BindsNothing (call f ws) → AllOf WordRanged ws → Giving g rs width most goal (Gives g rs width most (call f ws))
+      call_ends : (f : ProcId) (ws : List W.Word) → EachAct inlined_kind (call f ws) → EachAct vectorised_kind (call f ws) → AllOf WordRanged ws → Giving g rs width most goal (Gives g rs width most (call f ws))
           → Matches P goal.words (act_by g gcalls true env d (call f ws) w) (does e (plain_end width rs goal n (call f ws)) (world_image width frames w))
       unfolding ActGives
       call_ends f ws inl' vec r gives = by goal.leaves refl
@@ -185,7 +185,7 @@ module _ (g : grin_tree.Program) (p : low_tree.Program) (fw : ℕ → ℕ) (most
       unfolding act_by code
       fail_ends = fails h.within
 
-      pub end_runs : (o : Act) → IsPlain o → EachAct Inlined Any Any Any o → EachAct Any NoNodeTarget NoNodeVar BindsNothing o → PlainRanged o → Giving g rs width most goal (Gives g rs width most o)
+      pub end_runs : (o : Act) → IsPlain o → EachAct inlined_kind o → EachAct vectorised_kind o → PlainRanged o → Giving g rs width most goal (Gives g rs width most o)
           → Matches P goal.words (act_by g gcalls true env d o w) (does e (plain_end width rs goal n o) (world_image width frames w))
       unfolding EachAct
       end_runs (unit v) pl inl' vec r gives = unit_ends v vec.1 r gives

@@ -32,5 +32,5 @@ pub mod Numbered
 pub mod Calls
 pub mod Binds
 pub mod Sizes
-pub mod Whole
+pub mod LoweredFormed
 pub mod Endings

@@ -11,7 +11,7 @@ use Rattle.grin_meaning.specs.Values as grin
 use Rattle.grin_meaning.specs.Values.{Datum, Value, words_of}
 use Rattle.grin_meaning.specs.Run as grin_run
 use Rattle.grin_meaning.specs.Run.{act_by}
-use Rattle.grin_meaning.specs.Ready.{Any, Inlined, NoNodeTarget, NoNodeVar, BindsNothing, EachAct, most_fields}
+use Rattle.grin_meaning.specs.Ready.{EachAct, most_fields, inlined_kind, vectorised_kind}
 use Rattle.low_code.specs.Tree as low_tree
 use Rattle.low_code.specs.Values as low
 use Rattle.low_code.specs.Values.{need}
@@ -103,7 +103,7 @@ module _ (g : grin_tree.Program) (p : low_tree.Program) (fw : ℕ → ℕ) (most
       unfolding act_by code
       fail_runs = fails h.within
 
-      pub plain_runs : (o : Act) → IsPlain o → EachAct Inlined Any Any Any o → EachAct Any NoNodeTarget NoNodeVar BindsNothing o → PlainRanged o → Lies o d → Going P k n xs e c goes → Skipping P k xs o goes
+      pub plain_runs : (o : Act) → IsPlain o → EachAct inlined_kind o → EachAct vectorised_kind o → PlainRanged o → Lies o d → Going P k n xs e c goes → Skipping P k xs o goes
           → Matches P k (grin.then_do (act_by g gcalls true env d o w) goes) (does e (plain_code width rs xs n o c) (world_image width frames w))
       unfolding EachAct
       plain_runs (unit v) pl inl' vec r le go skip = m.unit_runs g p fw most rs first same_globals width wide gcalls lcalls top under P k n xs e c goes scope env w frames d apart h v vec.1 r go skip

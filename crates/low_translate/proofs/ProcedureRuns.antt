@@ -7,19 +7,19 @@ use Rattle.grin_syntax.specs.Binders.{times, numbers_of, code_vars, procedure_va
 use Rattle.grin_syntax.specs.Formed.{AllOf}
 use Rattle.grin_syntax.specs.Fresh.{past_procs}
 use Rattle.grin_syntax.specs.Tree as grin_tree
-use Rattle.grin_syntax.specs.Tree.{Code, Procedure}
+use Rattle.grin_syntax.specs.Tree.{Procedure}
 use Rattle.grin_syntax.proofs.Unbound.{past_procs_none}
 use Rattle.grin_meaning.specs.Values as grin
 use Rattle.grin_meaning.specs.Values.{Datum, Value, Binding, with_vars, one_each}
 use Rattle.grin_meaning.specs.Run as grin_run
 use Rattle.grin_meaning.specs.Run.{calls_by, code_by, looking_at, passing, spend}
 use Rattle.grin_meaning.specs.Checks.{is_given, not_delayed, plain_number}
-use Rattle.grin_meaning.specs.Ready.{Any, Inlined, NoNodeTarget, NoNodeVar, BindsNothing, EachCode, IsInlined, IsVectorised, most_fields, most_value_fields}
+use Rattle.grin_meaning.specs.Ready.{EachCode, IsInlined, IsVectorised, most_fields, most_value_fields, inlined_kind, vectorised_kind}
 use Rattle.low_code.specs.Tree as low_tree
 use Rattle.low_code.specs.Values as low
 use Rattle.low_code.specs.Values.{need, no_vars}
 use Rattle.low_code.specs.Run as low_run
-use Rattle.low_code.specs.Run.{code, as_many}
+use Rattle.low_code.specs.Run.{as_many}
 use Rattle.low_translate.specs.Translation.{results_of, procedure_code, procedure_numbers, procedures_code, program_code}
 use Rattle.low_translate.specs.Lowered.{CodeRanged, CodeGives, EachGives}
 use Rattle.low_translate.proofs.Images.{images, word_image, words_of_value, fit, length_fit, world_image, InRange, SoundWorld, none_some, some_same}
@@ -110,8 +110,8 @@ module _ (g : grin_tree.Program) (rs : List ℕ) (fw : ℕ → ℕ) (most : ℕ)
     body_piece : (f : ℕ) (q : Procedure) → slice_get g.procs f ≡ Some q → (number : ℕ) → first ≤ number → CodeGives (1 + most_value_fields g.tags) rs (results_of rs f) q.body
         → blocks.CodePiece g rs width most first (record { words = results_of rs f; leaves = true }) (numbers_of q.params ++ []) number q.body
     body_piece f q e number past gv = record {
-      inlined = all_get (λ q. EachCode Inlined Any Any Any q.body) g.procs f q inlined e;
-      vectorised = all_get (λ q. EachCode Any NoNodeTarget NoNodeVar BindsNothing q.body) g.procs f q vectorised e;
+      inlined = all_get (λ q. EachCode inlined_kind q.body) g.procs f q inlined e;
+      vectorised = all_get (λ q. EachCode vectorised_kind q.body) g.procs f q vectorised e;
       ranged = all_get (λ q. CodeRanged q.body) g.procs f q ranged e;
       gives = λ l. gv;
       scoped = scoped_rest first [] (numbers_of q.params) (code_vars q.body) (scoped_body g once f q e);

@@ -14,7 +14,7 @@ use Rattle.grin_syntax.specs.Binders.{numbers_of, target_vars, shape_vars, cell_
 use Rattle.grin_syntax.specs.Tree as grin
 use Rattle.grin_syntax.specs.Tree.{Act, unit, fetch, fetch_word, update, eval, apply, call, prim, read, write, case, nested, fail, end, store, bind, no_arm, arm}
 use Rattle.grin_syntax.specs.Formed.{AllOf, Scope, with_words, with_target, params_scope, WordFormed, ValFormed, CellFormed, ShapeFormed, ActFormed, CodeFormed, ArmsFormed, ProcedureFormed}
-use Rattle.grin_meaning.specs.Ready.{Any, NoNodeTarget, NoNodeVar, BindsNothing, EachAct, EachCode, EachArms}
+use Rattle.grin_meaning.specs.Ready.{EachAct, EachCode, EachArms, vectorised_kind}
 use Rattle.low_code.specs.declared.program.Operand.{Operand}
 use Rattle.low_code.specs.Tree as low
 use Rattle.low_code.specs.Formed.{AllScoped}
@@ -31,13 +31,13 @@ pattern_small (negsuc k) h = omega arith
 
 -- a piece of a vectorised program
 abbrev pub ActVectorised : Act → Type 0
-ActVectorised = EachAct Any NoNodeTarget NoNodeVar BindsNothing
+ActVectorised = EachAct vectorised_kind
 
 abbrev pub CodeVectorised : grin.Code → Type 0
-CodeVectorised = EachCode Any NoNodeTarget NoNodeVar BindsNothing
+CodeVectorised = EachCode vectorised_kind
 
 abbrev pub ArmsVectorised : grin.Arms → Type 0
-ArmsVectorised = EachArms Any NoNodeTarget NoNodeVar BindsNothing
+ArmsVectorised = EachArms vectorised_kind
 
 more_target : (t : Target) (scope : Scope) (ys : List ℕ) → More scope.words ys → More (target_vars t) ys → More (with_target t scope).words ys
 more_target to.Nothing scope ys m n = m

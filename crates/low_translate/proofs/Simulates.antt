@@ -2,12 +2,12 @@
 use Rattle.std.proofs.Common.{◌≡◌, ◌≤◌, ◌<◌, ℕ, suc, ◌+◌, ◌*◌, true, false, List, ◌++◌, length, Option, Some, None, arith}
 use Rattle.grin_syntax.specs.Binders.{times, target_vars, shape_vars, cell_vars, act_vars, code_vars, arms_vars}
 use Rattle.grin_syntax.specs.Tree as grin_tree
-use Rattle.grin_syntax.specs.Tree.{Act, unit, fetch, fetch_word, update, eval, apply, call, prim, read, write, case, nested, fail, Code, end, store, bind, Arms, no_arm, arm}
+use Rattle.grin_syntax.specs.Tree.{Act, call, case, nested, Code, end, store, bind, Arms, no_arm, arm}
 use Rattle.grin_meaning.specs.Values as grin
 use Rattle.grin_meaning.specs.Values.{Value}
 use Rattle.grin_meaning.specs.Run as grin_run
 use Rattle.grin_meaning.specs.Run.{act_by, code_by, arms_by, passing}
-use Rattle.grin_meaning.specs.Ready.{Any, Inlined, NoNodeTarget, NoNodeVar, BindsNothing, EachAct, EachCode, EachArms, most_fields, most_value_fields}
+use Rattle.grin_meaning.specs.Ready.{EachAct, EachCode, EachArms, most_fields, most_value_fields, inlined_kind, vectorised_kind}
 use Rattle.low_code.specs.declared.program.Operand.{Operand}
 use Rattle.low_code.specs.Tree as low_tree
 use Rattle.low_code.specs.Values as low
@@ -41,13 +41,13 @@ module _ (g : grin_tree.Program) (rs : List ℕ) (width most first : ℕ) where
     pub past : first ≤ n
 
   abbrev pub ActPiece : Goal → List ℕ → ℕ → Act → Type 0
-  ActPiece goal scope n o = Piece (EachAct Inlined Any Any Any o) (EachAct Any NoNodeTarget NoNodeVar BindsNothing o) (ActRanged o) (λ r. ActGives (1 + most_value_fields g.tags) rs r o) goal scope (act_vars o) n
+  ActPiece goal scope n o = Piece (EachAct inlined_kind o) (EachAct vectorised_kind o) (ActRanged o) (λ r. ActGives (1 + most_value_fields g.tags) rs r o) goal scope (act_vars o) n
 
   abbrev pub CodePiece : Goal → List ℕ → ℕ → Code → Type 0
-  CodePiece goal scope n b = Piece (EachCode Inlined Any Any Any b) (EachCode Any NoNodeTarget NoNodeVar BindsNothing b) (CodeRanged b) (λ r. CodeGives (1 + most_value_fields g.tags) rs r b) goal scope (code_vars b) n
+  CodePiece goal scope n b = Piece (EachCode inlined_kind b) (EachCode vectorised_kind b) (CodeRanged b) (λ r. CodeGives (1 + most_value_fields g.tags) rs r b) goal scope (code_vars b) n
 
   abbrev pub ArmsPiece : Goal → List ℕ → ℕ → Arms → Type 0
-  ArmsPiece goal scope n as' = Piece (EachArms Inlined Any Any Any as') (EachArms Any NoNodeTarget NoNodeVar BindsNothing as') (ArmsRanged as') (λ r. ArmsGive (1 + most_value_fields g.tags) rs r as') goal scope (arms_vars as') n
+  ArmsPiece goal scope n as' = Piece (EachArms inlined_kind as') (EachArms vectorised_kind as') (ArmsRanged as') (λ r. ArmsGive (1 + most_value_fields g.tags) rs r as') goal scope (arms_vars as') n
 
   module _ (goal : Goal) (scope : List ℕ) (n : ℕ) where
     after_store : (cs : List _) (b : Code) → CodePiece goal scope n (store cs b) → CodePiece goal (cell_vars cs ++ scope) n b

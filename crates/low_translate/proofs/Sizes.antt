@@ -8,7 +8,7 @@ use Rattle.grin_syntax.specs.Binders.{numbers_of, target_vars, cell_vars}
 use Rattle.grin_syntax.specs.Formed.{AllOf}
 use Rattle.grin_syntax.specs.Tree as grin
 use Rattle.grin_syntax.specs.Tree.{Act, unit, fetch, fetch_word, update, eval, apply, call, prim, read, write, case, nested, fail, end, store, bind, no_arm, arm}
-use Rattle.grin_meaning.specs.Ready.{Any, EachAct, EachCode, EachArms}
+use Rattle.grin_meaning.specs.Ready.{EachAct, EachCode, EachArms, narrow_kind}
 use Rattle.grin_meaning.specs.Slim.{target_weight, act_weight, code_weight, arms_weight, procs_weight}
 use Rattle.low_code.specs.declared.program.Operand.{Operand}
 use Rattle.low_code.specs.Tree as low
@@ -43,13 +43,13 @@ abbrev pub IsFew : Target → Type 0
 IsFew t = length (target_vars t) ≤ 14
 
 abbrev pub ActNarrow : Act → Type 0
-ActNarrow = EachAct Any IsFew Any Any
+ActNarrow = EachAct (narrow_kind 14)
 
 abbrev pub CodeNarrow : grin.Code → Type 0
-CodeNarrow = EachCode Any IsFew Any Any
+CodeNarrow = EachCode (narrow_kind 14)
 
 abbrev pub ArmsNarrow : grin.Arms → Type 0
-ArmsNarrow = EachArms Any IsFew Any Any
+ArmsNarrow = EachArms (narrow_kind 14)
 
 module _ (width : ℕ) (rs : List ℕ) (few_results : (f : ℕ) → results_of rs f ≤ 13) (few_fields : width ≤ 14) where
   call_size : (f n r : ℕ) (as' : List Operand) (xs : List ℕ) (c : low.Code) → code_size (low.call f n as' (take r xs ++ numbers_from (suc n) (r - length xs)) (sets (drop r xs) [] c)) ≡ 1 + length as' + r + 3 * (length xs - r) + code_size c

@@ -1,5 +1,5 @@
--- What the steps of the translation have done: the statements that are put behind others, the numbers that are taken, and that
--- the numbers in the text have 32 bits.
+-- What the steps of the translation have done: the statements that are put behind others, the
+-- numbers that are taken, and that the numbers in the text have 32 bits.
 use Rattle.std.specs.Prelude.{◌≡◌, ℕ, ◌+◌, List, map, length}
 use Rattle.grin_syntax.specs.Tree as grin
 use Rattle.grin_syntax.specs.Tree.{Act, Arms}
@@ -51,15 +51,18 @@ module _ (width : ℕ) (results : List ℕ) (n next : ℕ) where
     pub ranged : ActRanged o
 
   -- a block, which ends as e
-  pub record BlockDone (goal : Goal) (b : grin.Code) (old new : List LowStmt) (e : Code) : Type 0 where
+  pub record BlockDone (goal : Goal) (b : grin.Code) (old new : List LowStmt) (e : Code)
+      : Type 0 where
     pub is : Ends old new (code_code width results goal n b) e
     pub numbers : next ≡ n + code_numbers width results goal b
     pub ranged : CodeRanged b
 
   -- a statement, before every block
   pub record StmtDone (s : grin.Code → grin.Code) (old new : List LowStmt) : Type 0 where
-    pub is : (goal : Goal) (b : grin.Code) → Ends old new (code_code width results goal n (s b)) (code_code width results goal next b)
-    pub numbers : (goal : Goal) (b : grin.Code) → next + code_numbers width results goal b ≡ n + code_numbers width results goal (s b)
+    pub is : (goal : Goal) (b : grin.Code)
+        → Ends old new (code_code width results goal n (s b)) (code_code width results goal next b)
+    pub numbers : (goal : Goal) (b : grin.Code)
+        → next + code_numbers width results goal b ≡ n + code_numbers width results goal (s b)
     pub ranged : (b : grin.Code) → CodeRanged b → CodeRanged (s b)
 
   -- the alternatives of a case on these words

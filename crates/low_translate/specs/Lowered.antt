@@ -66,7 +66,8 @@ unfoldable mutual
 
 -- ---- the words that procedures give
 
--- the ends of a procedure that gives r words: none has more, where a node has so many, and a tail call gives as many
+-- the ends of a procedure that gives r words: none has more, where a node has so many, and a tail
+-- call gives as many
 module _ (node_width : ℕ) (results : List ℕ) (r : ℕ) where
   unfoldable mutual
     pub ActGives : Act → Type 0
@@ -91,7 +92,8 @@ module _ (node_width : ℕ) (results : List ℕ) (r : ℕ) where
 
 abbrev pub EachGives : (node_width : ℕ) → (results : List ℕ) → List ℕ → List Procedure → Type 0
 EachGives node_width results [] [] = Unit {0}
-EachGives node_width results (r ∷ rs) (q ∷ qs) = CodeGives node_width results r q.body × EachGives node_width results rs qs
+EachGives node_width results (r ∷ rs) (q ∷ qs) =
+    CodeGives node_width results r q.body × EachGives node_width results rs qs
 EachGives node_width results _ _ = ⊥
 
 -- each end has at most so many words, and each tail call is of one of n procedures

@@ -1,5 +1,6 @@
--- How a vectorised program becomes low code. A tag is its number, a number its pattern of 32 bits, and a cell has a word for the
--- tag and one for each field; a block of GRIN becomes a block of low code.
+-- How a vectorised program becomes low code. A tag is its number, a number its pattern of 32 bits,
+-- and a cell has a word for the tag and one for each field; a block of GRIN becomes a block of low
+-- code.
 use Rattle.std.specs.Prelude.{ℕ, suc, zero, ◌+◌, ◌-◌, min, Bool, true, false, nat_eq, nat_lt, List, [], ◌∷◌, ◌++◌, map, length, take, drop}
 use Rattle.numbers.specs.Numbers.{pattern}
 use Rattle.grin_syntax.specs.declared.program.Word as W
@@ -143,7 +144,8 @@ module _ (width : ℕ) (results : List ℕ) where
   end_words k (call f ws) = results_of results f.0
   end_words k _ = 0
 
-  -- how many numbers an operation without blocks takes, for the site of a call and for further variables
+  -- how many numbers an operation without blocks takes, for the site of a call and for further
+  -- variables
   abbrev pub plain_numbers : (variables : ℕ) → Act → ℕ
   plain_numbers k (call f ws) = 1 + (results_of results f.0 - k)
   plain_numbers k _ = 0
@@ -157,7 +159,8 @@ module _ (width : ℕ) (results : List ℕ) where
   plain_end_numbers goal grin.fail = 0
   plain_end_numbers goal (eval w) = 0
   plain_end_numbers goal (apply v w) = 0
-  plain_end_numbers goal (call f ws) = elim goal.leaves [ true ↦ 1 | false ↦ through_numbers goal (call f ws) ]
+  plain_end_numbers goal (call f ws) =
+      elim goal.leaves [ true ↦ 1 | false ↦ through_numbers goal (call f ws) ]
   plain_end_numbers goal o = through_numbers goal o
 
   -- and a piece
@@ -186,11 +189,14 @@ module _ (width : ℕ) (results : List ℕ) where
   plain_code xs n (unit v) c = sets xs (operands_of v) c
   plain_code xs n (fetch w) c = loads width xs (operand_of w) 0 c
   plain_code xs n (fetch_word w i) c = to_first xs (λ x. load_word width x (operand_of w) i) c
-  plain_code xs n (update w v) c = saves (operand_of w) 0 (fitted width (operands_of v)) (sets xs [] c)
+  plain_code xs n (update w v) c =
+      saves (operand_of w) 0 (fitted width (operands_of v)) (sets xs [] c)
   plain_code xs n (call f ws) c =
       let r = results_of results f.0 in
-      low.call f.0 n (operands_of_words ws) (take r xs ++ numbers_from (suc n) (r - length xs)) (sets (drop r xs) [] c)
-  plain_code xs n (prim f a b) c = to_first xs (λ x. low.prim (operation_of f) x (operand_of a) (operand_of b)) c
+      low.call f.0 n (operands_of_words ws) (take r xs ++ numbers_from (suc n) (r - length xs))
+      (sets (drop r xs) [] c)
+  plain_code xs n (prim f a b) c =
+      to_first xs (λ x. low.prim (operation_of f) x (operand_of a) (operand_of b)) c
   plain_code xs n read c = to_first xs (λ x. get x) c
   plain_code xs n (write w) c = put (operand_of w) (sets xs [] c)
   plain_code xs n _ c = join xs low.fail c
@@ -206,7 +212,10 @@ module _ (width : ℕ) (results : List ℕ) where
   plain_end goal n grin.fail = low.fail
   plain_end goal n (eval w) = low.fail
   plain_end goal n (apply v w) = low.fail
-  plain_end goal n (call f ws) = elim goal.leaves [ true ↦ tail f.0 n (operands_of_words ws) | false ↦ through goal n (call f ws) ]
+  plain_end goal n (call f ws) = elim goal.leaves [
+    | true ↦ tail f.0 n (operands_of_words ws)
+    | false ↦ through goal n (call f ws)
+  ]
   plain_end goal n o = through goal n o
 
   -- the translation of a piece whose further numbers begin at n
@@ -217,7 +226,8 @@ module _ (width : ℕ) (results : List ℕ) where
     act_code xs n (nested b) c = join xs (code_code (to_join xs) n b) c
     act_code xs n o c = plain_code xs n o c
 
-    -- an operation at the end of a block: where the block leaves its procedure, a call is a tail call
+    -- an operation at the end of a block: where the block leaves its procedure, a call is a tail
+    -- call
     pub end_code : Goal → (n : ℕ) → Act → Code
     end_code goal n (case v as') = choose (arms_code goal n (operands_of v) as')
     end_code goal n (nested b) = code_code goal n b
@@ -234,7 +244,8 @@ module _ (width : ℕ) (results : List ℕ) where
     arms_code goal n as' no_arm = otherwise low.fail
     arms_code goal n as' (grin.arm s b more) = elim more [
       | no_arm ↦ otherwise (code_code goal n b)
-      | grin.arm _ _ _ ↦ arm (tests as' s) (code_code goal n b) (arms_code goal (n + code_numbers goal b) as' more)
+      | grin.arm _ _ _ ↦
+          arm (tests as' s) (code_code goal n b) (arms_code goal (n + code_numbers goal b) as' more)
     ]
 
   abbrev pub procedure_code : (n r : ℕ) → grin.Procedure → low.Procedure
@@ -249,7 +260,8 @@ module _ (width : ℕ) (results : List ℕ) where
 
   -- procedures, each with the number of its results
   abbrev pub procedures_code : (n : ℕ) → List ℕ → List grin.Procedure → List low.Procedure
-  procedures_code n (r ∷ rs) (q ∷ qs) = procedure_code n r q ∷ procedures_code (n + procedure_numbers r q) rs qs
+  procedures_code n (r ∷ rs) (q ∷ qs) =
+      procedure_code n r q ∷ procedures_code (n + procedure_numbers r q) rs qs
   procedures_code n _ _ = []
 
 abbrev pub program_code : (width : ℕ) → (results : List ℕ) → (n : ℕ) → grin.Program → low.Program

@@ -19,14 +19,16 @@ use low_code::{LowArm, LowBlock, LowEnd, LowProc, LowStmt, Operand, PrimOp};
 use seq::Seq;
 use std::alloc::{AllocError, Global};
 
-/// What a block gives: so many words, as the results of its procedure, which it leaves, or as those of a join.
+/// What a block gives: so many words, as the results of its procedure, which it leaves, or as those
+/// of a join.
 #[derive(Clone, Copy)]
 pub(crate) struct Goal {
     pub words: usize,
     pub leaves: bool,
 }
 
-/// What the translation of a block depends on: the words of a cell, and how many words each procedure gives.
+/// What the translation of a block depends on: the words of a cell, and how many words each
+/// procedure gives.
 #[derive(Drop)]
 pub(crate) struct Plan<'a> {
     pub width: u32,

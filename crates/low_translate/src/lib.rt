@@ -22,11 +22,13 @@ mod program;
 mod results;
 mod words;
 
-/// The low code of a vectorised program: a tag becomes its number, a number its pattern of 32 bits, and a cell a word for the
-/// tag and one for each field of the largest tag. Procedures that tail calls join give as many words as the widest of them.
-/// The variables of the program keep their numbers, and further ones come after them.
+/// The low code of a vectorised program: a tag becomes its number, a number its pattern of 32 bits,
+/// and a cell a word for the tag and one for each field of the largest tag. Procedures that tail
+/// calls join give as many words as the widest of them. The variables of the program keep their
+/// numbers, and further ones come after them.
 ///
-/// Numbers past those of 32 bits, for variables, sites of calls, procedures and tags, count as want of memory.
+/// Numbers past those of 32 bits, for variables, sites of calls, procedures and tags, count as want
+/// of memory.
 pub fn lower(alloc: Global, g: &Grin) -> Result<Low, AllocError>
     requires formed { Formed (program_of g.now) }
     requires ready { Ready (program_of g.now) }

@@ -62,7 +62,8 @@ fn global_tags(alloc: Global, globals: &[GlobalCell]) -> Result<Seq<u32>, AllocE
     Ok(made)
 }
 
-/// How many tags there are. They are numbers of 32 bits: more tags than such numbers count as want of memory.
+/// How many tags there are. They are numbers of 32 bits: more tags than such numbers count as want
+/// of memory.
 pub(crate) fn count_tags(tags: &[Tag]) -> Result<u32, AllocError>
     ensures { IfOk result (λ count. count ≡ length tags.now) }
 {

@@ -1,4 +1,5 @@
-// How many words each procedure gives: those that tail calls join give one number, the widest of theirs.
+// How many words each procedure gives: those that tail calls join give one number, the widest of
+// theirs.
 #![tactic(auto, using(grin_syntax::proofs::TreeOf::tree_of), unfolding(crate::specs::Lowered::ActEnds, crate::specs::Lowered::ActGives))]
 
 ghost use Rattle.std.specs.Prelude.{◌≡◌, ℕ, List, [], ◌≤◌, ◌<◌, ◌+◌, map, length, max, slice_index, IfOk, OnOk};
@@ -13,7 +14,8 @@ use crate::groups::Groups;
 use grin_syntax::{Alt, Op, Proc, Val};
 use std::alloc::{AllocError, Global};
 
-/// Looks for the widest ends of blocks, where a node counts as so many words, and for the procedures that they call.
+/// Looks for the widest ends of blocks, where a node counts as so many words, and for the
+/// procedures that they call.
 #[derive(Drop)]
 pub(crate) struct Ends {
     pub node: usize,

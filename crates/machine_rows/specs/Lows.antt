@@ -42,10 +42,12 @@ called = record { params = 4 ∷ []; results = 3; body = give (Var 4 ∷ Num 0 �
 abbrev pub crowded : Code
 crowded =
     take
-    (1 ∷ 2 ∷ 3 ∷ 4 ∷ 5 ∷ 6 ∷ 7 ∷ 8 ∷ 9 ∷ 10 ∷ 11 ∷ 12 ∷ 13 ∷ 14 ∷ 15 ∷ 16 ∷ 17 ∷ 18 ∷ 19 ∷ 20 ∷ 21 ∷ 22 ∷ 23 ∷ 24 ∷ [])
+    (1 ∷ 2 ∷ 3 ∷ 4 ∷ 5 ∷ 6 ∷ 7 ∷ 8 ∷ 9 ∷ 10 ∷ 11 ∷ 12
+    ∷ 13 ∷ 14 ∷ 15 ∷ 16 ∷ 17 ∷ 18 ∷ 19 ∷ 20 ∷ 21 ∷ 22 ∷ 23 ∷ 24 ∷ [])
     (tail 0 0
-    (Var 0 ∷ Var 1 ∷ Var 2 ∷ Var 3 ∷ Var 4 ∷ Var 5 ∷ Var 6 ∷ Var 7 ∷ Var 8 ∷ Var 9 ∷ Var 10 ∷ Var 11 ∷ Var 12
-    ∷ Var 13 ∷ Var 14 ∷ Var 15 ∷ Var 16 ∷ Var 17 ∷ Var 18 ∷ Var 19 ∷ Var 20 ∷ Var 21 ∷ Var 22 ∷ Var 23 ∷ Var 24 ∷ []))
+    (Var 0 ∷ Var 1 ∷ Var 2 ∷ Var 3 ∷ Var 4 ∷ Var 5 ∷ Var 6 ∷ Var 7 ∷ Var 8
+    ∷ Var 9 ∷ Var 10 ∷ Var 11 ∷ Var 12 ∷ Var 13 ∷ Var 14 ∷ Var 15 ∷ Var 16
+    ∷ Var 17 ∷ Var 18 ∷ Var 19 ∷ Var 20 ∷ Var 21 ∷ Var 22 ∷ Var 23 ∷ Var 24 ∷ []))
 
 -- a call of itself whose targets are a used one and a dead one, beside x0, which is used after it
 abbrev pub dead_target : Code
@@ -55,7 +57,8 @@ dead_target = call 0 0 (Var 0 ∷ []) (1 ∷ 2 ∷ []) (prim Add 3 (Var 0) (Var 
 abbrev pub choice : Code
 choice =
     choose
-    (arm (record { left = Var 0; right = 1 } ∷ []) (set 5 (Var 1) (set 6 (Var 5) (give (Var 6 ∷ []))))
+    (arm (record { left = Var 0; right = 1 } ∷ [])
+    (set 5 (Var 1) (set 6 (Var 5) (give (Var 6 ∷ []))))
     (otherwise (set 7 (Num 1) (set 8 (Var 2) (give (Var 8 ∷ []))))))
 
 abbrev pub arms : Code

@@ -5,7 +5,8 @@ use std::alloc::{AllocError, Global};
 use std::process::Abort;
 use std::test::Fail;
 
-/// An image that exits with 7: its code, `addi x17, x0, 93`, `addi x10, x0, 7`, `ecall`, stands at 0x00010054.
+/// An image that exits with 7: its code, `addi x17, x0, 93`, `addi x10, x0, 7`, `ecall`, stands at
+/// 0x00010054.
 pub const EXIT: [u8; 96] = [
     0x7F, 0x45, 0x4C, 0x46, 0x01, 0x01, 0x01, 0x00, 0x00, 0x00, 0x00, 0x00, 0x00, 0x00, 0x00, 0x00,
     0x02, 0x00, 0xF3, 0x00, 0x01, 0x00, 0x00, 0x00, 0x54, 0x00, 0x01, 0x00, 0x34, 0x00, 0x00, 0x00,
@@ -56,7 +57,8 @@ pub fn changed(alloc: Global, offset: u8, bytes: &[u8]) -> Result<Vec<u8>, Alloc
     Ok(file)
 }
 
-/// The number of the broken rule, and the number of a program header where the rule names one; 0 where none is broken.
+/// The number of the broken rule, and the number of a program header where the rule names one; 0
+/// where none is broken.
 fn outcome(alloc: Global, file: &[u8]) -> (u8, u32) {
     match read(alloc, file) {
         Ok(_) => (0, 0),

@@ -5,8 +5,8 @@ use std::alloc::Global;
 use std::process::Abort;
 use std::test::Fail;
 
-/// Words and texts as LLVM's assembler gives them, with the registers 0, 1 and 31 and the least and the greatest
-/// immediates, and for FENCE, whose operands have other names there, by the manual.
+/// Words and texts as LLVM's assembler gives them, with the registers 0, 1 and 31 and the least and
+/// the greatest immediates, and for FENCE, whose operands have other names there, by the manual.
 const REGISTERS: [(u32, &str); 54] = [
     (0x01F08033, "add x0, x1, x31"),
     (0x00100FB3, "add x31, x0, x1"),
@@ -170,8 +170,8 @@ const SAMPLES: [(u32, &str); 7] = [
     (0x0000006F, "jal x0, 0"),
 ];
 
-/// Words of no instruction: among them a shift with another bit of its seventh bits set, the system instructions
-/// beside ECALL and EBREAK, and FENCE.I.
+/// Words of no instruction: among them a shift with another bit of its seventh bits set, the system
+/// instructions beside ECALL and EBREAK, and FENCE.I.
 const NO_ROW: [u32; 12] = [
     0x00000000, 0x45F35293, 0x40001013, 0x04000033, 0x40001033, 0x00001067, 0x00003003, 0x00003023,
     0x00002063, 0x00000FF3, 0x00200073, 0x0000100F,

@@ -1,5 +1,6 @@
-//! Rows worked by hand for the crates from lists to the machine: lists, files and streams, generated texts, moves, places of
-//! low code, instructions, executables, and programs of machine code as they run.
+//! Rows worked by hand for the crates from lists to the machine: lists, files and streams,
+//! generated texts, moves, places of low code, instructions, executables, and programs of machine
+//! code as they run.
 #![tactic(auto)]
 
 #[cfg(test)]

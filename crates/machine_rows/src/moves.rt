@@ -26,7 +26,8 @@ fn start() -> [usize; 72] {
     words
 }
 
-// The steps, done one after another, leave what the moves do at once, but for the scratch spot; and there are so many.
+// The steps, done one after another, leave what the moves do at once, but for the scratch spot; and
+// there are so many.
 fn shows(rt: &impl Abort, moves: &[Move], steps: &[Move], count: usize) {
     assert_eq!(rt; steps.len(), count);
     let mut words = start();

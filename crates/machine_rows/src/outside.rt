@@ -117,8 +117,8 @@ fn sources_in_memory(rt: HostRuntime) -> Result<(), AllocError> {
     Ok(())
 }
 
-// Pieces that are put into a sink with room for five bytes whose calls 0 and 1 fail: whether each is taken, and what has been
-// taken by then.
+// Pieces that are put into a sink with room for five bytes whose calls 0 and 1 fail: whether each
+// is taken, and what has been taken by then.
 const PUTS: [(&[u8], bool, &[u8]); 7] = [
     (b"ab", false, b""),
     (b"ab", false, b""),

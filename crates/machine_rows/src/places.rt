@@ -43,8 +43,8 @@ fn procedures_are(rt: &impl Abort, places: &Places, wanted: &[(u32, u32)])
     }
 }
 
-/// What is allotted to a program: the spots of its variables, the registers saved at the site 0, and of each procedure the
-/// registers that it may change and the words of its frame.
+/// What is allotted to a program: the spots of its variables, the registers saved at the site 0,
+/// and of each procedure the registers that it may change and the words of its frame.
 fn allots(
     rt: &impl Abort,
     alloc: Global,
@@ -65,7 +65,8 @@ fn allots(
     Ok(())
 }
 
-/// x0 comes in x10; 7 is live across the call and has x8; results come in x10 to x12. The called procedure doesn't change x8.
+/// x0 comes in x10; 7 is live across the call and has x8; results come in x10 to x12. The called
+/// procedure doesn't change x8.
 #[test]
 fn a_call_saves_what_the_callee_changes(rt: HostRuntime) -> Result<(), AllocError> {
     let low = two(rt.alloc())?;
@@ -115,7 +116,8 @@ fn the_25th_of_those_live_at_once_has_a_slot(rt: HostRuntime) -> Result<(), Allo
     allots(&rt, rt.alloc(), &low, &spots, &[], &[(0xFFFFFF00, 2)])
 }
 
-/// x0 stays in x10 across the call, and is saved there; the dead target has no register of a live one.
+/// x0 stays in x10 across the call, and is saved there; the dead target has no register of a live
+/// one.
 #[test]
 fn a_dead_target_is_apart_from_live_ones(rt: HostRuntime) -> Result<(), AllocError> {
     let low = dead_target(rt.alloc())?;
@@ -123,7 +125,8 @@ fn a_dead_target_is_apart_from_live_ones(rt: HostRuntime) -> Result<(), AllocErr
     allots(&rt, rt.alloc(), &low, &spots, &[10], &[(0xD00, 2)])
 }
 
-/// x4 is dead, and x3 is live to the end of the join; in the other arm x1 is dead and x7 has its register.
+/// x4 is dead, and x3 is live to the end of the join; in the other arm x1 is dead and x7 has its
+/// register.
 #[test]
 fn arms_free_registers_for_each_other(rt: HostRuntime) -> Result<(), AllocError> {
     let low = arms(rt.alloc())?;

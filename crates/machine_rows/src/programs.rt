@@ -43,8 +43,8 @@ fn little_endian(alloc: Global, words: &[u32]) -> Result<Vec<u8>, AllocError> {
     Ok(bytes)
 }
 
-/// A program: its words, whether it may write to itself, the bytes that it writes within a thousand steps from a source of
-/// the bytes `Zq`, and how it ends.
+/// A program: its words, whether it may write to itself, the bytes that it writes within a thousand
+/// steps from a source of the bytes `Zq`, and how it ends.
 type Row = (&'static [u32], bool, &'static [u8], &'static str);
 
 /// Branches and jumps, loads and stores that can't be done.
@@ -527,8 +527,8 @@ fn steps_by_hand(rt: HostRuntime) -> Result<(), Fail> {
     step_that_writes(&rt, &mut machine)
 }
 
-/// A program that calls twice what stands 65,536 instructions after its first, which adds 1 to x10. Instructions so far apart
-/// have one place where they are kept decoded.
+/// A program that calls twice what stands 65,536 instructions after its first, which adds 1 to x10.
+/// Instructions so far apart have one place where they are kept decoded.
 fn far_call(alloc: Global) -> Result<Vec<u32>, AllocError> {
     let mut words = Vec::from_slice(
         alloc,

@@ -1,5 +1,6 @@
-//! Runs a loop of five instructions, with a heap and a stack loaded, and says how the run ended. Its words are how many
-//! times 4,096 turns the loop is done, and how many cells of 14 words the heap has.
+//! Runs a loop of five instructions, with a heap and a stack loaded, and says how the run ended.
+//! Its words are how many times 4,096 turns the loop is done, and how many cells of 14 words the
+//! heap has.
 #![tactic(auto)]
 
 ghost use Rattle.std.specs.Prelude.{◌<◌};

@@ -1,4 +1,5 @@
-//! Moves that are meant at once, put in an order in which one machine can do them one after another.
+//! Moves that are meant at once, put in an order in which one machine can do them one after
+//! another.
 #![tactic(auto)]
 
 ghost use Rattle.std.specs.Prelude.{◌≡◌, ◌≤◌, ◌*◌, IfOk, MatchOption, length, List, false};
@@ -7,8 +8,8 @@ ghost use Rattle.parallel_move.specs.Moves.{same, is_source, DistinctTargets, No
 use std::alloc::{AllocError, Global};
 use std::collections::BTreeSet;
 
-/// Where a word stands: in a register by its number, in a slot of the frame by its number, or in the scratch spot, which holds
-/// nothing of its own.
+/// Where a word stands: in a register by its number, in a slot of the frame by its number, or in
+/// the scratch spot, which holds nothing of its own.
 #[derive(Clone, Copy, Debug, PartialEq, Eq, PartialOrd, Ord)]
 pub enum Spot {
     Reg(u8),
@@ -16,8 +17,8 @@ pub enum Spot {
     Scratch,
 }
 
-/// A word goes from one spot to another, and stays where it came from. The order of moves is by where they come from, so that
-/// the moves from one spot stand together.
+/// A word goes from one spot to another, and stays where it came from. The order of moves is by
+/// where they come from, so that the moves from one spot stand together.
 #[derive(Clone, Copy, Debug, PartialEq, Eq, PartialOrd, Ord)]
 pub struct Move {
     pub from: Spot,
@@ -35,7 +36,8 @@ fn is_same(a: Spot, b: Spot) -> bool
     }
 }
 
-/// The moves in their order, as the set of those still to be done. `AllocError` where memory is wanting.
+/// The moves in their order, as the set of those still to be done. `AllocError` where memory is
+/// wanting.
 #[tactic(auto, using(crate::proofs::Ordered::none_yet, crate::proofs::Ordered::all_there))]
 fn in_order(alloc: Global, moves: &[Move]) -> Result<BTreeSet<Move>, AllocError>
     requires distinct { DistinctTargets moves.now }
@@ -90,12 +92,14 @@ fn close(path: &mut Vec<Move>, spot: Spot) -> bool
     true
 }
 
-/// Steps that, done one after another, do what the moves do at once, and leave anything in the scratch spot. They read and
-/// write no more registers and slots than the moves do, and no other ones. `AllocError` where memory is wanting.
+/// Steps that, done one after another, do what the moves do at once, and leave anything in the
+/// scratch spot. They read and write no more registers and slots than the moves do, and no other
+/// ones. `AllocError` where memory is wanting.
 ///
-/// Before a move is done, the moves that read its target are: they wait on one path, of which each move reads the target of
-/// the one below. Where the lowest reads the target of the uppermost, the path is a cycle, and that word waits in the
-/// scratch spot. The readers of a spot are found in an ordered set, so the time is near-linear in the moves.
+/// Before a move is done, the moves that read its target are: they wait on one path, of which each
+/// move reads the target of the one below. Where the lowest reads the target of the uppermost, the
+/// path is a cycle, and that word waits in the scratch spot. The readers of a spot are found in an
+/// ordered set, so the time is near-linear in the moves.
 #[tactic(auto, using(crate::proofs::Paths::begins, crate::proofs::Paths::done))]
 pub fn order(alloc: Global, moves: &[Move]) -> Result<Vec<Move>, AllocError>
     requires distinct { DistinctTargets moves.now }

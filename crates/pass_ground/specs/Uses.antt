@@ -1,5 +1,5 @@
--- The variables that a piece of a program uses, and those that it uses otherwise than as the cell of
--- a fetch.
+-- The variables that a piece of a program uses, and those that it uses otherwise than as the cell
+-- of a fetch.
 use Rattle.std.specs.Prelude.{ℕ, Bool, true, false, ◌&&◌, ◌||◌, nat_eq, List, [], ◌∷◌}
 use Rattle.grin_syntax.specs.declared.program.Word as W
 use Rattle.grin_syntax.specs.declared.program.Word.TheVariants.{Var}

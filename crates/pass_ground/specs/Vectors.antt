@@ -1,10 +1,9 @@
 -- Programs whose nodes stand in vectors, and what each pass over them keeps of its input.
-use Rattle.std.specs.Prelude.{ℕ, ◌≤◌, length}
+use Rattle.std.specs.Prelude.{ℕ}
 use Rattle.grin_syntax.specs.Tree.{Program}
-use Rattle.grin_syntax.specs.Binders.{target_vars}
-use Rattle.grin_syntax.specs.Formed.{AllOf, Formed}
+use Rattle.grin_syntax.specs.Formed.{Formed}
 use Rattle.grin_syntax.specs.SameOutside.{SameOutside}
-use Rattle.grin_meaning.specs.Ready.{Any, EachCode, IsFetchedByWords, IsVectorised, Ready}
+use Rattle.grin_meaning.specs.Ready.{IsFetchedByWords, IsVectorised, Ready, EachBody, narrow_kind}
 
 -- well formed, fit for the passes after the inlining, and without node variables
 pub record OfVectors (g : Program) : Type 0 where
@@ -14,8 +13,7 @@ pub record OfVectors (g : Program) : Type 0 where
 
 -- no operation goes to more than so many variables
 abbrev pub NarrowTargets : (most : ℕ) → Program → Type 0
-NarrowTargets most g =
-    AllOf (λ q. EachCode Any (λ t. length (target_vars t) ≤ most) Any Any q.body) g.procs
+NarrowTargets most g = EachBody (narrow_kind most) g.procs
 
 -- h can be taken where g can. It has the tags, the global cells, the start and the names of g; its
 -- targets are no wider; and where g fetches no whole node, neither does h

@@ -1,4 +1,5 @@
-// Listings of programs, what becomes of them once their evaluations and applications are inlined, and their sizes then.
+// Listings of programs, what becomes of them once their evaluations and applications are inlined,
+// and their sizes then.
 
 use crate::evaluations::TAKES;
 use apply_inline::{expanded_size, inline};
@@ -92,7 +93,8 @@ main =
       fail
 ";
 
-// The listing of a text's program once its evaluations are inlined, and once its applications are inlined too.
+// The listing of a text's program once its evaluations are inlined, and once its applications are
+// inlined too.
 fn inlined(alloc: Global, text: &str) -> Result<(Vec<u8>, Vec<u8>), ReadError> {
     let g = program(alloc, text)?;
     let flow = solve(alloc, &system(alloc, &g)?)?;

@@ -5,8 +5,9 @@ use grin_syntax::list;
 use grin_text::program;
 use std::test::Fail;
 
-// v1, v2 and v3 are copies, v3 in a nested block of v2. The fetch of v4 serves the idle sum v5 alone, so that both go; the
-// fetch of v6 is written in the nested block. The second write stays, though nobody uses what it gives.
+// v1, v2 and v3 are copies, v3 in a nested block of v2. The fetch of v4 serves the idle sum v5
+// alone, so that both go; the fetch of v6 is written in the nested block. The second write stays,
+// though nobody uses what it gives.
 const BEFORE: &str = "\
 tags CInt/1 CNil/0
 words

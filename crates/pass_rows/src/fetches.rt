@@ -29,8 +29,8 @@ head v0 =
   unit v2
 ";
 
-// The fields are fetched where an alternative uses them, and the last one, which nobody uses, is not fetched. A word that is
-// used outside the case is fetched after the tag.
+// The fields are fetched where an alternative uses them, and the last one, which nobody uses, is
+// not fetched. A word that is used outside the case is fetched after the tag.
 const WORDS: &str = "\
 global main = (CNil)
 

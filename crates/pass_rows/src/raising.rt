@@ -1,4 +1,5 @@
-// Programs in which `hd` gives the first field of a cell, and `start` calls it with one that it stores.
+// Programs in which `hd` gives the first field of a cell, and `start` calls it with one that it
+// stores.
 
 use arity_raise::with_raised_params;
 use grin_syntax::list;
@@ -31,7 +32,8 @@ const PARAMS: &str = " v1 v2 v3 v4 v5 v6 v7 v8 v9 v10 v11 v12 v13 v14";
 
 const ARGS: &str = " 0 0 0 0 0 0 0 0 0 0 0 0 0 0";
 
-// The text, where `hd` has these parameters more, `start` gives it these words more and may update the cell before.
+// The text, where `hd` has these parameters more, `start` gives it these words more and may update
+// the cell before.
 fn heads(alloc: Global, params: &str, args: &str, update: &str) -> Result<String, AllocError> {
     let hd = "  v21 <- fetch v0 0\n  v22 <- fetch v0 1\n  unit [v22]\n";
     let start = "\nstart v0 =\n  store\n    v1 = (CCons 1 v0)\n";

@@ -65,7 +65,8 @@ f v0 v1 =
       unit [v0]
 ";
 
-// The bound case gives back the first word of its vector; the last one has a literal tag, and none of its patterns fits.
+// The bound case gives back the first word of its vector; the last one has a literal tag, and none
+// of its patterns fits.
 const GIVEN: &str = "\
 global main = (CNil)
 

@@ -25,7 +25,8 @@ take v0 =
   unit v2
 ";
 
-// A fetch fills a vector with room for the three fields of (Ffoo); what is given and what a call gives has room for two.
+// A fetch fills a vector with room for the three fields of (Ffoo); what is given and what a call
+// gives has room for two.
 const VECTORS: &str = "\
 global main = (CNil)
 

@@ -18,7 +18,7 @@ use Rattle.points_to.specs.declared.facts.Item.{Item}
 use Rattle.points_to.specs.Held.{In, here, there, item, picked, in_part, as_nodes, done_items, elements, numbered, value_items, cell_items, fetched, fetched_at, last_field, longer_node, longer_tag, longer, after_fields, moved_part, argument_part, arguments_of, items, delayed, called}
 use Rattle.points_to.specs.Asked.{cell_facts, asked, flow_facts, delayed_facts, forced, called_facts, applied, demands}
 use Rattle.points_to.specs.Reads.{word_reads, value_reads, sink_reads, cell_reads, result_reads, forced_reads, applied_reads, cells_reads, source_reads, reads, Agree}
-use Rattle.points_to.proofs.Member.{in_left, in_right, in_split}
+use Rattle.seq.proofs.Member.{in_left, in_right, in_split}
 
 -- functions that agree on a list's members
 flat_same : {X Y : Type 0} (f g : X → List Y) (xs : List X) → ((x : X) → In x xs → f x ≡ g x) → flat_map f xs ≡ flat_map g xs

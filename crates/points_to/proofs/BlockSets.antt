@@ -7,10 +7,10 @@ use Rattle.flow_system.specs.declared.fact.Element.{Element}
 use Rattle.points_to.specs.Held.{In}
 use Rattle.points_to.specs.Bits.{numbers, block_numbers, block_words, BitsAt, number_of, word_of}
 use Rattle.points_to.specs.Rows.{GetsAll, SameMembers}
-use Rattle.points_to.proofs.Member.{in_split, in_left, in_right, in_flat, in_map, map_in}
+use Rattle.seq.proofs.Member.{in_split, in_left, in_right, in_flat, in_map, map_in}
 use Rattle.points_to.proofs.Loops.{flat_next}
 use Rattle.points_to.proofs.Numbers.{no_numbers, bit_in, in_bit, lowest_first}
-use Rattle.points_to.proofs.Rows.{words_are, word_number}
+use Rattle.points_to.proofs.Rows.{word_number}
 
 -- a single bit is the block of one number
 pub single : (n w : ℕ) → bit_at w (n % 64) ≡ 1 → ((i : ℕ) → i ≢ n % 64 → bit_at w i ≡ bit_at 0 i) → block_numbers (n / 64, w) ≡ n ∷ []
@@ -33,28 +33,9 @@ has_all bs b w at within n h =
     (λ k. in_flat block_numbers bs k (subst (λ x. In x (numbers 64 (b.0 * 64) w)) (sym s.2) (bit_in 64 (b.0 * 64) w s.0 s.1 (within s.0 s.3))))
     at.held
 
--- a set that has the members of the first lists gets those of the next
-pub same_next : {X Y : Type 0} (f : X → List Y) (xs : List X) (i : ℕ) (d : X) (now new : List Y) → i < length xs → SameMembers now (flat_map f (take i xs)) → GetsAll now new (f (get_or xs i d)) → SameMembers new (flat_map f (take (i + 1) xs))
-same_next f xs i d now new lt s g = record {
-  into = λ y h. subst (In y) (sym all) (⊎_elim (λ a. in_left _ _ (s.into y a)) (λ a. in_right (flat_map f (take i xs)) _ a) (g.only y h));
-  back = λ y h. ⊎_elim (λ a. g.kept y (s.back y a)) (λ a. g.put y a) (in_split (flat_map f (take i xs)) _ (subst (In y) all h));
-}
-  where
-    all : flat_map f (take (i + 1) xs) ≡ flat_map f (take i xs) ++ f (get_or xs i d)
-    all = sym (flat_next f xs i d [] (flat_map f (take i xs)) (flat_map f (take i xs) ++ f (get_or xs i d)) lt refl refl)
-
--- the words of numbers with the same members
+-- images of the same members
 pub same_map : {X Y : Type 0} (f : X → Y) (xs ys : List X) → SameMembers xs ys → SameMembers (map f xs) (map f ys)
 same_map f xs ys s = record {
   into = λ y h. let w = map_in f xs h in subst (λ z. In z (map f ys)) (sym w.2) (in_map f ys (s.into w.0 w.1));
   back = λ y h. let w = map_in f ys h in subst (λ z. In z (map f xs)) (sym w.2) (in_map f xs (s.back w.0 w.1));
 }
-
-pub same_words : (es bs : List (ℕ × ℕ)) → SameMembers (flat_map block_numbers es) (flat_map block_numbers bs) → SameMembers (flat_map block_words es) (flat_map block_words bs)
-same_words es bs s =
-    subst (λ l. SameMembers l (flat_map block_words bs)) (sym (words_are es))
-    (subst (λ l. SameMembers (map word_of (flat_map block_numbers es)) l) (sym (words_are bs)) (same_map word_of (flat_map block_numbers es) (flat_map block_numbers bs) s))
-
--- the words of a set that was made of blocks
-pub same_of : (ws vs : List Element) (es bs : List (ℕ × ℕ)) → ws ≡ flat_map block_words es → flat_map block_words bs ≡ vs → SameMembers (flat_map block_numbers es) (flat_map block_numbers bs) → SameMembers ws vs
-same_of ws vs es bs e e' s = subst (SameMembers ws) e' (subst (λ l. SameMembers l (flat_map block_words bs)) (sym e) (same_words es bs s))

@@ -6,7 +6,7 @@ use Rattle.std.proofs.lemmas.List.Edits.{length-insert, get_or-insert_below, get
 use Rattle.std.proofs.lemmas.List.{get_or_default}
 use Rattle.points_to.specs.Held.{In, here, there}
 use Rattle.points_to.specs.Bits.{number_at, Ascending, BitsAt, StandsAt, GoesTo}
-use Rattle.points_to.proofs.Member.{none_in, cons_in}
+use Rattle.seq.proofs.Member.{none_in, cons_in}
 
 order : (i k : ℕ) → (i < k) ⊎ ((i ≡ k) ⊎ (k < i))
 order zero zero = inr (inl refl)

@@ -17,7 +17,7 @@ use Rattle.points_to.specs.declared.facts.Item.{Item}
 use Rattle.points_to.specs.declared.facts.Fact.{Fact}
 use Rattle.points_to.specs.Held.{In, item, in_part, picked, elements, value_items, as_word, as_nodes, items, delayed, called}
 use Rattle.points_to.specs.Asked.{fact, facts_at, vector_facts, target_facts, cell_facts, asked, flow_facts, delayed_facts, forced, called_facts, applied, demands}
-use Rattle.points_to.proofs.Member.{none_in, in_left, in_right, in_split, in_flat, flat_in, in_map, map_in}
+use Rattle.seq.proofs.Member.{none_in, in_left, in_right, in_split, in_flat, flat_in, in_map, map_in}
 use Rattle.points_to.proofs.GivenItems.{picked_in, in_picked, Only, All, as_word_means, in_as_word, nodes_mean, in_nodes, elements_mean, in_elements, value_means, in_value, items_mean, in_items, delayed_is, is_delayed, called_is, is_called}
 
 -- facts as a relation

@@ -1,9 +1,11 @@
 -- Lists that are made of other lists, where one of those gets members or a new one comes.
-use Rattle.std.proofs.Common.{◌≡◌, ℕ, zero, suc, ◌<◌, List, [], ◌∷◌, ◌++◌, length, get_or, slice_set, sym, subst, inl, inr, ⊎_elim, arith}
+use Rattle.std.proofs.Common.{◌≡◌, ℕ, zero, suc, ◌+◌, ◌<◌, ◌≤◌, List, [], ◌∷◌, ◌++◌, take, length, get_or, slice_set, sym, subst, inl, inr, ⊎_elim, arith}
 use Rattle.std.specs.List.{flat_map}
+use Rattle.std.proofs.lemmas.List.{take_all}
 use Rattle.points_to.specs.Held.{In}
-use Rattle.points_to.specs.Rows.{GetsAll}
-use Rattle.points_to.proofs.Member.{none_in, in_left, in_right, in_split}
+use Rattle.points_to.specs.Rows.{GetsAll, SameMembers}
+use Rattle.seq.proofs.Member.{none_in, in_left, in_right, in_split}
+use Rattle.points_to.proofs.Loops.{flat_taken}
 
 module _ {X Y : Type 0} (f : X → List Y) (is : List Y) where
   behind : (x : X) (xs ys : List X) → GetsAll (flat_map f xs) (flat_map f ys) is → GetsAll (flat_map f (x ∷ xs)) (flat_map f (x ∷ ys)) is
@@ -29,3 +31,25 @@ module _ {X Y : Type 0} (f : X → List Y) (is : List Y) where
     only = λ j h. ⊎_elim (λ a. ⊎_elim (λ o. none_in o) (λ n. inr n) (g.only j a)) (λ b. inl b) (in_split (f x) (flat_map f zs) h);
   }
   gets_between (y ∷ xs) zs x g = behind y (xs ++ zs) (xs ++ x ∷ zs) (gets_between xs zs x g)
+
+-- members come step by step
+pub gets_none : {X : Type 0} (xs : List X) → GetsAll xs xs []
+gets_none xs = record { kept = λ x h. h; put = λ x h. none_in h; only = λ x h. inl h }
+
+pub gets_more : {X : Type 0} (old now new xs ys : List X) → GetsAll old now xs → GetsAll now new ys → GetsAll old new (xs ++ ys)
+gets_more old now new xs ys g h = record {
+  kept = λ x k. h.kept x (g.kept x k);
+  put = λ x k. ⊎_elim (λ a. h.kept x (g.put x a)) (λ b. h.put x b) (in_split xs ys k);
+  only = λ x k. ⊎_elim (λ a. ⊎_elim (λ o. inl o) (λ n. inr (in_left xs ys n)) (g.only x a)) (λ b. inr (in_right xs ys b)) (h.only x k);
+}
+
+module _ {X Y : Type 0} (f : X → List Y) (xs : List X) (i : ℕ) (old now : List Y) where
+  pub gets_next : (d : X) (new : List Y) → i < length xs → GetsAll old now (flat_map f (take i xs)) → GetsAll now new (f (get_or xs i d)) → GetsAll old new (flat_map f (take (i + 1) xs))
+  gets_next d new lt g h = subst (GetsAll old new) (flat_taken f xs i d lt) (gets_more old now new (flat_map f (take i xs)) (f (get_or xs i d)) g h)
+
+  pub gets_done : length xs ≤ i → GetsAll old now (flat_map f (take i xs)) → GetsAll old now (flat_map f xs)
+  gets_done le = subst (λ l. GetsAll old now (flat_map f l)) (take_all i xs le)
+
+-- what an empty list gets
+pub gets_from_none : {X : Type 0} (ys xs : List X) → GetsAll [] ys xs → SameMembers ys xs
+gets_from_none ys xs g = record { into = λ x h. ⊎_elim (λ a. none_in a) (λ b. b) (g.only x h); back = g.put }

@@ -21,7 +21,7 @@ use Rattle.flow_system.specs.Tables.{Tables, fields_of}
 use Rattle.flow_system.specs.Solution.{Solution, Sets, At, OneWord, one_word, Enough, AsNodes, node_tag, node_field, words_tag, words_field, AsWords, word_word, tag_word, field_word, zero_word, IsEvaluated, Evaluated, evaluated_tag, evaluated_field, Delays, Waits, StandsFor, literal, variable, global, tag_itself, WordAmong, first, later, ValueGives, of_variable, of_node, of_field, of_words, of_word, FetchGives, its_tag, its_field, its_zero, ExtendGives, extended_tag, extended_field, extended_last, ArgumentsGive, field_argument, word_argument, width, Gives}
 use Rattle.points_to.specs.declared.facts.Item.{Item}
 use Rattle.points_to.specs.Held.{In, here, there, item, same_part, picked_one, picked, in_part, cell_at, enough, node_part, field_part, moved_part, argument_part, is_done, if_tag, if_procedure, delayed, when_one, when_more, called, longer, field_or_zero, field_of_tag, fetched, as_word, node_of_words, node_of_word, as_nodes, done_part, done_items, elements, numbered, value_items, cell_items, fetched_at, last_field, longer_node, longer_tag, after_fields, arguments_of, items}
-use Rattle.points_to.proofs.Member.{none_in, cons_in, one_in, in_left, in_right, in_split, when_in, in_when, in_flat, flat_in, in_map, map_in}
+use Rattle.seq.proofs.Member.{none_in, cons_in, one_in, in_left, in_right, in_split, when_in, in_when, in_flat, flat_in, in_map, map_in}
 
 pub lt_from : (m n : ℕ) → nat_lt m n ≡ true → m < n
 lt_from m n e = grind (arith, nat_tests)

@@ -1,4 +1,3 @@
-pub mod Member
 pub mod GivenItems
 pub mod Exact
 pub mod Gets
@@ -9,17 +8,21 @@ pub mod BlockSets
 pub mod Done
 pub mod Fields
 pub mod OneTag
+pub mod SameVec
 pub mod Sets
 pub mod Loops
 pub mod Direct
 pub mod OnePart
 pub mod FromRuns
 pub mod TablesOfRuns
+pub mod ByParts
 pub mod Search
 pub mod Solved
 pub mod Read
 pub mod TagsInCells
 pub mod Agree
 pub mod Waiting
+pub mod InGroups
 pub mod UntilNoneWaits
+pub mod Registered
 pub mod Elsewhere

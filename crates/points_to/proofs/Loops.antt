@@ -30,6 +30,9 @@ module _ {X Y : Type 0} where
       k ∙ ap (λ l. l ++ f x) h ∙ append_assoc old (flat_map f (take i xs)) (f x)
       ∙ ap (λ l. old ++ (flat_map f (take i xs) ++ l)) (sym (append_nil (f x))) ∙ ap (λ l. old ++ l) (sym (flat_map-append f (take i xs) (x ∷ []))) ∙ ap (λ l. old ++ flat_map f l) (sym (take_more xs i d lt))
 
+  pub flat_taken : (f : X → List Y) (xs : List X) (i : ℕ) (d : X) → i < length xs → flat_map f (take i xs) ++ f (get_or xs i d) ≡ flat_map f (take (i + 1) xs)
+  flat_taken f xs i d lt = flat_next f xs i d [] (flat_map f (take i xs)) (flat_map f (take i xs) ++ f (get_or xs i d)) lt refl refl
+
   -- the item as it was read
   pub flat_next_is : (f : X → List Y) (xs : List X) (i : ℕ) (x : X) (old now new : List Y) → i < length xs → x ≡ get_or xs i x → now ≡ old ++ flat_map f (take i xs) → new ≡ now ++ f x → new ≡ old ++ flat_map f (take (i + 1) xs)
   flat_next_is f xs i x old now new lt e h k = flat_next f xs i x old now new lt h (k ∙ ap (λ y. now ++ f y) e)

@@ -10,7 +10,7 @@ use Rattle.std.proofs.lemmas.Nat.Bits.{bit_at_lowest, bit_at-suc, bit_at-zero, b
 use Rattle.points_to.specs.Held.{In, here}
 use Rattle.points_to.specs.Rows.{GetsAll}
 use Rattle.points_to.specs.Bits.{numbers, block_numbers, BitsAt, StandsAt}
-use Rattle.points_to.proofs.Member.{none_in, one_in, in_left, in_right, in_split, when_in, in_when, in_flat, flat_in}
+use Rattle.seq.proofs.Member.{none_in, one_in, in_left, in_right, in_split, when_in, in_when, in_flat, flat_in}
 use Rattle.points_to.proofs.Blocks.{its_number}
 use Rattle.points_to.proofs.Gets.{gets_at, gets_between}
 

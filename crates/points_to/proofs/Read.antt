@@ -25,7 +25,7 @@ use Rattle.points_to.specs.Held.{In, here, there, item}
 use Rattle.points_to.specs.Known.{held}
 use Rattle.points_to.specs.Wanted.{tag_in, site_in, wanted_of, wanted, place_of, SameSet, is_in, Lists, numbers_by, IsTable}
 use Rattle.points_to.specs.Joined.{Joined}
-use Rattle.points_to.proofs.Member.{none_in, cons_in, one_in, when_in, in_flat, flat_in}
+use Rattle.seq.proofs.Member.{none_in, cons_in, one_in, when_in, in_flat, flat_in}
 use Rattle.points_to.proofs.GivenItems.{eq_from, eq_self}
 
 nat_equal : (m n : ℕ) → nat_cmp m n ≡ Equal → m ≡ n

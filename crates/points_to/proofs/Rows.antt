@@ -15,7 +15,7 @@ use Rattle.points_to.specs.Runs.{run_items}
 use Rattle.points_to.specs.Held.{In, item, same_part, picked, in_part}
 use Rattle.points_to.specs.Bits.{block_numbers, block_words, number_or_tag, number_of, word_of}
 use Rattle.points_to.specs.Rows.{numbers_in, row_words, row_items, HasPart, GetsAll}
-use Rattle.points_to.proofs.Member.{in_left, in_right, in_split, in_map, map_in}
+use Rattle.seq.proofs.Member.{in_left, in_right, in_split, in_map, map_in}
 use Rattle.points_to.proofs.GivenItems.{same_part-true, same_part-self}
 use Rattle.points_to.proofs.Gets.{gets_between}
 use Rattle.points_to.proofs.Loops.{flat_next, append_nil}
@@ -81,6 +81,13 @@ map_gets f old new xs g = record {
   only = λ y h. let w = map_in f new h in ⊎_elim (λ a. inl (subst (λ z. In z (map f old)) (sym w.2) (in_map f old a))) (λ a. inr (subst (λ z. In z (map f xs)) (sym w.2) (in_map f xs a))) (g.only w.0 w.1);
 }
 
+-- the words of blocks that get numbers
+pub gets_words : (es es' : List (ℕ × ℕ)) (ns : List ℕ) → GetsAll (flat_map block_numbers es) (flat_map block_numbers es') ns → GetsAll (flat_map block_words es) (flat_map block_words es') (map word_of ns)
+gets_words es es' ns g =
+    subst (λ l. GetsAll l (flat_map block_words es') (map word_of ns)) (sym (words_are es))
+    (subst (λ l. GetsAll (map word_of (flat_map block_numbers es)) l (map word_of ns)) (sym (words_are es'))
+    (map_gets word_of (flat_map block_numbers es) (flat_map block_numbers es') ns g))
+
 -- a row's items
 pub row_yes : (r : Row) (i : Item) (n : ℕ) (b : Bool) → same_part r.part i.part ≡ true → n ≡ number_of i.word → (IsTrue b → In n (numbers_in r.words)) × (In n (numbers_in r.words) → IsTrue b) → (IsTrue b → In i (row_items r)) × (In i (row_items r) → IsTrue b)
 row_yes r i n b e q t =
@@ -102,17 +109,7 @@ row_gets r r' run e e' g =
     subst (λ q. GetsAll (row_items r) (row_items r') (in_part q (block_words run.block))) e
     (subst (λ q. GetsAll (row_items r) (in_part q (row_words r')) (in_part r.part (block_words run.block))) (sym e')
     (map_gets (item r.part) (row_words r) (row_words r') (block_words run.block)
-    (subst (λ l. GetsAll l (row_words r') (block_words run.block)) (sym (words_are r.words.blocks.items))
-    (subst (λ l. GetsAll (map word_of (numbers_in r.words)) l (block_words run.block)) (sym (words_are r'.words.blocks.items))
-    (map_gets word_of (numbers_in r.words) (numbers_in r'.words) (block_numbers run.block) g)))))
-
--- a row has all items of a run
-pub row_has_all : (r : Row) (run : ItemRun) → r.part ≡ run.part → ((n : ℕ) → In n (block_numbers run.block) → In n (numbers_in r.words)) → (i : Item) → In i (run_items run) → In i (row_items r)
-row_has_all r run e all i h =
-    let w = map_in (item run.part) (block_words run.block) h in
-    let v = map_in word_of (block_numbers run.block) w.1 in
-    let there : In w.0 (row_words r) = subst (In w.0) (sym (words_are r.words.blocks.items)) (subst (λ u. In u (map word_of (numbers_in r.words))) (sym v.2) (in_map word_of (numbers_in r.words) (all v.0 v.1))) in
-    subst (λ j. In j (row_items r)) (ap (λ q. item q w.0) e ∙ sym w.2) (in_map (item r.part) (row_words r) there)
+    (gets_words r.words.blocks.items r'.words.blocks.items (block_numbers run.block) g)))
 
 -- a new row
 pub row_none : (r : Row) → numbers_in r.words ≡ [] → row_items r ≡ []
@@ -139,14 +136,6 @@ within rows k q h = go rows k h.is_row
     go [] n e = cc
     go (x ∷ xs) zero e = omega arith
     go (x ∷ xs) (suc n) e = let lt : n < length xs = go xs n e in omega arith
-
-pub its_part : (rows : List Row) (k : ℕ) (r : Row) (q : Part) → HasPart rows k q → r ≡ get_or rows k r → r.part ≡ q
-its_part rows k r q h e = go rows k r h.row h.is_row e ∙ h.is_part
-  where
-    go : (xs : List Row) (n : ℕ) (r s : Row) → slice_get xs n ≡ Some s → r ≡ get_or xs n r → r.part ≡ s.part
-    go [] n r s q e = cc
-    go (x ∷ xs) zero r s q e = let same : x ≡ s = cc in ap (λ y. y.part) (e ∙ same)
-    go (x ∷ xs) (suc n) r s q e = go xs n r s q e
 
 pub gets_row : (rows : List Row) (r : Row) (is : List Item) → GetsAll [] (row_items r) is → GetsAll (flat_map row_items rows) (flat_map row_items (rows ++ r ∷ [])) is
 gets_row rows r is g = subst (λ l. GetsAll (flat_map row_items l) (flat_map row_items (rows ++ r ∷ [])) is) (append_nil rows) (gets_between row_items is rows [] r g)

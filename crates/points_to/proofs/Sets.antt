@@ -10,7 +10,7 @@ use Rattle.points_to.specs.Held.{In}
 use Rattle.points_to.specs.Rows.{GetsAll}
 use Rattle.points_to.specs.Asked.{fact, facts_at}
 use Rattle.points_to.specs.Known.{items_in, items_at, held, Puts, Grows}
-use Rattle.points_to.proofs.Member.{none_in, in_map, map_in}
+use Rattle.seq.proofs.Member.{none_in, in_map, map_in}
 
 pub at_some : (xs : List (List Item)) (n : ℕ) (s : List Item) → n < length xs → s ≡ get_or xs n s → items_at xs n ≡ s
 at_some xs n s lt e = ap items_in (slice_get_read xs (length xs) n s refl lt e)
@@ -25,9 +25,6 @@ found_some xs n s i b lt e q =
 
 pub found_none : (xs : List (List Item)) (n : ℕ) (i : Item) → length xs ≤ n → (IsTrue false → In i (items_at xs n)) × (In i (items_at xs n) → IsTrue false)
 found_none xs n i le = (λ t. cc, λ h. none_in (subst (In i) (at_none xs n le) h))
-
-pub found_all : (xs : List (List Item)) (n : ℕ) (s is : List Item) (b : Bool) → n < length xs → s ≡ get_or xs n s → (IsTrue b → (i : Item) → In i is → In i s) → IsTrue b → (i : Item) → In i is → In i (items_at xs n)
-found_all xs n s is b lt e q t i h = subst (In i) (sym (at_some xs n s lt e)) (q t i h)
 
 empty_more : (xs : List (List Item)) (s : List Item) → s ≡ [] → (n : ℕ) → items_at (xs ++ s ∷ []) n ≡ items_at xs n
 empty_more [] s e zero = e
@@ -112,10 +109,6 @@ result_put f f' n is e e' p = grows_by Result (held f) (held f') n is by (λ m m
     by (Site m) = inr (ap (λ v. items_at v.items m) e)
     by (Var m) = inr (ap (λ v. items_at v.items m) e')
     by (Result m) = inl (m, refl)
-
--- what is known already
-pub grows_same : (H : Place → List Item) (q : Place) (is : List Item) → ((j : Item) → In j is → In j (H q)) → Grows H H (facts_at q is)
-grows_same H q is all = record { kept = λ q j k. k; put = λ g k. let w = map_in (fact q) is k in subst (λ g. In g.item (H g.place)) (sym w.2) (all w.0 w.1); only = λ q j k. inl k }
 
 pub on_ok : {X E : Type 0} (r : Answer X E) (P Q : Type 0) → (P → Q) → OnOk r P → OnOk r Q
 on_ok (Ok x) P Q f p = f p

@@ -23,7 +23,7 @@ use Rattle.points_to.specs.Known.{held, Grows, solution_of}
 use Rattle.points_to.specs.Rounds.{InEvery, Satisfied, AllSatisfied, Counted}
 use Rattle.points_to.specs.Rows.{SameMembers}
 use Rattle.points_to.specs.Runs.{run_facts}
-use Rattle.points_to.proofs.Member.{none_in, cons_in, in_left, in_right, in_split}
+use Rattle.seq.proofs.Member.{none_in, cons_in, in_left, in_right, in_split}
 use Rattle.points_to.proofs.GivenItems.{eq_from, eq_self, picked_in, in_picked}
 use Rattle.points_to.proofs.Loops.{flat_next}
 use Rattle.points_to.proofs.Exact.{demands_mean, in_demands}

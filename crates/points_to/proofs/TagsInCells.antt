@@ -19,7 +19,7 @@ use Rattle.points_to.specs.Held.{In}
 use Rattle.points_to.specs.Known.{held, solution_of}
 use Rattle.points_to.specs.Wanted.{is_in, SameSet, numbers_by, TagTable, SiteTable}
 use Rattle.points_to.specs.Met.{tags_of_sites, Ascends, MetTable, MetSoFar}
-use Rattle.points_to.proofs.Member.{in_flat, flat_in}
+use Rattle.seq.proofs.Member.{in_flat, flat_in}
 use Rattle.points_to.proofs.Loops.{append_nil}
 use Rattle.points_to.proofs.Read.{is_in-in, in-is_in, both_ways, longer, entry, below_or_not, cells, node_tags}
 use Rattle.points_to.proofs.Solved.{known_at, at_known}

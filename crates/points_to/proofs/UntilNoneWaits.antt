@@ -20,8 +20,8 @@ use Rattle.points_to.specs.Reads.{reads, Agree}
 use Rattle.points_to.specs.Rounds.{InEvery, Satisfied, Counted}
 use Rattle.points_to.specs.Runs.{run_facts}
 use Rattle.points_to.specs.Waiting.{waiting, readers_of, Takes}
-use Rattle.points_to.specs.Worklist.{IsWaiting, IsReader, Wakes, Spreads, Advances, Satisfies, IsSettled, Stands}
-use Rattle.points_to.proofs.Member.{none_in, cons_in}
+use Rattle.points_to.specs.Worklist.{IsWaiting, IsReader, RegistersAt, Wakes, Spreads, Advances, Satisfies, IsSettled, Stands}
+use Rattle.seq.proofs.Member.{none_in, cons_in}
 use Rattle.points_to.proofs.Agree.{same_demands, same_reads}
 use Rattle.points_to.proofs.Solved.{Added, none_added, added_more, or_false-left, or_false-right, nothing_in_every, grown_in_every, least_at_end}
 use Rattle.points_to.proofs.Waiting.{equal_or_not}
@@ -71,23 +71,22 @@ pub all_added_to : (old new : Worklist) (a : Bool) (fs : List Fact) (rs : List F
 all_added_to old new a fs rs i le e x = subst (AddedTo old new a) (ap (flat_map run_facts) (take_all i rs le) ∙ e) x
 
 -- an inclusion: it is registered, then it gets what it asks for
-pub satisfies : (p : Tables) (c : Inclusion) (n : ℕ) (old between new : Worklist) (added : Bool) → between.facts ≡ old.facts → between.pending ≡ old.pending
-    → ((q : Place) (m : ℕ) → IsReader old q m → IsReader between q m) → ((q : Place) → In q (reads p (held old.facts) c) → IsReader between q n)
+pub satisfies : (p : Tables) (c : Inclusion) (n : ℕ) (old between new : Worklist) (added : Bool) → RegistersAt old between n (reads p (held old.facts) c)
     → Grows (held between.facts) (held new.facts) (demands p (held between.facts) c) → Spreads between new → (added ≡ false → new ≡ between) → Counted between.facts new.facts added → Satisfies p c n old new
-satisfies p c n old between new added e e' k put g s t counted = record {
-  grown = subst (λ f. Grows (held f) (held new.facts) (demands p (held f) c)) e g;
-  kept = λ m h. s.kept m (subst (λ w. In m (waiting w)) (sym e') h);
-  moved = λ q m h. s.moved q m (k q m h);
-  registered = λ q h. s.moved q n (put q h);
-  woken = λ q. ⊎_elim (λ x. inl (x ∙ ap (λ f. held f q) e)) (λ w. inr (λ m h. w m (k q m h))) (s.woken q);
-  woken_itself = λ q h. ⊎_elim (λ x. inl (x ∙ ap (λ f. held f q) e)) (λ w. inr (w n (put q h))) (s.woken q);
-  no_less = subst (λ f. f.count ≤ new.facts.count) e counted.no_less;
+satisfies p c n old between new added r g s t counted = record {
+  grown = subst (λ f. Grows (held f) (held new.facts) (demands p (held f) c)) r.same_facts g;
+  kept = λ m h. s.kept m (subst (λ w. In m (waiting w)) (sym r.same_pending) h);
+  moved = λ q m h. s.moved q m (r.kept q m h);
+  registered = λ q h. s.moved q n (r.put q h);
+  woken = λ q. ⊎_elim (λ x. inl (x ∙ ap (λ f. held f q) r.same_facts)) (λ w. inr (λ m h. w m (r.kept q m h))) (s.woken q);
+  woken_itself = λ q h. ⊎_elim (λ x. inl (x ∙ ap (λ f. held f q) r.same_facts)) (λ w. inr (w n (r.put q h))) (s.woken q);
+  no_less = subst (λ f. f.count ≤ new.facts.count) r.same_facts counted.no_less;
   more = go added t counted.more;
 }
   where
     go : (b : Bool) → (b ≡ false → new ≡ between) → (b ≡ true → between.facts.count < new.facts.count) → (old.facts.count < new.facts.count) ⊎ (waiting new.pending ≡ waiting old.pending)
-    go true t more = inl (subst (λ f. f.count < new.facts.count) e (more refl))
-    go false t more = inr (ap (λ w. waiting w.pending) (t refl) ∙ ap waiting e')
+    go true t more = inl (subst (λ f. f.count < new.facts.count) r.same_facts (more refl))
+    go false t more = inr (ap (λ w. waiting w.pending) (t refl) ∙ ap waiting r.same_pending)
 
 -- of each member, or once for all
 all_or : (P : Place → Type 0) (Q : Type 0) (qs : List Place) → ((q : Place) → In q qs → P q ⊎ Q) → ((q : Place) → In q qs → P q) ⊎ Q
@@ -204,7 +203,7 @@ advances p c old now new n same t s = record {
 pub advances_past : (old now : Worklist) (n : ℕ) → now.facts ≡ old.facts → Takes (waiting old.pending) (waiting now.pending) n → Advances old now true
 advances_past old now n same t = record { no_less = subst (λ f. old.facts.count ≤ f.count) (sym same) (omega arith); on = λ e. inr t.shorter }
 
-pub turn_counts : (f f' w w' : ℕ) (more : Bool) → f < 2 ^ 64 → f' < 2 ^ 64 → w' < 2 ^ 64 → f ≤ f' → (more ≡ true → (f < f') ⊎ (w' < w)) → (more ≡ false → w' ≡ 0)
-    → ((2 ^ 64 - f') * 2 ^ 65 + w') + cond more 1 0 < ((2 ^ 64 - f) * 2 ^ 65 + w) + 1
+pub turn_counts : (f f' w w' : ℕ) (more : Bool) → f < 2 ^ 64 → f' < 2 ^ 64 → w' < 2 ^ 70 → f ≤ f' → (more ≡ true → (f < f') ⊎ (w' < w)) → (more ≡ false → w' ≡ 0)
+    → ((2 ^ 64 - f') * 2 ^ 71 + w') + cond more 1 0 < ((2 ^ 64 - f) * 2 ^ 71 + w) + 1
 turn_counts f f' w w' true lt lt' lw le on off = ⊎_elim (λ a. omega (arith, a)) (λ b. omega (arith, b)) (on refl)
 turn_counts f f' w w' false lt lt' lw le on off = let z : w' ≡ 0 = off refl in omega (arith, z)

@@ -1,9 +1,8 @@
 -- Sets of numbers by their own number, and the inclusions that wait.
-use Rattle.std.proofs.Common.{◌≡◌, ◌+◌, ◌<◌, ◌≤◌, ℕ, zero, suc, List, [], ◌∷◌, ◌++◌, length, get_or, Option, Some, None, slice_set, take, drop, refl, sym, ap, ◌∙◌, subst, inl, inr, ⊎_elim, arith}
-use Rattle.std.specs.Prelude.{◌⊎◌, IfSome}
+use Rattle.std.proofs.Common.{◌≡◌, ◌+◌, ◌<◌, ◌≤◌, ℕ, zero, suc, List, [], ◌∷◌, ◌++◌, length, get_or, slice_set, take, drop, refl, sym, ap, ◌∙◌, subst, inl, inr, ⊎_elim, arith}
+use Rattle.std.specs.Prelude.{◌⊎◌}
 use Rattle.std.proofs.lemmas.Option.{slice_get_read}
 use Rattle.std.proofs.lemmas.List.{take_all, take_more, take-append-drop}
-use Rattle.std.specs.BTreeSet.{insert_key}
 use Rattle.std.specs.List.{insert}
 use Rattle.std.specs.Ordering.{nat_cmp}
 use Rattle.std.specs.declared.cmp.Ordering.TheVariants.{Equal}
@@ -11,10 +10,8 @@ use Rattle.std.specs.FinMap.{nat_cmp-IsAntisymmetric}
 use Rattle.flow_system.specs.declared.fact.Place.{Place}
 use Rattle.points_to.specs.Held.{In, here, there}
 use Rattle.points_to.specs.Rows.{Gets}
-use Rattle.points_to.specs.Joined.{Joined}
-use Rattle.points_to.specs.Waiting.{Waits, Takes, slot, numbers_in, numbers_at, Registers}
-use Rattle.points_to.proofs.Read.{put_joins}
-use Rattle.points_to.proofs.Member.{cons_in, one_in, in_left, in_right, in_split}
+use Rattle.points_to.specs.Waiting.{slot, numbers_in, numbers_at, Registers}
+use Rattle.seq.proofs.Member.{cons_in, one_in, in_left, in_right, in_split}
 
 pub equal_or_not : (m n : ℕ) → (m ≡ n) ⊎ (m ≡ n → ⊥)
 equal_or_not zero zero = inl refl
@@ -64,47 +61,7 @@ pub registers_at : (old : ℕ → List ℕ) (xs : List (List ℕ)) (q : Place) (
     → Registers (λ r. old (slot r)) (λ r. numbers_at (slice_set xs k s') (slot r)) q n
 registers_at old xs q k s s' n is = subst (λ j. numbers_at xs ≡ old → j < length xs → s ≡ get_or xs j s → Gets s s' n → Registers (λ r. old (slot r)) (λ r. numbers_at (slice_set xs j s') (slot r)) q n) (sym is) (registers old xs q s s' n)
 
--- what waits, ahead and behind
-pub waits_ahead : (us us' vs : List ℕ) (n : ℕ) → Gets us us' n → Waits (us ++ vs) (us' ++ vs) n
-waits_ahead us us' vs n g = record {
-  kept = λ m h. ⊎_elim (λ a. in_left us' vs (g.kept m a)) (λ b. in_right us' vs b) (in_split us vs h);
-  put = in_left us' vs g.put;
-}
-
-pub waits_behind : (us vs vs' : List ℕ) (n : ℕ) → Gets vs vs' n → Waits (us ++ vs) (us ++ vs') n
-waits_behind us vs vs' n g = record {
-  kept = λ m h. ⊎_elim (λ a. in_left us vs' a) (λ b. in_right us vs' (g.kept m b)) (in_split us vs h);
-  put = in_right us vs' g.put;
-}
-
-pub takes_first : (us us' vs : List ℕ) (n : ℕ) → us ≡ n ∷ us' → Takes (us ++ vs) (us' ++ vs) n
-takes_first us us' vs n e = subst (λ l. Takes (l ++ vs) (us' ++ vs) n) (sym e) (record { rest = λ m h. cons_in n (us' ++ vs) h; shorter = omega arith })
-
-pub takes_last : (us us' vs : List ℕ) (n : ℕ) → us ≡ us' ++ n ∷ [] → Takes (us ++ vs) (us' ++ vs) n
-takes_last us us' vs n e = subst (λ l. Takes (l ++ vs) (us' ++ vs) n) (sym e) (record {
-  rest = λ m h. ⊎_elim
-      (λ a. ⊎_elim (λ x. inr (in_left us' vs x)) (λ y. inl (one_in n y)) (in_split us' (n ∷ []) a))
-      (λ b. inr (in_right us' vs b))
-      (in_split (us' ++ n ∷ []) vs h);
-  shorter = shorter us';
-})
-  where
-    shorter : (xs : List ℕ) → length (xs ++ vs) < length ((xs ++ n ∷ []) ++ vs)
-    shorter [] = omega arith
-    shorter (x ∷ xs) = let h : length (xs ++ vs) < length ((xs ++ n ∷ []) ++ vs) = shorter xs in omega (arith, h)
-
-pub if_some : {X : Type 0} (o : Option X) (P Q : X → Type 0) → ((x : X) → P x → Q x) → IfSome o P → IfSome o Q
-if_some None P Q f p = tt
-if_some (Some x) P Q f p = f x p
-
--- both lists, the other way round
-pub turned : (us vs : List ℕ) (n : ℕ) → In n (us ++ vs) → In n (vs ++ us)
-turned us vs n h = ⊎_elim (λ a. in_right vs us a) (λ b. in_left vs us b) (in_split us vs h)
-
--- a number is put into an ordered list
-pub gets_number : (old new : List ℕ) (n : ℕ) → new ≡ insert_key nat_cmp old n → Gets old new n
-gets_number old new n e = let j : Joined old (n ∷ []) new = put_joins old new n e in record { kept = j.kept; put = j.put n here; only = λ m h. ⊎_elim (λ a. inl a) (λ b. inr (one_in n b)) (j.only m h) }
-
+-- a number is put into a row
 pub gets_at_end : (xs : List ℕ) (n : ℕ) → Gets xs (xs ++ n ∷ []) n
 gets_at_end xs n = record {
   kept = λ m h. in_left xs (n ∷ []) h;
@@ -134,25 +91,8 @@ gets_found xs k n lt e = record { kept = λ m h. h; put = subst (λ m. In m xs) 
     read_in (y ∷ ys) (suc i) lt = there (read_in ys i (omega (arith, lt)))
 
 -- loops over numbers
-pub below_next : (P : ℕ → Type 0) (n : ℕ) → ((m : ℕ) → m < n → P m) → P n → (m : ℕ) → m < n + 1 → P m
-below_next P n h p m lt = ⊎_elim (λ e. subst P (sym e) p) (λ ne. h m (omega (arith, lt, ne))) (equal_or_not m n)
-
 pub taken_next : {X : Type 0} (P : X → Type 0) (xs : List X) (i : ℕ) (d : X) → i < length xs → ((x : X) → In x (take i xs) → P x) → P (get_or xs i d) → (x : X) → In x (take (i + 1) xs) → P x
 taken_next P xs i d lt h p x k = ⊎_elim (λ a. h x a) (λ b. subst P (sym (one_in (get_or xs i d) b)) p) (in_split (take i xs) (get_or xs i d ∷ []) (subst (In x) (take_more xs i d lt) k))
 
 pub taken_all : {X : Type 0} (P : X → Type 0) (xs : List X) (i : ℕ) → length xs ≤ i → ((x : X) → In x (take i xs) → P x) → (x : X) → In x xs → P x
 taken_all P xs i le h x k = h x (subst (In x) (sym (take_all i xs le)) k)
-
-pub takes_from : (us vs cs : List ℕ) (n : ℕ) → ((m : ℕ) → In m us → In m vs) → length vs ≡ length us → Takes vs cs n → Takes us cs n
-takes_from us vs cs n k e t = record { rest = λ m h. t.rest m (k m h); shorter = subst (λ l. length cs < l) e t.shorter }
-
-pub none_long : (us : List ℕ) → length us ≡ 0 → us ≡ []
-none_long [] e = refl
-none_long (x ∷ us) e = absurd (omega (arith, e))
-
-pub same_length : (us vs : List ℕ) → length (vs ++ us) ≡ length (us ++ vs)
-same_length us vs = omega (arith, long us vs, long vs us)
-  where
-    long : (xs ys : List ℕ) → length (xs ++ ys) ≡ length xs + length ys
-    long [] ys = omega arith
-    long (x ∷ xs) ys = let e : length (xs ++ ys) ≡ length xs + length ys = long xs ys in omega (arith, e)

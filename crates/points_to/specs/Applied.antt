@@ -22,7 +22,8 @@ module _ (p : Tables) (H : Place → List Item) (X : List Item) where
   abbrev pub call_facts : Word → Sink → ℕ → Option ℕ → List Fact
   call_facts a k t None = []
   call_facts a k t (Some f) =
-      target_facts p (Some 1) (call_arguments t (a ∷ [])) (params_of p f) ++ flow_facts p H (held (result f)) k
+      target_facts p (Some 1) (call_arguments t (a ∷ [])) (params_of p f)
+      ++ flow_facts p H (held (result f)) k
 
   abbrev pub tag_applied : Word → Sink → AbstractWord → List Fact
   tag_applied a k (cell_of s) = []

@@ -34,7 +34,8 @@ cell_facts Y num = []
 module _ (p : Tables) where
   abbrev pub vector_facts : List Item → ℕ → List VarId → List Fact
   vector_facts X j [] = []
-  vector_facts X j (x ∷ xs) = facts_at (var x.0) (in_part (word 0) (as_word p j X)) ++ vector_facts X (suc j) xs
+  vector_facts X j (x ∷ xs) =
+      facts_at (var x.0) (in_part (word 0) (as_word p j X)) ++ vector_facts X (suc j) xs
 
   abbrev pub target_facts : Option ℕ → List Item → Target → List Fact
   target_facts k X Nothing = []
@@ -55,7 +56,9 @@ module _ (p : Tables) (H : Place → List Item) where
 
   abbrev pub delayed_facts : ℕ → ℕ → Option ℕ → List Fact
   delayed_facts s t None = []
-  delayed_facts s t (Some f) = flow_facts (arguments (held (site s)) t []) (to (params_of p f)) ++ flow_facts (evaluated (held (result f))) (into_site s)
+  delayed_facts s t (Some f) =
+      flow_facts (arguments (held (site s)) t []) (to (params_of p f))
+      ++ flow_facts (evaluated (held (result f))) (into_site s)
 
   abbrev pub forced : ℕ → AbstractWord → List Fact
   forced s (cell_of s') = []
@@ -64,7 +67,9 @@ module _ (p : Tables) (H : Place → List Item) where
 
   abbrev pub called_facts : Val → Word → Sink → ℕ → Option ℕ → List Fact
   called_facts v a k t None = []
-  called_facts v a k t (Some f) = flow_facts (arguments (value v) t (a ∷ [])) (to (params_of p f)) ++ flow_facts (held (result f)) k
+  called_facts v a k t (Some f) =
+      flow_facts (arguments (value v) t (a ∷ [])) (to (params_of p f))
+      ++ flow_facts (held (result f)) k
 
   abbrev pub applied : Val → Word → Sink → AbstractWord → List Fact
   applied v a k (cell_of s) = []
@@ -75,4 +80,5 @@ module _ (p : Tables) (H : Place → List Item) where
   abbrev pub demands : Inclusion → List Fact
   demands (flows s k) = flow_facts s k
   demands (forces s) = flat_map (forced s) (picked tags (H (site s)))
-  demands (applies v a k) = flat_map (applied v a k) (picked tags (as_nodes p (width (value v)) (value_items p H v)))
+  demands (applies v a k) =
+      flat_map (applied v a k) (picked tags (as_nodes p (width (value v)) (value_items p H v)))

@@ -51,7 +51,8 @@ Finds bs q r = MatchResult r (StandsAt bs q) (GoesTo bs q)
 abbrev pub Takes : List ℕ → List ℕ → Option ℕ → Type 0
 Takes old new first = MatchOption first (old ≡ []) (λ n. old ≡ n ∷ new)
 
--- each word has a number, and each number is that of a word; blocks of cells and of other words take turns
+-- each word has a number, and each number is that of a word; blocks of cells and of other words
+-- take turns
 abbrev pub number_of : Element → ℕ
 number_of (Cell s) = s / 64 * 128 + 64 + s % 64
 number_of (Tag t) = (t + 1) / 64 * 128 + (t + 1) % 64
@@ -63,7 +64,9 @@ number_or_tag zero = Number
 number_or_tag (suc t) = Tag t
 
 abbrev pub word_of : ℕ → Element
-word_of n = cond (nat_lt (n % 128) 64) (number_or_tag (n / 128 * 64 + n % 64)) (Cell (n / 128 * 64 + n % 64))
+word_of n =
+    cond (nat_lt (n % 128) 64) (number_or_tag (n / 128 * 64 + n % 64))
+    (Cell (n / 128 * 64 + n % 64))
 
 -- the words of a block
 abbrev pub block_words : ℕ × ℕ → List Element

@@ -19,11 +19,7 @@ use Rattle.flow_system.specs.Inclusions.{Source, value, a_cell, a_number, held, 
 use Rattle.flow_system.specs.Tables.{Tables, fields_of}
 use Rattle.flow_system.specs.Solution.{width}
 use Rattle.points_to.specs.declared.facts.Item.{Item}
-
--- membership in a list
-pub data In {X : Type 0} : X → List X → Type 0 where
-  here : {x : X} {xs : List X} → In x (x ∷ xs)
-  there : {x y : X} {xs : List X} → In x xs → In x (y ∷ xs)
+pub use Rattle.seq.specs.Lists.{In, here, there}
 
 abbrev pub item : Part → AbstractWord → Item
 item q u = record { part = q; word = u }
@@ -114,7 +110,8 @@ module _ (p : Tables) where
 
   -- the procedure that a tag delays
   abbrev pub delayed : ℕ → Option ℕ
-  delayed t = if_tag (slice_get p.tags t) (λ i. cond (is_fun_kind i.kind) (if_procedure i.proc (λ f. Some f)) None)
+  delayed t = if_tag (slice_get p.tags t) (λ i.
+      cond (is_fun_kind i.kind) (if_procedure i.proc (λ f. Some f)) None)
 
   abbrev pub when_more : ℕ → ℕ → Option ℕ
   when_more f zero = None
@@ -123,10 +120,12 @@ module _ (p : Tables) where
 
   -- the procedure that a tag calls with one argument more, and the tag that it becomes with one
   abbrev pub called : ℕ → Option ℕ
-  called t = if_tag (slice_get p.tags t) (λ i. cond (is_part_kind i.kind) (if_procedure i.proc (λ f. when_one f i.missing)) None)
+  called t = if_tag (slice_get p.tags t) (λ i.
+      cond (is_part_kind i.kind) (if_procedure i.proc (λ f. when_one f i.missing)) None)
 
   abbrev pub longer : ℕ → Option ℕ
-  longer t = if_tag (slice_get p.tags t) (λ i. cond (is_part_kind i.kind) (if_procedure i.proc (λ f. when_more f i.missing)) None)
+  longer t = if_tag (slice_get p.tags t) (λ i.
+      cond (is_part_kind i.kind) (if_procedure i.proc (λ f. when_more f i.missing)) None)
 
   -- word i of the nodes among the items: the tag, then the fields, then numbers
   abbrev pub field_or_zero : ℕ → ℕ → List Item → Option ℕ → List AbstractWord
@@ -160,7 +159,8 @@ module _ (p : Tables) where
   node_of_word k X num = []
 
   abbrev pub as_nodes : Option ℕ → List Item → List Item
-  as_nodes k X = flat_map (λ i. node_part i.part i) X ++ flat_map (node_of_word k X) (picked (word 0) X)
+  as_nodes k X =
+      flat_map (λ i. node_part i.part i) X ++ flat_map (node_of_word k X) (picked (word 0) X)
 
   -- the evaluated ones
   abbrev pub done_tag : AbstractWord → List Item
@@ -207,7 +207,9 @@ module _ (p : Tables) where
 
     abbrev pub longer_node : W.Word → List Item → ℕ → Option ℕ → List Item
     longer_node a X t None = []
-    longer_node a X t (Some t') = item tags (tag t') ∷ (flat_map (λ i. moved_part t t' i.part i.word) X ++ last_field a t' (fields_of p t))
+    longer_node a X t (Some t') =
+        item tags (tag t')
+        ∷ (flat_map (λ i. moved_part t t' i.part i.word) X ++ last_field a t' (fields_of p t))
 
     abbrev pub longer_tag : W.Word → List Item → AbstractWord → List Item
     longer_tag a X (cell_of s) = []
@@ -221,7 +223,9 @@ module _ (p : Tables) where
 
     abbrev pub arguments_of : ℕ → List W.Word → List Item → AbstractWord → List Item
     arguments_of t ws X (cell_of s) = []
-    arguments_of t ws X (tag u) = cond (nat_eq u t) (flat_map (λ i. argument_part t i.part i.word) X ++ after_fields ws (fields_of p t)) []
+    arguments_of t ws X (tag u) =
+        cond (nat_eq u t)
+        (flat_map (λ i. argument_part t i.part i.word) X ++ after_fields ws (fields_of p t)) []
     arguments_of t ws X num = []
 
     abbrev pub items : Source → List Item
@@ -232,5 +236,9 @@ module _ (p : Tables) where
     items (nodes_at w) = flat_map (cell_items H) (elements w)
     items (word_at w i) = in_part (word 0) (flat_map (fetched_at i) (elements w))
     items (evaluated s) = done_items (as_nodes (width s) (items s))
-    items (extended v a) = flat_map (longer_tag a (as_nodes (width (value v)) (value_items v))) (picked tags (as_nodes (width (value v)) (value_items v)))
-    items (arguments s t ws) = flat_map (arguments_of t ws (as_nodes (width s) (items s))) (picked tags (as_nodes (width s) (items s)))
+    items (extended v a) =
+        flat_map (longer_tag a (as_nodes (width (value v)) (value_items v)))
+        (picked tags (as_nodes (width (value v)) (value_items v)))
+    items (arguments s t ws) =
+        flat_map (arguments_of t ws (as_nodes (width s) (items s)))
+        (picked tags (as_nodes (width s) (items s)))

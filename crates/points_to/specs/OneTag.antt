@@ -19,4 +19,5 @@ module _ (p : Tables) (t : ℕ) where
 
   -- the items of nodes, and what the words stand for where their tag is t
   abbrev pub as_nodes_of : Option ℕ → List Item → List Item
-  as_nodes_of k X = flat_map (λ i. node_part i.part i) X ++ flat_map (node_if_tag k X) (picked (word 0) X)
+  as_nodes_of k X =
+      flat_map (λ i. node_part i.part i) X ++ flat_map (node_if_tag k X) (picked (word 0) X)

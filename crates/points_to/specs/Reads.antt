@@ -1,4 +1,5 @@
--- The places that an inclusion reads, by what is known so far: those that it names, and those that it reaches through them.
+-- The places that an inclusion reads, by what is known so far: those that it names, and those that
+-- it reaches through them.
 use Rattle.std.specs.Prelude.{◌≡◌, ℕ, List, [], ◌∷◌, ◌++◌, Option, Some, None}
 use Rattle.std.specs.List.{flat_map}
 use Rattle.grin_syntax.specs.declared.program.Word.{Word}
@@ -73,7 +74,9 @@ module _ (p : Tables) where
     abbrev pub reads : Inclusion → List Place
     reads (flows s k) = source_reads s ++ sink_reads k
     reads (forces s) = site s ∷ flat_map forced_reads (picked tags (H (site s)))
-    reads (applies v a k) = (value_reads v ++ (word_reads a ++ sink_reads k)) ++ flat_map applied_reads (picked tags (as_nodes p (width (value v)) (value_items p H v)))
+    reads (applies v a k) =
+        (value_reads v ++ (word_reads a ++ sink_reads k))
+        ++ flat_map applied_reads (picked tags (as_nodes p (width (value v)) (value_items p H v)))
 
 -- the same is known at these places
 pub record Agree (H H' : Place → List Item) (qs : List Place) : Type 0 where

@@ -13,9 +13,13 @@ use Rattle.points_to.specs.Held.{In, in_part}
 abbrev pub numbers_in : Bits → List ℕ
 numbers_in s = flat_map block_numbers s.blocks.items
 
+-- the words whose numbers are in a set
+abbrev pub words_in : Bits → List Element
+words_in s = flat_map block_words s.blocks.items
+
 -- the words of a row
 abbrev pub row_words : Row → List Element
-row_words r = flat_map block_words r.words.blocks.items
+row_words r = words_in r.words
 
 -- the items of a row
 abbrev pub row_items : Row → List Item

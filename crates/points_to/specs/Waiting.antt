@@ -1,13 +1,31 @@
 -- The inclusions that wait, and those that are registered as readers of places.
-use Rattle.std.specs.Prelude.{◌≡◌, ◌+◌, ◌*◌, ◌<◌, ℕ, ◌⊎◌, List, [], ◌++◌, length, Option, Some, None, slice_get}
+use Rattle.std.specs.Prelude.{◌≡◌, ◌+◌, ◌*◌, ◌<◌, ◌≤◌, ℕ, suc, ◌⊎◌, List, [], ◌∷◌, ◌++◌, length, get_or, Option, Some, None, slice_get}
 use Rattle.flow_system.specs.declared.fact.Place.{Place}
 use Rattle.flow_system.specs.declared.fact.Place.TheVariants.{Site, Var, Result}
 use Rattle.points_to.specs.declared.pending.Pending.{Pending}
 use Rattle.points_to.specs.declared.readers.Readers.{Readers}
 use Rattle.points_to.specs.Held.{In}
+use Rattle.points_to.specs.Bits.{block_numbers}
+
+-- the numbers in groups of 64, of which the first has this number
+abbrev pub numbers_from : ℕ → List ℕ → List ℕ
+numbers_from g [] = []
+numbers_from g (w ∷ ws) = block_numbers (g, w) ++ numbers_from (suc g) ws
 
 abbrev pub waiting : Pending → List ℕ
-waiting w = w.ahead ++ w.behind
+waiting w = numbers_from 0 w.groups.items
+
+-- a group has some number
+pub record HasSome (gs : List ℕ) (k : ℕ) : Type 0 where
+  pub within : k < length gs
+  pub some : 0 < get_or gs k 0
+
+-- the groups from a place on have none, and those up to a place
+abbrev pub NoneFrom : List ℕ → ℕ → Type 0
+NoneFrom gs at = (i : ℕ) → at ≤ i → i < length gs → get_or gs i 0 ≡ 0
+
+abbrev pub NoneTo : List ℕ → ℕ → Type 0
+NoneTo gs at = (i : ℕ) → i ≤ at → i < length gs → get_or gs i 0 ≡ 0
 
 -- a number waits, beside those that waited
 pub record Waits (old new : List ℕ) (n : ℕ) : Type 0 where

@@ -1,5 +1,5 @@
 -- What readers want of the items at a place, as ascending lists.
-use Rattle.std.specs.Prelude.{◌≡◌, ℕ, Bool, cond, nat_eq, List, [], ◌∷◌, map, Option, Some, None, slice_get}
+use Rattle.std.specs.Prelude.{◌≡◌, ℕ, Bool, cond, nat_eq, List, [], ◌∷◌, ◌++◌, map, Option, Some, None, slice_get}
 use Rattle.std.specs.List.{flat_map, list_any}
 use Rattle.std.specs.List.Sorted.{IsStrictlyIncreasing}
 use Rattle.grin_syntax.specs.declared.program.TagId.{TagId}
@@ -16,7 +16,7 @@ use Rattle.points_to.specs.declared.wanted.Kind.{Kind}
 use Rattle.points_to.specs.declared.wanted.Kind.TheVariants.{Sites as of_sites, Vars, Results}
 use Rattle.points_to.specs.declared.wanted.Wanted.{Wanted}
 use Rattle.points_to.specs.declared.wanted.Wanted.TheVariants.{NodeTags, Tags as all_tags, Sites as cell_sites}
-use Rattle.points_to.specs.Held.{In}
+use Rattle.points_to.specs.Held.{In, picked}
 use Rattle.points_to.specs.Known.{held}
 
 abbrev pub tag_in : Element → List ℕ
@@ -42,6 +42,12 @@ wanted_of cell_sites (word j) u = cond (nat_eq j 0) (site_in u) []
 
 abbrev pub wanted : Wanted → List Item → List ℕ
 wanted w = flat_map (λ i. wanted_of w i.part i.word)
+
+-- the same numbers, part by part
+abbrev pub by_parts : Wanted → List Item → List ℕ
+by_parts NodeTags X = flat_map tag_in (picked tags X)
+by_parts all_tags X = flat_map tag_in (picked tags X) ++ flat_map tag_in (picked (word 0) X)
+by_parts cell_sites X = flat_map site_in (picked (word 0) X)
 
 abbrev pub place_of : Kind → ℕ → Place
 place_of of_sites n = site n
@@ -75,7 +81,8 @@ numbers_by f (Some xs) = map f xs
 
 -- an entry for each place of a kind, by the place's number
 abbrev pub IsTable : {X : Type 0} → (X → ℕ) → Facts → Kind → Wanted → List (List X) → Type 0
-IsTable number f k w table = (n : ℕ) → Lists w (held f (place_of k n)) (numbers_by number (slice_get table n))
+IsTable number f k w table =
+    (n : ℕ) → Lists w (held f (place_of k n)) (numbers_by number (slice_get table n))
 
 abbrev pub TagTable : Facts → Kind → Wanted → List (List TagId) → Type 0
 TagTable = IsTable (λ t. t.0)

@@ -211,7 +211,8 @@ fn evaluated_results(
     nodes_at_place(alloc, system, Some(1), &given, Place::Site(s), out)
 }
 
-// The delayed calls of f in the cells of a site: their fields are its arguments, and its evaluated results are there.
+// The delayed calls of f in the cells of a site: their fields are its arguments, and its evaluated
+// results are there.
 fn delayed_facts(
     alloc: Global,
     system: &FlowSystem,

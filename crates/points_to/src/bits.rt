@@ -1,15 +1,18 @@
 // Sets of words as sparse rows of bits, over a numbering of the words.
 
-ghost use Rattle.std.specs.Prelude.{◌≡◌, ◌≢◌, ℕ, ◌^◌, ◌<◌, max, [], ◌∷◌, ◌↔◌, IsTrue, IfOk};
+ghost use Rattle.std.specs.Prelude.{◌≡◌, ◌≢◌, ℕ, ◌^◌, ◌<◌, max, [], ◌∷◌, ◌↔◌, IsTrue, IfOk, OnOk, false};
+ghost use Rattle.std.specs.List.{flat_map};
 ghost use Rattle.std.specs.Int.{bit_at};
 ghost use Rattle.std.proofs.Props.{props};
-ghost use Rattle.points_to.specs.Bits.{Ascending, BitsAt, Finds, IsPlace, StandsAt, Takes, number_of, word_of, block_words};
+ghost use Rattle.points_to.specs.Held.{In};
+ghost use Rattle.points_to.specs.Bits.{Ascending, BitsAt, Finds, IsPlace, StandsAt, Takes, number_of, word_of, block_numbers, block_words};
 
 use flow_system::fact::Element;
 use std::alloc::{AllocError, Global};
 use std::marker::Model;
 
-/// The number of a word. Blocks of cells and blocks of other words take turns, so that a block has words of one kind.
+/// The number of a word. Blocks of cells and blocks of other words take turns, so that a block has
+/// words of one kind.
 pub fn number_of(word: Element) -> u64
     ensures number { result ≡ number_of word }
     ensures below { result < 2 ^ 38 }
@@ -46,7 +49,8 @@ pub fn block_of(word: Element) -> (u32, u64)
     ((n / 64) as u32, with_bit(0, (n % 64) as u32))
 }
 
-/// What is left to go over of a block of 64 numbers: a bit for each, the lowest for 64 times the block's number.
+/// What is left to go over of a block of 64 numbers: a bit for each, the lowest for 64 times the
+/// block's number.
 #[derive(Debug, Drop)]
 pub struct Block {
     number: u32,
@@ -63,8 +67,6 @@ impl Model for Block {
 }
 
 impl Block {
-    ghost use Rattle.points_to.specs.Bits.{block_numbers};
-
     /// A whole block.
     pub fn new(number: u32, bits: u64) -> Block
         ensures { result ≡ block_numbers (number, bits) }
@@ -92,7 +94,7 @@ fn has_bit(bits: u64, k: u32) -> bool
     bits & (1 << k) != 0
 }
 
-fn with_bit(bits: u64, k: u32) -> u64
+pub(crate) fn with_bit(bits: u64, k: u32) -> u64
     requires { k < 64 }
     ensures set { bit_at result k ≡ 1 }
     ensures others { (i : ℕ) → i ≢ k → bit_at result i ≡ bit_at bits i }
@@ -100,7 +102,7 @@ fn with_bit(bits: u64, k: u32) -> u64
     bits | (1 << k)
 }
 
-fn without_bit(bits: u64, k: u32) -> u64
+pub(crate) fn without_bit(bits: u64, k: u32) -> u64
     requires { k < 64 }
     ensures clear { bit_at result k ≡ 0 }
     ensures others { (i : ℕ) → i < 64 → i ≢ k → bit_at result i ≡ bit_at bits i }
@@ -122,7 +124,8 @@ fn is_within(a: u64, b: u64) -> bool
     a & b == a
 }
 
-/// A set of numbers: each block that has a member, as its number and its bits, in the order of their numbers.
+/// A set of numbers: each block that has a member, as its number and its bits, in the order of
+/// their numbers.
 #[derive(Drop)]
 pub struct Bits {
     pub(crate) blocks: Vec<(u32, u64)>,
@@ -130,11 +133,7 @@ pub struct Bits {
 }
 
 impl Bits {
-    ghost use Rattle.std.specs.Prelude.{[], IfOk, OnOk};
-    ghost use Rattle.std.specs.List.{flat_map};
-    ghost use Rattle.points_to.specs.Bits.{block_numbers};
-    ghost use Rattle.points_to.specs.Held.{In};
-    ghost use Rattle.points_to.specs.Rows.{numbers_in, GetsAll, SameMembers};
+    ghost use Rattle.points_to.specs.Rows.{numbers_in, GetsAll};
 
     /// No numbers.
     pub fn new(alloc: Global) -> Bits
@@ -143,18 +142,6 @@ impl Bits {
         Bits {
             blocks: Vec::new(alloc),
         }
-    }
-
-    /// The numbers of blocks.
-    pub fn of(alloc: Global, blocks: &[(u32, u64)]) -> Result<Bits, AllocError>
-        ensures { IfOk result (λ s. SameMembers (numbers_in s) (flat_map block_numbers blocks.now)) }
-    {
-        let mut set = Bits::new(alloc);
-        let mut near = 0;
-        for block in blocks {
-            near = set.add_near(*block, near)?;
-        }
-        Ok(set)
     }
 
     /// Whether a number is there.
@@ -168,41 +155,58 @@ impl Bits {
         )
     }
 
-    /// Whether all numbers of a block are there. Where it says no, some may be missing.
-    pub fn has_block(&self, block: (u32, u64)) -> bool
-        ensures { IsTrue result → (n : ℕ) → In n (block_numbers block) → In n (numbers_in self.now) }
-    {
-        is_within(block.1, bits_at(self.blocks.as_slice(), block.0))
-    }
-
-    /// Puts the numbers of a block there.
-    pub fn add(&mut self, block: (u32, u64)) -> Result<(), AllocError>
-        ensures { OnOk result (GetsAll (numbers_in self.old) (numbers_in self.new)
+    /// Puts the numbers of a block there, and says whether some of them may be new. Where none is,
+    /// nothing changes.
+    pub fn add_new(&mut self, block: (u32, u64)) -> Result<bool, AllocError>
+        ensures gets { OnOk result (GetsAll (numbers_in self.old) (numbers_in self.new)
             (block_numbers block)) }
+        ensures still { IfOk result (λ added. added ≡ false → self.new ≡ self.old) }
     {
-        self.add_near(block, 0)?;
-        Ok(())
+        let found = find(self.blocks.as_slice(), block.0);
+        if has_at(self.blocks.as_slice(), block, found) {
+            return Ok(false);
+        }
+        Self::put_at(&mut self.blocks, block, found)?;
+        Ok(true)
     }
 
-    // Puts the numbers of a block there, which is looked for near a place first, and says at which place it stands.
+    /// Puts the numbers of blocks there. The first block is looked for near a place; it says at
+    /// which place the last one stands.
+    pub fn add_all(&mut self, blocks: &[(u32, u64)], near: usize) -> Result<usize, AllocError>
+        ensures { OnOk result (GetsAll (numbers_in self.old) (numbers_in self.new)
+            (flat_map block_numbers blocks.now)) }
+    {
+        let mut place = near;
+        for block in blocks {
+            place = self.add_near(*block, place)?;
+        }
+        Ok(place)
+    }
+
+    // Puts the numbers of a block there, which is looked for near a place first, and says at which
+    // place it stands.
     fn add_near(&mut self, block: (u32, u64), near: usize) -> Result<usize, AllocError>
         ensures { OnOk result (GetsAll (numbers_in self.old) (numbers_in self.new)
             (block_numbers block)) }
     {
-        Self::add_in(&mut self.blocks, block, near)
+        let found = find_near(self.blocks.as_slice(), block.0, near);
+        Self::put_at(&mut self.blocks, block, found)
     }
 
-    fn add_in(
+    // Puts the numbers of a block where it was found or where it would go, and says at which place
+    // it stands.
+    fn put_at(
         blocks: &mut Vec<(u32, u64)>,
         block: (u32, u64),
-        near: usize,
+        found: Result<usize, usize>,
     ) -> Result<usize, AllocError>
-        requires { Ascending blocks.old.items }
+        requires ascending { Ascending blocks.old.items }
+        requires finds { Finds blocks.old.items block.0 found }
         ensures ascending { Ascending blocks.new.items }
         ensures gets { OnOk result (GetsAll (flat_map block_numbers blocks.old.items)
             (flat_map block_numbers blocks.new.items) (block_numbers block)) }
     {
-        match find_near(blocks.as_slice(), block.0, near) {
+        match found {
             Ok(place) => {
                 let old = blocks[place].1;
                 let bits = union(old, block.1);
@@ -214,6 +218,20 @@ impl Bits {
                 Ok(place)
             }
         }
+    }
+}
+
+// Whether all numbers of a block are there, which was looked for. Where it says no, some may be
+// missing.
+fn has_at(blocks: &[(u32, u64)], block: (u32, u64), found: Result<usize, usize>) -> bool
+    requires ascending { Ascending blocks.now }
+    requires finds { Finds blocks.now block.0 found }
+    ensures { IsTrue result → (n : ℕ) → In n (block_numbers block)
+        → In n (flat_map block_numbers blocks.now) }
+{
+    match found {
+        Ok(place) => is_within(block.1, blocks[place].1),
+        Err(_) => block.1 == 0,
     }
 }
 
@@ -237,7 +255,8 @@ fn stands_at(blocks: &[(u32, u64)], place: usize, number: u32) -> bool
     number == blocks[place].0
 }
 
-// The same as `find`, which looks at a place and at the next one first: blocks mostly come in their order.
+// The same as `find`, which looks at a place and at the next one first: blocks mostly come in their
+// order.
 fn find_near(blocks: &[(u32, u64)], number: u32, near: usize) -> Result<usize, usize>
     requires { Ascending blocks.now }
     ensures { Finds blocks.now number result }

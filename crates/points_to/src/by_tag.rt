@@ -1,4 +1,5 @@
-// Nodes with their tags and their fields at hand, so that what is asked for each tag doesn't go over all the nodes again.
+// Nodes with their tags and their fields at hand, so that what is asked for each tag doesn't go
+// over all the nodes again.
 
 ghost use Rattle.std.specs.Prelude.{◌≡◌, ℕ, [], ◌++◌, cond, nat_eq, IfOk, OnOk};
 ghost use Rattle.flow_system.specs.declared.fact.Part.TheVariants.{Tags as tags'};

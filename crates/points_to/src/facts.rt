@@ -9,7 +9,6 @@ ghost use Rattle.points_to.specs.Known.{items_at, held, Puts, Grows};
 ghost use Rattle.points_to.specs.Rows.{row_items};
 ghost use Rattle.points_to.specs.Runs.{run_items, run_facts};
 ghost use Rattle.points_to.specs.Wanted.{place_of};
-ghost use Rattle.points_to.specs.declared.facts.Item.{Item as AnItem};
 
 use crate::items::{Items, Row};
 use crate::runs::{FactRun, ItemRun, ItemRuns, WordRuns};
@@ -33,7 +32,8 @@ pub struct Fact {
     pub item: Item,
 }
 
-/// The facts that are known: for each kind of place a set of items by the place's number, and how often facts were added.
+/// The facts that are known: for each kind of place a set of items by the place's number, and how
+/// often facts were added.
 #[derive(Drop)]
 pub struct Facts {
     sites: Vec<Items>,
@@ -62,7 +62,8 @@ impl Facts {
         self.count
     }
 
-    /// A number past those of all places of a kind where something is known. Where there is none, that is want of memory.
+    /// A number past those of all places of a kind where something is known. Where there is none,
+    /// that is want of memory.
     pub fn places(&self, kind: Kind) -> Result<u32, AllocError>
         ensures { IfOk result (λ n. (m : ℕ) → n ≤ m → held self.now (place_of kind m) ≡ []) }
     {
@@ -136,7 +137,8 @@ impl Facts {
         append_done(system, self.sites.as_slice(), site, out)
     }
 
-    /// Adds facts, and says whether some of them may be new. Where none is, nothing changes. More than can be counted are want of memory.
+    /// Adds facts, and says whether some of them may be new. Where none is, nothing changes. More
+    /// than can be counted are want of memory.
     pub fn add(&mut self, alloc: Global, run: FactRun) -> Result<bool, AllocError>
         ensures grown { OnOk result (Grows (held self.old) (held self.new) (run_facts run)) }
         ensures still { IfOk result (λ added. added ≡ false → self.new ≡ self.old) }
@@ -144,36 +146,24 @@ impl Facts {
         ensures elsewhere { OnOk result ((q : Place') → (q ≡ run.place)
             ⊎ (held self.new q ≡ held self.old q)) }
     {
-        if self.has_run(run) {
-            return Ok(false);
+        if self.add_new(alloc, run)? {
+            self.count = self.count.checked_add(1).ok_or(AllocError)?;
+            return Ok(true);
         }
-        self.put(alloc, run)?;
-        self.count = self.count.checked_add(1).ok_or(AllocError)?;
-        Ok(true)
+        Ok(false)
     }
 
-    fn put(&mut self, alloc: Global, run: FactRun) -> Result<(), AllocError>
+    fn add_new(&mut self, alloc: Global, run: FactRun) -> Result<bool, AllocError>
         ensures grown { OnOk result (Grows (held self.old) (held self.new) (run_facts run)) }
+        ensures still { IfOk result (λ added. added ≡ false → self.new ≡ self.old) }
         ensures same_count { OnOk result (self.new.count ≡ self.old.count) }
         ensures elsewhere { OnOk result ((q : Place') → (q ≡ run.place)
             ⊎ (held self.new q ≡ held self.old q)) }
     {
         match run.place {
-            Place::Site(n) => put_run(alloc, &mut self.sites, n, run.items),
-            Place::Var(n) => put_run(alloc, &mut self.vars, n, run.items),
-            Place::Result(n) => put_run(alloc, &mut self.results, n, run.items),
-        }
-    }
-
-    // Whether all facts of a run are known. Where it says no, some may be missing.
-    fn has_run(&self, run: FactRun) -> bool
-        ensures { IsTrue result → (i : AnItem) → In i (run_items run.items)
-            → In i (held self.now run.place) }
-    {
-        match run.place {
-            Place::Site(n) => has_run(self.sites.as_slice(), n, run.items),
-            Place::Var(n) => has_run(self.vars.as_slice(), n, run.items),
-            Place::Result(n) => has_run(self.results.as_slice(), n, run.items),
+            Place::Site(n) => add_new(alloc, &mut self.sites, n, run.items),
+            Place::Var(n) => add_new(alloc, &mut self.vars, n, run.items),
+            Place::Result(n) => add_new(alloc, &mut self.results, n, run.items),
         }
     }
 
@@ -249,15 +239,6 @@ fn has_item(sets: &[Items], n: u32, item: Item) -> bool
     }
 }
 
-fn has_run(sets: &[Items], n: u32, run: ItemRun) -> bool
-    ensures { IsTrue result → (i : AnItem) → In i (run_items run) → In i (items_at sets.now n) }
-{
-    match sets.get(n as usize) {
-        Some(set) => set.has_run(run),
-        None => false,
-    }
-}
-
 fn count_of(sets: &[Items]) -> Result<u32, AllocError>
     ensures { IfOk result (λ n. (m : ℕ) → n ≤ m → items_at sets.now m ≡ []) }
 {
@@ -278,13 +259,29 @@ fn grow(alloc: Global, sets: &mut Vec<Items>, n: u32) -> Result<(), AllocError>
     Ok(())
 }
 
-fn put_run(alloc: Global, sets: &mut Vec<Items>, n: u32, run: ItemRun) -> Result<(), AllocError>
+// Adds items to the set with a number, which is there.
+fn add_there(alloc: Global, sets: &mut Vec<Items>, n: u32, run: ItemRun) -> Result<bool, AllocError>
+    requires { n < length sets.old.items }
     ensures puts { OnOk result (Puts (items_at sets.old.items) (items_at sets.new.items) n
         (run_items run)) }
+    ensures still { IfOk result (λ added. added ≡ false → sets.new ≡ sets.old) }
     ensures elsewhere { OnOk result ((m : ℕ) → (m ≡ n)
         ⊎ (items_at sets.new.items m ≡ items_at sets.old.items m)) }
 {
+    sets[n as usize].add_new(alloc, run)
+}
+
+fn add_new(alloc: Global, sets: &mut Vec<Items>, n: u32, run: ItemRun) -> Result<bool, AllocError>
+    ensures puts { OnOk result (Puts (items_at sets.old.items) (items_at sets.new.items) n
+        (run_items run)) }
+    ensures still { IfOk result (λ added. added ≡ false → sets.new ≡ sets.old) }
+    ensures elsewhere { OnOk result ((m : ℕ) → (m ≡ n)
+        ⊎ (items_at sets.new.items m ≡ items_at sets.old.items m)) }
+{
+    if (n as usize) < sets.len() {
+        return add_there(alloc, sets, n, run);
+    }
     grow(alloc, sets, n)?;
-    sets[n as usize].add(alloc, run)?;
-    Ok(())
+    add_there(alloc, sets, n, run)?;
+    Ok(true)
 }

@@ -1,6 +1,7 @@
-// Words of the nodes at a site. Each row is asked for alone: a site may hold many delayed calls with large fields.
+// Words of the nodes at sites. Each row is asked for alone: a site may hold many delayed calls with
+// large fields.
 
-ghost use Rattle.std.specs.Prelude.{◌≡◌, ◌++◌, OnOk};
+ghost use Rattle.std.specs.Prelude.{◌≡◌, [], ◌++◌, OnOk};
 ghost use Rattle.std.specs.List.{flat_map};
 ghost use Rattle.flow_system.specs.declared.fact.Place.TheVariants.{Site as site};
 ghost use Rattle.flow_system.specs.Shown.{tables_of};
@@ -8,16 +9,17 @@ ghost use Rattle.flow_system.specs.declared.fact.Part.TheVariants.{Tags as tags'
 ghost use Rattle.points_to.specs.Bits.{block_words};
 ghost use Rattle.points_to.specs.Held.{picked, field_or_zero_of, field_of_tag, fetched};
 ghost use Rattle.points_to.specs.Known.{held};
-ghost use Rattle.points_to.specs.Rows.{row_items};
+ghost use Rattle.points_to.specs.Rows.{row_items, GetsAll};
 
-use crate::bits::{Block, word_of};
+use crate::bits::{Bits, Block, word_of};
 use crate::facts::Facts;
 use crate::items::{Row, append_picked};
 use crate::runs::WordRuns;
 use crate::tags::fields_of;
 use flow_system::fact::{Element, Part};
 use flow_system::inclusion::FlowSystem;
-use std::alloc::AllocError;
+use std::alloc::{AllocError, Global};
+use std::marker::Model;
 
 // A field of the nodes of a tag with m fields, or a number past them.
 fn field_or_zero(rows: &[Row], i: u32, t: u32, m: u32, out: &mut WordRuns) -> Result<(), AllocError>
@@ -138,4 +140,61 @@ pub fn fetched_from(
         return append_picked(rows, Part::Tags, out);
     }
     fields_of_rows(system, rows, i - 1, rows, out)
+}
+
+/// The words that are fetched from some sites, as a set: many sites give the same ones.
+#[derive(Drop)]
+pub struct Fetched {
+    words: Bits,
+    // The place of the block that was put there last.
+    near: usize,
+    // Room for what one site gives.
+    from_site: WordRuns,
+}
+
+impl Model for Fetched {
+    ghost use Rattle.std.specs.Prelude.{List};
+    ghost use Rattle.flow_system.specs.declared.fact.Element.{Element as AWord};
+    ghost use Rattle.points_to.specs.Rows.{words_in};
+
+    ghost Value = { List AWord };
+
+    ghost view = { λ s. words_in s.words };
+}
+
+impl Fetched {
+    /// No words.
+    pub fn new(alloc: Global) -> Fetched
+        ensures { result ≡ [] }
+    {
+        Fetched {
+            words: Bits::new(alloc),
+            near: 0,
+            from_site: WordRuns::new(alloc),
+        }
+    }
+
+    /// The blocks.
+    pub fn blocks(&self) -> &[(u32, u64)]
+        ensures { flat_map block_words result.now ≡ self.now }
+    {
+        self.words.blocks.as_slice()
+    }
+
+    /// Puts word i of the nodes at a site there.
+    pub fn fetch(
+        &mut self,
+        system: &FlowSystem,
+        facts: &Facts,
+        s: u32,
+        i: u32,
+    ) -> Result<(), AllocError>
+        ensures { OnOk result (GetsAll self.old self.new
+            (fetched (tables_of system.now) i (held facts.now (site s)))) }
+    {
+        self.from_site.clear();
+        fetched_from(system, facts, s, i, &mut self.from_site)?;
+        self.near = self.from_site.put_into(&mut self.words, self.near)?;
+        Ok(())
+    }
 }

@@ -19,7 +19,8 @@ use grin_syntax::program::{ProcId, Site, TagId, VarId};
 use seq::Seq;
 use std::alloc::{AllocError, Global};
 
-/// The least solution of a flow system. Its readers take any number; of one that the program does not have they give nothing.
+/// The least solution of a flow system. Its readers take any number; of one that the program does
+/// not have they give nothing.
 #[derive(Drop)]
 pub struct Flow {
     facts: Facts,
@@ -66,7 +67,8 @@ impl Flow {
         tag_entry(&self.site_tags, site.0 as usize)
     }
 
-    /// The sites of the cells that a variable of one word may stand for, ascending and without repeats.
+    /// The sites of the cells that a variable of one word may stand for, ascending and without
+    /// repeats.
     pub fn locs_of(&self, var: VarId) -> &[Site]
         ensures ascending { IsStrictlyIncreasing (map (λ s. s.0) result.now) }
         ensures exact { (s : ℕ) → In s (map (λ s. s.0) result.now)
@@ -75,7 +77,8 @@ impl Flow {
         site_entry(&self.var_sites, var.0 as usize)
     }
 
-    /// The tags of the nodes in the cells that a variable of one word may stand for, ascending and without repeats.
+    /// The tags of the nodes in the cells that a variable of one word may stand for, ascending and
+    /// without repeats.
     pub fn tags_met(&self, var: VarId) -> &[TagId]
         ensures ascending { IsStrictlyIncreasing (map (λ t. t.0) result.now) }
         ensures exact { (t : ℕ) → In t (map (λ t. t.0) result.now) ↔ ((s : ℕ)
@@ -85,7 +88,8 @@ impl Flow {
         tag_entry(&self.met_tags, var.0 as usize)
     }
 
-    /// The tags of the nodes that a variable may hold, or the tags in its set where it is of one word, ascending and without repeats.
+    /// The tags of the nodes that a variable may hold, or the tags in its set where it is of one
+    /// word, ascending and without repeats.
     pub fn nodes_of(&self, var: VarId) -> &[TagId]
         ensures ascending { IsStrictlyIncreasing (map (λ t. t.0) result.now) }
         ensures exact { (t : ℕ) → In t (map (λ t. t.0) result.now)
@@ -95,7 +99,8 @@ impl Flow {
         tag_entry(&self.var_tags, var.0 as usize)
     }
 
-    /// The tags of the nodes that a procedure may give, those in its first word among them, ascending and without repeats.
+    /// The tags of the nodes that a procedure may give, those in its first word among them,
+    /// ascending and without repeats.
     pub fn result_of(&self, proc: ProcId) -> &[TagId]
         ensures ascending { IsStrictlyIncreasing (map (λ t. t.0) result.now) }
         ensures exact { (t : ℕ) → In t (map (λ t. t.0) result.now)

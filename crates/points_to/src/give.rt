@@ -440,7 +440,8 @@ fn arguments(
     arguments_of_all(alloc, system, facts, t, words, nodes, found.as_slice(), out)
 }
 
-/// The fields of the nodes of a tag, followed by words, as arguments, where the fields are at hand by the tag.
+/// The fields of the nodes of a tag, followed by words, as arguments, where the fields are at hand
+/// by the tag.
 pub fn arguments_by_tag(
     alloc: Global,
     system: &FlowSystem,
@@ -559,7 +560,8 @@ fn done_alone(
     append_shifted(system, Shift::Evaluated, &nodes, out)
 }
 
-// The evaluated ones among the nodes at the cells of a word. The fields of delayed calls there, which may be many, are passed over.
+// The evaluated ones among the nodes at the cells of a word. The fields of delayed calls there,
+// which may be many, are passed over.
 fn evaluated_at(
     alloc: Global,
     system: &FlowSystem,
@@ -581,7 +583,8 @@ fn evaluated_at(
     Ok(())
 }
 
-// The fields of one tag. In a case with many alternatives a value has many tags, and each alternative asks for its own.
+// The fields of one tag. In a case with many alternatives a value has many tags, and each
+// alternative asks for its own.
 fn fields_of_value(
     alloc: Global,
     system: &FlowSystem,

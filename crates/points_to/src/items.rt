@@ -1,9 +1,8 @@
 // The items at a place, in rows of words: one row for each part where something stands.
 
-ghost use Rattle.std.specs.Prelude.{◌≡◌, [], ◌++◌, ◌↔◌, IsTrue, IfSome, OnOk};
+ghost use Rattle.std.specs.Prelude.{◌≡◌, [], ◌++◌, ◌↔◌, IsTrue, IfSome, OnOk, IfOk, false};
 ghost use Rattle.std.specs.List.{flat_map};
 ghost use Rattle.flow_system.specs.Shown.{tables_of};
-ghost use Rattle.points_to.specs.declared.facts.Item.{Item as AnItem};
 ghost use Rattle.points_to.specs.Held.{In, picked, done_items};
 ghost use Rattle.points_to.specs.Rows.{row_items, HasPart, GetsAll};
 ghost use Rattle.points_to.specs.Runs.{run_items};
@@ -25,7 +24,8 @@ pub struct Row {
     pub(crate) words: Bits,
 }
 
-/// The items at a place. A contract sees their list, row by row; the code goes over one row alone where one part is asked for.
+/// The items at a place. A contract sees their list, row by row; the code goes over one row alone
+/// where one part is asked for.
 #[derive(Drop)]
 pub struct Items {
     rows: Vec<Row>,
@@ -66,18 +66,13 @@ impl Items {
         has_in(self.rows.as_slice(), item)
     }
 
-    /// Whether all items of a run are there. Where it says no, some may be missing.
-    pub fn has_run(&self, run: ItemRun) -> bool
-        ensures { IsTrue result → (i : AnItem) → In i (run_items run) → In i self.now }
+    /// Puts the items of a run there, and says whether some of them may be new. Where none is,
+    /// nothing changes.
+    pub fn add_new(&mut self, alloc: Global, run: ItemRun) -> Result<bool, AllocError>
+        ensures gets { OnOk result (GetsAll self.old self.new (run_items run)) }
+        ensures still { IfOk result (λ added. added ≡ false → self.new ≡ self.old) }
     {
-        has_run_in(self.rows.as_slice(), run)
-    }
-
-    /// Puts the items of a run there.
-    pub fn add(&mut self, alloc: Global, run: ItemRun) -> Result<(), AllocError>
-        ensures { OnOk result (GetsAll self.old self.new (run_items run)) }
-    {
-        add_in(alloc, &mut self.rows, run)
+        add_new_in(alloc, &mut self.rows, run)
     }
 
     /// Puts the items at the end of a list.
@@ -141,27 +136,18 @@ fn row_of(rows: &[Row], part: Part) -> Option<usize>
     None
 }
 
-fn has_run_in(rows: &[Row], run: ItemRun) -> bool
-    ensures { IsTrue result → (i : AnItem) → In i (run_items run)
-        → In i (flat_map row_items rows.now) }
-{
-    match row_of(rows, run.part) {
-        Some(k) => rows[k].words.has_block(run.block),
-        None => false,
-    }
-}
-
-fn add_block(row: &mut Row, run: ItemRun) -> Result<(), AllocError>
+fn add_block(row: &mut Row, run: ItemRun) -> Result<bool, AllocError>
     requires { row.old.part ≡ run.part }
-    ensures { OnOk result (GetsAll (row_items row.old) (row_items row.new) (run_items run)) }
+    ensures gets { OnOk result (GetsAll (row_items row.old) (row_items row.new) (run_items run)) }
+    ensures still { IfOk result (λ added. added ≡ false → row.new ≡ row.old) }
 {
-    row.words.add(run.block)?;
-    Ok(())
+    row.words.add_new(run.block)
 }
 
-fn add_in(alloc: Global, rows: &mut Vec<Row>, run: ItemRun) -> Result<(), AllocError>
-    ensures { OnOk result (GetsAll (flat_map row_items rows.old.items)
+fn add_new_in(alloc: Global, rows: &mut Vec<Row>, run: ItemRun) -> Result<bool, AllocError>
+    ensures gets { OnOk result (GetsAll (flat_map row_items rows.old.items)
         (flat_map row_items rows.new.items) (run_items run)) }
+    ensures still { IfOk result (λ added. added ≡ false → rows.new.items ≡ rows.old.items) }
 {
     match row_of(rows.as_slice(), run.part) {
         Some(k) => add_block(&mut rows[k], run),
@@ -172,7 +158,7 @@ fn add_in(alloc: Global, rows: &mut Vec<Row>, run: ItemRun) -> Result<(), AllocE
             };
             add_block(&mut row, run)?;
             rows.push(row)?;
-            Ok(())
+            Ok(true)
         }
     }
 }

@@ -14,6 +14,7 @@ mod fetch;
 mod first;
 mod flow;
 mod give;
+mod groups;
 mod items;
 mod met;
 mod nodes;
@@ -33,7 +34,8 @@ pub use flow::Flow;
 use flow_system::inclusion::FlowSystem;
 use std::alloc::{AllocError, Global};
 
-/// The least solution of a flow system: it is a solution, and is included in every other one. An inclusion is satisfied again only where more is known at a place that it reads.
+/// The least solution of a flow system: it is a solution, and is included in every other one. An
+/// inclusion is satisfied again only where more is known at a place that it reads.
 pub fn solve(alloc: Global, system: &FlowSystem) -> Result<Flow, AllocError>
     ensures { IfOk result (λ f.
         IsLeast (tables_of system.now) (inclusions_of system.now) (found f)) }
@@ -42,7 +44,8 @@ pub fn solve(alloc: Global, system: &FlowSystem) -> Result<Flow, AllocError>
     Flow::from_facts(alloc, facts)
 }
 
-/// The same solution, found in rounds over all inclusions until nothing is added: the plain way, with which tests compare.
+/// The same solution, found in rounds over all inclusions until nothing is added: the plain way,
+/// with which tests compare.
 pub fn solve_by_rounds(alloc: Global, system: &FlowSystem) -> Result<Flow, AllocError>
     ensures { IfOk result (λ f.
         IsLeast (tables_of system.now) (inclusions_of system.now) (found f)) }

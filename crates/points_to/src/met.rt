@@ -83,8 +83,8 @@ fn met_again(
     met_at(alloc, sites, site_tags)
 }
 
-/// The tags of the sites of each variable. In a case the fields of all alternatives often have the same sites, so the entry of
-/// the last variable that has sites may serve again.
+/// The tags of the sites of each variable. In a case the fields of all alternatives often have the
+/// same sites, so the entry of the last variable that has sites may serve again.
 pub fn met_table(
     alloc: Global,
     var_sites: &Seq<Seq<Site>>,

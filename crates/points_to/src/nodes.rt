@@ -17,8 +17,9 @@ use flow_system::inclusion::FlowSystem;
 use seq::Seq;
 use std::alloc::{AllocError, Global};
 
-/// What becomes of an item: it stays where it is of a node; or where it is of an evaluated one; a word after the first becomes a field of a tag with so many fields;
-/// a field of one tag becomes that of another; a field of a tag becomes an argument. Every other item goes.
+/// What becomes of an item: it stays where it is of a node; or where it is of an evaluated one; a
+/// word after the first becomes a field of a tag with so many fields; a field of one tag becomes
+/// that of another; a field of a tag becomes an argument. Every other item goes.
 #[derive(Clone, Copy, Debug, PartialEq, Eq)]
 pub enum Shift {
     Nodes,
@@ -367,7 +368,8 @@ fn node_of_word(
     }
 }
 
-/// The node that so many words, with these items after the first one, stand for, for each tag in the first one.
+/// The node that so many words, with these items after the first one, stand for, for each tag in
+/// the first one.
 pub fn nodes_of_words(
     system: &FlowSystem,
     k: Option<usize>,
@@ -447,7 +449,8 @@ pub fn as_nodes_of(
     Ok(())
 }
 
-/// The items as nodes: those of nodes, and for each tag in the first set of so many words (or of any number) the node that they stand for.
+/// The items as nodes: those of nodes, and for each tag in the first set of so many words (or of
+/// any number) the node that they stand for.
 pub fn as_nodes(
     alloc: Global,
     system: &FlowSystem,

@@ -1,79 +1,16 @@
 // Sets of inclusions, by their numbers.
 
-ghost use Rattle.std.specs.Prelude.{◌≡◌, ℕ, ◌<◌, ◌≤◌, ◌^◌, [], ◌∷◌, ◌++◌, length, IfSome, IfNone, OnOk};
+ghost use Rattle.std.specs.Prelude.{◌≡◌, ◌≤◌, [], length, OnOk};
 ghost use Rattle.points_to.specs.Rows.{Gets};
 
 use std::alloc::{AllocError, Global};
-use std::collections::BTreeSet;
 use std::marker::Model;
-
-/// Numbers of inclusions in a tree, of which the least and the greatest can be taken.
-#[derive(Drop)]
-pub struct NumberTree {
-    set: BTreeSet<u32>,
-}
-
-impl Model for NumberTree {
-    ghost use Rattle.std.specs.Prelude.{List, ℕ};
-
-    ghost Value = { List ℕ };
-
-    ghost view = { λ s. s.set.keys };
-}
-
-impl NumberTree {
-    /// No numbers.
-    pub fn new(alloc: Global) -> NumberTree
-        ensures { result ≡ [] }
-    {
-        NumberTree {
-            set: BTreeSet::new(alloc),
-        }
-    }
-
-    /// How many there are.
-    pub fn len(&self) -> usize
-        ensures count { result ≡ length self.now }
-        ensures small { result < 2 ^ 63 }
-    {
-        self.set.len()
-    }
-
-    /// Puts a number among them.
-    pub fn put(&mut self, n: u32) -> Result<(), AllocError>
-        ensures { OnOk result (Gets self.old self.new n) }
-    {
-        insert_key(&mut self.set, n)
-    }
-
-    /// Takes the least number.
-    pub fn pop_first(&mut self) -> Option<u32>
-        ensures some { IfSome result (λ n. self.old ≡ n ∷ self.new) }
-        ensures none { IfNone result ((self.old ≡ []) × (self.new ≡ [])) }
-    {
-        self.set.pop_first()
-    }
-
-    /// Takes the greatest number.
-    pub fn pop_last(&mut self) -> Option<u32>
-        ensures some { IfSome result (λ n. self.old ≡ self.new ++ n ∷ []) }
-        ensures none { IfNone result ((self.old ≡ []) × (self.new ≡ [])) }
-    {
-        self.set.pop_last()
-    }
-}
-
-fn insert_key(numbers: &mut BTreeSet<u32>, n: u32) -> Result<(), AllocError>
-    ensures { OnOk result (Gets numbers.old.keys numbers.new.keys n) }
-{
-    numbers.insert(n)?;
-    Ok(())
-}
 
 // How many numbers are moved, at most, to put one at its place.
 const MOST_MOVED: usize = 32;
 
-/// Numbers of inclusions in a row: cheap to put at the end, and to walk through. A short row ascends and has no repeats; a long one may have some.
+/// Numbers of inclusions in a row: cheap to put at the end, and to walk through. A short row
+/// ascends and has no repeats; a long one may have some.
 #[derive(Drop)]
 pub struct NumberRow {
     row: Vec<u32>,

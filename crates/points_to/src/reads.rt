@@ -1,4 +1,5 @@
-// The places that inclusions read, by what is known so far: those that they name, and those that they reach through them.
+// The places that inclusions read, by what is known so far: those that they name, and those that
+// they reach through them.
 
 ghost use Rattle.std.specs.Prelude.{◌≡◌, ◌++◌, OnOk};
 ghost use Rattle.std.specs.List.{flat_map};

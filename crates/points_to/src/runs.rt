@@ -1,11 +1,11 @@
 // Words, items and facts in runs: those of a block of 64 words together.
 
-ghost use Rattle.std.specs.Prelude.{◌≡◌, [], ◌∷◌, ◌++◌, IfOk, OnOk};
+ghost use Rattle.std.specs.Prelude.{◌≡◌, [], ◌∷◌, ◌++◌, OnOk};
 ghost use Rattle.std.specs.List.{flat_map};
 ghost use Rattle.points_to.specs.Held.{item, in_part};
 ghost use Rattle.points_to.specs.Asked.{facts_at};
 ghost use Rattle.points_to.specs.Bits.{block_words};
-ghost use Rattle.points_to.specs.Rows.{SameMembers};
+ghost use Rattle.points_to.specs.Rows.{GetsAll, words_in};
 ghost use Rattle.points_to.specs.Runs.{run_items, run_facts};
 
 use crate::bits::{Bits, Block, block_of, word_of};
@@ -62,6 +62,13 @@ impl WordRuns {
         self.blocks.as_slice()
     }
 
+    /// Takes all words away.
+    pub fn clear(&mut self)
+        ensures { self.new ≡ [] }
+    {
+        self.blocks.clear();
+    }
+
     /// Puts a word at the end.
     pub fn push(&mut self, word: Element) -> Result<(), AllocError>
         ensures { OnOk result (self.new ≡ self.old ++ word ∷ []) }
@@ -81,20 +88,16 @@ impl WordRuns {
     pub fn push_blocks(&mut self, blocks: &[(u32, u64)]) -> Result<(), AllocError>
         ensures { OnOk result (self.new ≡ self.old ++ flat_map block_words blocks.now) }
     {
-        for block in blocks {
-            self.push_block(*block)?;
-        }
+        self.blocks.extend_from_slice(blocks)?;
         Ok(())
     }
 
-    /// The same words, each of them once.
-    pub fn distinct(&self, alloc: Global) -> Result<WordRuns, AllocError>
-        ensures { IfOk result (λ ws. SameMembers ws self.now) }
+    /// Puts the words into a set. Their first block is looked for near a place; it says at which
+    /// place the last one stands.
+    pub fn put_into(&self, set: &mut Bits, near: usize) -> Result<usize, AllocError>
+        ensures { OnOk result (GetsAll (words_in set.old) (words_in set.new) self.now) }
     {
-        let set = Bits::of(alloc, self.blocks.as_slice())?;
-        let mut words = WordRuns::new(alloc);
-        words.push_blocks(set.blocks.as_slice())?;
-        Ok(words)
+        set.add_all(self.blocks.as_slice(), near)
     }
 
     /// Puts the words, one by one, at the end of a list.

@@ -4,13 +4,13 @@ ghost use Rattle.std.specs.Prelude.{◌≡◌, ◌<◌, ℕ, [], ◌∷◌, ◌+
 ghost use Rattle.std.specs.List.{flat_map};
 ghost use Rattle.std.specs.List.Sorted.{IsStrictlyIncreasing};
 ghost use Rattle.points_to.specs.Bits.{block_words};
+ghost use Rattle.points_to.specs.Held.{picked};
 ghost use Rattle.points_to.specs.Known.{held};
-ghost use Rattle.points_to.specs.Runs.{run_items};
-ghost use Rattle.points_to.specs.Wanted.{tag_in, site_in, wanted, place_of, SameSet, Lists, tag_id, site_id, numbers_by, TagTable, SiteTable};
+ghost use Rattle.points_to.specs.Wanted.{tag_in, site_in, by_parts, place_of, SameSet, Lists, tag_id, site_id, numbers_by, TagTable, SiteTable};
 
 use crate::bits::{Block, word_of};
 use crate::facts::Facts;
-use crate::runs::{ItemRun, ItemRuns};
+use crate::runs::WordRuns;
 use crate::wanted::{Kind, Wanted};
 use flow_system::fact::{Element, Part, Place};
 use grin_syntax::program::{Site, TagId};
@@ -57,46 +57,83 @@ fn put_sites(block: (u32, u64), out: &mut Seq<u32>) -> Result<(), AllocError>
     Ok(())
 }
 
-fn put_wanted(w: Wanted, run: ItemRun, out: &mut Seq<u32>) -> Result<(), AllocError>
-    ensures { OnOk result (out.new ≡ out.old ++ wanted w (run_items run)) }
+fn put_all_tags(words: &WordRuns, out: &mut Seq<u32>) -> Result<(), AllocError>
+    ensures { OnOk result (out.new ≡ out.old ++ flat_map tag_in words.now) }
 {
-    match w {
-        Wanted::NodeTags => match run.part {
-            Part::Tags => put_tags(run.block, out),
-            Part::Field(_, _) => Ok(()),
-            Part::Word(_) => Ok(()),
-        },
-        Wanted::Tags => match run.part {
-            Part::Tags => put_tags(run.block, out),
-            Part::Field(_, _) => Ok(()),
-            Part::Word(j) => {
-                if j == 0 {
-                    return put_tags(run.block, out);
-                }
-                Ok(())
-            }
-        },
-        Wanted::Sites => match run.part {
-            Part::Tags => Ok(()),
-            Part::Field(_, _) => Ok(()),
-            Part::Word(j) => {
-                if j == 0 {
-                    return put_sites(run.block, out);
-                }
-                Ok(())
-            }
-        },
-    }
-}
-
-// What is wanted of some items.
-fn put_all_wanted(w: Wanted, items: &ItemRuns, out: &mut Seq<u32>) -> Result<(), AllocError>
-    ensures { OnOk result (out.new ≡ out.old ++ wanted w items.now) }
-{
-    for run in items.as_slice() {
-        put_wanted(w, *run, out)?;
+    for block in words.blocks() {
+        put_tags(*block, out)?;
     }
     Ok(())
+}
+
+fn put_all_sites(words: &WordRuns, out: &mut Seq<u32>) -> Result<(), AllocError>
+    ensures { OnOk result (out.new ≡ out.old ++ flat_map site_in words.now) }
+{
+    for block in words.blocks() {
+        put_sites(*block, out)?;
+    }
+    Ok(())
+}
+
+// The tags in one part of a place.
+fn put_tags_of(
+    alloc: Global,
+    facts: &Facts,
+    place: Place,
+    part: Part,
+    out: &mut Seq<u32>,
+) -> Result<(), AllocError>
+    ensures { OnOk result (out.new ≡ out.old
+        ++ flat_map tag_in (picked part (held facts.now place))) }
+{
+    let mut words = WordRuns::new(alloc);
+    facts.append_words(place, part, &mut words)?;
+    put_all_tags(&words, out)?;
+    Ok(())
+}
+
+// The sites in one part of a place.
+fn put_sites_of(
+    alloc: Global,
+    facts: &Facts,
+    place: Place,
+    part: Part,
+    out: &mut Seq<u32>,
+) -> Result<(), AllocError>
+    ensures { OnOk result (out.new ≡ out.old
+        ++ flat_map site_in (picked part (held facts.now place))) }
+{
+    let mut words = WordRuns::new(alloc);
+    facts.append_words(place, part, &mut words)?;
+    put_all_sites(&words, out)?;
+    Ok(())
+}
+
+// What is wanted of the items at a place, part by part.
+fn put_parts(
+    alloc: Global,
+    facts: &Facts,
+    place: Place,
+    w: Wanted,
+    out: &mut Seq<u32>,
+) -> Result<(), AllocError>
+    ensures { OnOk result (out.new ≡ out.old ++ by_parts w (held facts.now place)) }
+{
+    match w {
+        Wanted::NodeTags => {
+            put_tags_of(alloc, facts, place, Part::Tags, out)?;
+            Ok(())
+        }
+        Wanted::Tags => {
+            put_tags_of(alloc, facts, place, Part::Tags, out)?;
+            put_tags_of(alloc, facts, place, Part::Word(0), out)?;
+            Ok(())
+        }
+        Wanted::Sites => {
+            put_sites_of(alloc, facts, place, Part::Word(0), out)?;
+            Ok(())
+        }
+    }
 }
 
 /// Numbers in any order, made ascending and without repeats.
@@ -114,10 +151,8 @@ pub fn ascending(numbers: Seq<u32>) -> Seq<u32>
 fn numbers_at(alloc: Global, facts: &Facts, place: Place, w: Wanted) -> Result<Seq<u32>, AllocError>
     ensures { IfOk result (λ ns. Lists w (held facts.now place) ns) }
 {
-    let mut items = ItemRuns::new(alloc);
-    facts.append(place, &mut items)?;
     let mut numbers = Seq::new(alloc);
-    put_all_wanted(w, &items, &mut numbers)?;
+    put_parts(alloc, facts, place, w, &mut numbers)?;
     Ok(ascending(numbers))
 }
 
@@ -168,7 +203,8 @@ fn place_of(kind: Kind, n: u32) -> Place
     }
 }
 
-/// The tags that are wanted at each place of a kind. More places than can be numbered are want of memory.
+/// The tags that are wanted at each place of a kind. More places than can be numbered are want of
+/// memory.
 pub fn tag_table(
     alloc: Global,
     facts: &Facts,
@@ -185,7 +221,8 @@ pub fn tag_table(
     Ok(table)
 }
 
-/// The sites that are wanted at each place of a kind. More places than can be numbered are want of memory.
+/// The sites that are wanted at each place of a kind. More places than can be numbered are want of
+/// memory.
 pub fn site_table(
     alloc: Global,
     facts: &Facts,

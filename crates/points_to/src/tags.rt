@@ -111,7 +111,8 @@ fn when_more(system: &FlowSystem, f: u32, missing: u32) -> Result<Option<u32>, A
     part_from(0, system.tags.as_slice(), f, missing - 1)
 }
 
-/// The tag that a function with this tag becomes with one argument more, where it waits for at least two. More tags than can be numbered are want of memory.
+/// The tag that a function with this tag becomes with one argument more, where it waits for at
+/// least two. More tags than can be numbered are want of memory.
 pub fn longer(system: &FlowSystem, t: u32) -> Result<Option<u32>, AllocError>
     ensures { IfOk result (λ r. r ≡ longer (tables_of system.now) t) }
 {

@@ -1,10 +1,12 @@
 // What is asked so that items, or what a source gives, reach a target.
 
 ghost use Rattle.std.specs.Prelude.{◌≡◌, ◌++◌, OnOk};
+ghost use Rattle.std.specs.List.{flat_map};
 ghost use Rattle.flow_system.specs.Inclusions.{to};
 ghost use Rattle.flow_system.specs.Shown.{tables_of, source_of};
 ghost use Rattle.points_to.specs.Held.{in_part, as_word, as_nodes, numbered, items};
 ghost use Rattle.points_to.specs.Asked.{facts_at, vector_facts, flow_facts};
+ghost use Rattle.points_to.specs.Bits.{block_words};
 ghost use Rattle.points_to.specs.Known.{held};
 
 use crate::facts::Facts;
@@ -44,17 +46,29 @@ pub fn nodes_at_place(
     facts_at(place, &nodes, out)
 }
 
+/// The words of blocks, at a variable of one word.
+pub fn blocks_at_variable(
+    x: VarId,
+    blocks: &[(u32, u64)],
+    out: &mut FactRuns,
+) -> Result<(), AllocError>
+    ensures { OnOk result (out.new ≡ out.old
+        ++ facts_at (Place.Var x.0) (in_part (Part.Word 0) (flat_map block_words blocks.now))) }
+{
+    let part = Part::Word(0);
+    for block in blocks {
+        let block = *block;
+        out.push(Place::Var(x.0), ItemRun { part, block })?;
+    }
+    Ok(())
+}
+
 /// Words, at a variable of one word.
 pub fn words_at_variable(x: VarId, words: &WordRuns, out: &mut FactRuns) -> Result<(), AllocError>
     ensures { OnOk result (out.new ≡ out.old
         ++ facts_at (Place.Var x.0) (in_part (Part.Word 0) words.now)) }
 {
-    let part = Part::Word(0);
-    for block in words.blocks() {
-        let block = *block;
-        out.push(Place::Var(x.0), ItemRun { part, block })?;
-    }
-    Ok(())
+    blocks_at_variable(x, words.blocks(), out)
 }
 
 // Word j of some items, at a variable.
@@ -75,7 +89,8 @@ fn word_facts(
     words_at_variable(x, &words, out)
 }
 
-/// The words of some items, at the variables of a vector. More than can be numbered are want of memory.
+/// The words of some items, at the variables of a vector. More than can be numbered are want of
+/// memory.
 pub fn vector_facts(
     alloc: Global,
     system: &FlowSystem,
@@ -205,7 +220,8 @@ fn items_to_vector(
     vector_facts(alloc, system, &given, xs, out)
 }
 
-// The words of a source, at the variables of a vector. A vector's words go there without the items between.
+// The words of a source, at the variables of a vector. A vector's words go there without the items
+// between.
 fn flow_to_vector(
     alloc: Global,
     system: &FlowSystem,

@@ -8,7 +8,8 @@ pub enum Kind {
     Results,
 }
 
-/// What is wanted of the items: the tags of nodes; these and the tags in the first word; the sites of cells in the first word.
+/// What is wanted of the items: the tags of nodes; these and the tags in the first word; the sites
+/// of cells in the first word.
 #[derive(Clone, Copy, Debug, PartialEq, Eq)]
 pub enum Wanted {
     NodeTags,

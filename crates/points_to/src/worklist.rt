@@ -1,35 +1,38 @@
 // The least solution, by a list of the inclusions that may ask for more.
 
-ghost use Rattle.std.specs.Prelude.{◌≡◌, ℕ, ◌||◌, false, [], OnOk, IfOk, IfSome};
-ghost use Rattle.flow_system.specs.declared.fact.Place.{Place as Place'};
-ghost use Rattle.flow_system.specs.Inclusions.{flows, to};
-ghost use Rattle.flow_system.specs.Shown.{tables_of, inclusions_of, inclusion_of, source_of};
+ghost use Rattle.std.specs.Prelude.{◌≡◌, ◌||◌, false, [], ◌∷◌, OnOk, IfOk, IfSome};
+ghost use Rattle.std.specs.List.{flat_map};
+ghost use Rattle.flow_system.specs.Inclusions.{flows, to, word_at};
+ghost use Rattle.flow_system.specs.Shown.{tables_of, inclusions_of, inclusion_of};
 ghost use Rattle.flow_system.specs.Solution.{IsLeast};
-ghost use Rattle.points_to.specs.Asked.{demands, flow_facts};
-ghost use Rattle.points_to.specs.Held.{In};
+ghost use Rattle.points_to.specs.Asked.{demands};
+ghost use Rattle.points_to.specs.Held.{fetched_at};
 ghost use Rattle.points_to.specs.Known.{held, Grows, solution_of};
-ghost use Rattle.points_to.specs.Reads.{reads};
+ghost use Rattle.points_to.specs.Reads.{word_reads, cell_reads, reads};
 ghost use Rattle.points_to.specs.Rounds.{Counted};
+ghost use Rattle.points_to.specs.Rows.{GetsAll};
 ghost use Rattle.points_to.specs.Runs.{run_facts};
 ghost use Rattle.points_to.specs.Waiting.{waiting};
-ghost use Rattle.points_to.specs.Worklist.{IsReader, Wakes, Spreads, Advances, Satisfies, Stands};
+ghost use Rattle.points_to.specs.Worklist.{RegistersAt, Wakes, Spreads, Advances, Satisfies, Stands};
 
 use crate::ask::demands;
 use crate::facts::Facts;
-use crate::first::first_words;
-use crate::pending::{Pending, put_all};
+use crate::fetch::Fetched;
+use crate::give::elements;
+use crate::pending::Pending;
 use crate::readers::Readers;
 use crate::reads::reads;
-use crate::runs::{FactRun, FactRuns, WordRuns};
-use crate::targets::words_at_variable;
-use flow_system::fact::Place;
+use crate::runs::{FactRun, FactRuns};
+use crate::targets::blocks_at_variable;
+use flow_system::fact::{Element, Place};
 use flow_system::inclusion::{FlowSystem, Inclusion, Sink, Source};
-use grin_syntax::program::{Target, VarId};
+use grin_syntax::program::{Target, VarId, Word};
 use seq::Seq;
 use std::alloc::{AllocError, Global};
 
-/// What is known, which inclusions read it, and which of them wait: those that are not satisfied, perhaps, by what is known.
-/// An inclusion asks for more only where more is known at a place that it reads.
+/// What is known, which inclusions read it, and which of them wait: those that are not satisfied,
+/// perhaps, by what is known. An inclusion asks for more only where more is known at a place that
+/// it reads.
 #[derive(Drop)]
 struct Worklist {
     facts: Facts,
@@ -63,7 +66,7 @@ impl Worklist {
         if readers.is_empty() {
             return Ok(());
         }
-        put_all(&mut self.pending, readers)?;
+        self.pending.put_all(readers)?;
         self.readers.clear(place);
         Ok(())
     }
@@ -98,18 +101,33 @@ impl Worklist {
         Ok(added)
     }
 
+    // Registers that an inclusion reads a place.
+    fn register_at(&mut self, alloc: Global, n: u32, place: Place) -> Result<(), AllocError>
+        ensures { OnOk result (RegistersAt self.old self.new n (place ∷ [])) }
+    {
+        self.readers.register(alloc, place, n)
+    }
+
     // Registers that an inclusion reads places.
     fn register(&mut self, alloc: Global, places: &[Place], n: u32) -> Result<(), AllocError>
-        ensures same_facts { OnOk result (self.new.facts ≡ self.old.facts) }
-        ensures same_pending { OnOk result (self.new.pending ≡ self.old.pending) }
-        ensures kept { OnOk result ((q : Place') (m : ℕ) → IsReader self.old q m
-            → IsReader self.new q m) }
-        ensures put { OnOk result ((q : Place') → In q places.now → IsReader self.new q n) }
+        ensures { OnOk result (RegistersAt self.old self.new n places.now) }
     {
         for place in places {
-            self.readers.register(alloc, *place, n)?;
+            self.register_at(alloc, n, *place)?;
         }
         Ok(())
+    }
+
+    // Registers an inclusion at the variable of a word, where it is one.
+    fn register_word(&mut self, alloc: Global, n: u32, w: Word) -> Result<(), AllocError>
+        ensures { OnOk result (RegistersAt self.old self.new n (word_reads w)) }
+    {
+        match w {
+            Word::Lit(_) => Ok(()),
+            Word::Var(x) => self.register_at(alloc, n, Place::Var(x.0)),
+            Word::Global(_) => Ok(()),
+            Word::TagWord(_) => Ok(()),
+        }
     }
 
     // Registers an inclusion at the places that it reads.
@@ -120,44 +138,16 @@ impl Worklist {
         n: u32,
         inclusion: &Inclusion,
     ) -> Result<(), AllocError>
-        ensures same_facts { OnOk result (self.new.facts ≡ self.old.facts) }
-        ensures same_pending { OnOk result (self.new.pending ≡ self.old.pending) }
-        ensures kept { OnOk result ((q : Place') (m : ℕ) → IsReader self.old q m
-            → IsReader self.new q m) }
-        ensures put { OnOk result ((q : Place')
-            → In q (reads (tables_of system.now) (held self.old.facts) (inclusion_of inclusion.now))
-            → IsReader self.new q n) }
+        ensures { OnOk result (RegistersAt self.old self.new n
+            (reads (tables_of system.now) (held self.old.facts) (inclusion_of inclusion.now))) }
     {
         let mut places = Seq::new(alloc);
         reads(alloc, system, &self.facts, inclusion, &mut places)?;
         self.register(alloc, places.as_slice(), n)
     }
 
-    // Adds the first words that a source gives, at a variable of one word. Many cells give the same words, so each is added once.
-    fn add_first_words(
-        &mut self,
-        alloc: Global,
-        system: &FlowSystem,
-        source: &Source,
-        x: VarId,
-    ) -> Result<bool, AllocError>
-        ensures grown { OnOk result (Grows (held self.old.facts) (held self.new.facts)
-            (flow_facts (tables_of system.now) (held self.old.facts) (source_of source.now)
-            (to (Target.One x)))) }
-        ensures spread { OnOk result (Spreads self.old self.new) }
-        ensures still { IfOk result (λ added. added ≡ false → self.new ≡ self.old) }
-        ensures counted { IfOk result (λ added. Counted self.old.facts self.new.facts added) }
-    {
-        let mut words = WordRuns::new(alloc);
-        first_words(alloc, system, &self.facts, source, &mut words)?;
-        let distinct = words.distinct(alloc)?;
-        let mut asked = FactRuns::new(alloc);
-        words_at_variable(x, &distinct, &mut asked)?;
-        self.add_all(alloc, &asked)
-    }
-
-    // Adds all that an inclusion asks for, one after the other, and says whether some of it may be new.
-    fn add_each(
+    // Adds all that an inclusion asks for, and says whether some of it may be new.
+    fn add_demands(
         &mut self,
         alloc: Global,
         system: &FlowSystem,
@@ -175,24 +165,90 @@ impl Worklist {
         self.add_all(alloc, &asked)
     }
 
-    // Adds all that an inclusion asks for, and says whether some of it may be new.
-    fn add_demands(
+    // Registers an inclusion at a cell, and fetches word i of the nodes there.
+    fn fetch_cell(
         &mut self,
         alloc: Global,
         system: &FlowSystem,
-        inclusion: &Inclusion,
-    ) -> Result<bool, AllocError>
-        ensures grown { OnOk result
-            (Grows (held self.old.facts) (held self.new.facts)
-            (demands (tables_of system.now) (held self.old.facts) (inclusion_of inclusion.now))) }
-        ensures spread { OnOk result (Spreads self.old self.new) }
-        ensures still { IfOk result (λ added. added ≡ false → self.new ≡ self.old) }
-        ensures counted { IfOk result (λ added. Counted self.old.facts self.new.facts added) }
+        n: u32,
+        i: u32,
+        cell: Element,
+        words: &mut Fetched,
+    ) -> Result<(), AllocError>
+        ensures registers { OnOk result (RegistersAt self.old self.new n (cell_reads cell)) }
+        ensures gets { OnOk result (GetsAll words.old words.new
+            (fetched_at (tables_of system.now) (held self.old.facts) i cell)) }
     {
-        match words_to_one(inclusion) {
-            Some((source, x)) => self.add_first_words(alloc, system, source, x),
-            None => self.add_each(alloc, system, inclusion),
+        match cell {
+            Element::Cell(s) => {
+                self.register_at(alloc, n, Place::Site(s))?;
+                words.fetch(system, &self.facts, s, i)
+            }
+            Element::Tag(_) => Ok(()),
+            Element::Number => Ok(()),
         }
+    }
+
+    // The same for each of several cells.
+    fn fetch_cells(
+        &mut self,
+        alloc: Global,
+        system: &FlowSystem,
+        n: u32,
+        i: u32,
+        cells: &[Element],
+        words: &mut Fetched,
+    ) -> Result<(), AllocError>
+        ensures registers { OnOk result
+            (RegistersAt self.old self.new n (flat_map cell_reads cells.now)) }
+        ensures gets { OnOk result (GetsAll words.old words.new
+            (flat_map (fetched_at (tables_of system.now) (held self.old.facts) i) cells.now)) }
+    {
+        for cell in cells {
+            self.fetch_cell(alloc, system, n, i, *cell, words)?;
+        }
+        Ok(())
+    }
+
+    // Satisfies the inclusion that a variable gets word i of the nodes at the cells of a word. The
+    // cells are gone over once.
+    fn satisfy_fetch(
+        &mut self,
+        alloc: Global,
+        system: &FlowSystem,
+        n: u32,
+        w: Word,
+        i: u32,
+        x: VarId,
+    ) -> Result<(), AllocError>
+        ensures { OnOk result (Satisfies (tables_of system.now)
+            (flows (word_at w i) (to (Target.One x))) n self.old self.new) }
+    {
+        self.register_word(alloc, n, w)?;
+        let mut cells = Seq::new(alloc);
+        elements(alloc, system, &self.facts, w, &mut cells)?;
+        let mut fetched = Fetched::new(alloc);
+        self.fetch_cells(alloc, system, n, i, cells.as_slice(), &mut fetched)?;
+        let mut asked = FactRuns::new(alloc);
+        blocks_at_variable(x, fetched.blocks(), &mut asked)?;
+        self.add_all(alloc, &asked)?;
+        Ok(())
+    }
+
+    // Satisfies an inclusion of any form: what it reads is listed, then what it asks for.
+    fn satisfy_any(
+        &mut self,
+        alloc: Global,
+        system: &FlowSystem,
+        n: u32,
+        inclusion: &Inclusion,
+    ) -> Result<(), AllocError>
+        ensures { OnOk result (Satisfies (tables_of system.now) (inclusion_of inclusion.now) n
+            self.old self.new) }
+    {
+        self.register_reads(alloc, system, n, inclusion)?;
+        self.add_demands(alloc, system, inclusion)?;
+        Ok(())
     }
 
     // Satisfies an inclusion, registered at the places that it reads.
@@ -206,9 +262,10 @@ impl Worklist {
         ensures { OnOk result (Satisfies (tables_of system.now) (inclusion_of inclusion.now) n
             self.old self.new) }
     {
-        self.register_reads(alloc, system, n, inclusion)?;
-        self.add_demands(alloc, system, inclusion)?;
-        Ok(())
+        match one_fetch(inclusion) {
+            Some((w, i, x)) => self.satisfy_fetch(alloc, system, n, w, i, x),
+            None => self.satisfy_any(alloc, system, n, inclusion),
+        }
     }
 
     // Satisfies the next inclusion that waits. Says whether one waited.
@@ -232,13 +289,14 @@ impl Worklist {
     }
 }
 
-// The source and the variable, where a source flows to a variable of one word.
-fn words_to_one(inclusion: &Inclusion) -> Option<(&Source, VarId)>
+// The word, the number and the variable, where a variable gets word i of the nodes at the cells of
+// a word.
+fn one_fetch(inclusion: &Inclusion) -> Option<(Word, u32, VarId)>
     ensures { IfSome result (λ r.
-        inclusion_of inclusion.now ≡ flows (source_of r.0.now) (to (Target.One r.1))) }
+        inclusion_of inclusion.now ≡ flows (word_at r.0 r.1) (to (Target.One r.2))) }
 {
     match inclusion {
-        Inclusion::Flows(source, Sink::To(Target::One(x))) => Some((source, *x)),
+        Inclusion::Flows(Source::WordAt(w, i), Sink::To(Target::One(x))) => Some((*w, *i, *x)),
         _ => None,
     }
 }
@@ -250,7 +308,8 @@ fn either(a: bool, b: bool) -> bool
     a || b
 }
 
-/// The facts of the least solution: each inclusion is satisfied, and again whenever more is known at a place that it reads, until none waits.
+/// The facts of the least solution: each inclusion is satisfied, and again whenever more is known
+/// at a place that it reads, until none waits.
 pub fn least_facts(alloc: Global, system: &FlowSystem) -> Result<Facts, AllocError>
     ensures { IfOk result (λ f.
         IsLeast (tables_of system.now) (inclusions_of system.now) (solution_of (held f))) }
@@ -261,7 +320,7 @@ pub fn least_facts(alloc: Global, system: &FlowSystem) -> Result<Facts, AllocErr
         // Facts and numbers can be counted, so the turns end.
         let _facts = list.facts.count();
         more = list.turn(alloc, system)?;
-        let _waiting = list.pending.len();
+        let _groups = list.pending.groups();
     }
     Ok(list.facts)
 }

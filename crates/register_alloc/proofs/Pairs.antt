@@ -1,7 +1,6 @@
 -- Lists of holders that are made one after another.
-use Rattle.std.proofs.Common.{◌≡◌, ◌⊎◌, ◌↔◌, ℕ, zero, suc, ◌+◌, ◌<◌, ◌≤◌, true, List, [], ◌∷◌, ◌++◌, length, length-append, Option, Some, None, slice_get, get_or, MatchOption, inl, inr, refl, sym, ap, ◌∙◌, subst, arith}
+use Rattle.std.proofs.Common.{◌≡◌, ◌↔◌, ℕ, ◌+◌, ◌<◌, true, List, [], ◌∷◌, ◌++◌, length, Option, Some, None, slice_get, MatchOption, inl, inr, refl, sym, ap, ◌∙◌, subst, arith}
 use Rattle.std.proofs.lemmas.Bool.{cases_lt}
-use Rattle.std.proofs.lemmas.Option.{same_Some, slice_get-get_or}
 use Rattle.low_code.specs.Formed.{is_among}
 use Rattle.register_alloc.specs.Fits.{Ascending}
 use Rattle.register_alloc.specs.Holders.{Held, Pairwise, AreRegisters}
@@ -12,36 +11,8 @@ pub record UpTo (R : Option Holder → Option Holder → Type 0) (k : ℕ) (old 
   pub many : length new ≡ k
   pub each : (r : ℕ) (d e : Option Holder) → slice_get old r ≡ Some d → slice_get new r ≡ Some e → R d e
 
-got_cases : {A : Type 0} (xs : List A) (v : A) (r : ℕ) (e : A) → slice_get (xs ++ (v ∷ [])) r ≡ Some e → (slice_get xs r ≡ Some e) ⊎ ((r ≡ length xs) × (e ≡ v))
-got_cases [] v zero e h = inr (refl, cc)
-got_cases [] v (suc r) e h = cc
-got_cases (x ∷ xs) v zero e h = inl h
-got_cases (x ∷ xs) v (suc r) e h = elim (got_cases xs v r e h) [
-  | inl l ↦ inl l
-  | inr k ↦ inr (ap suc k.0, k.1)
-]
-
-module _ (R : Option Holder → Option Holder → Type 0) (old : List (Option Holder)) where
-  pub no_pairs : UpTo R 0 old []
-  no_pairs = record { many = refl; each = λ r d e a b. cc }
-
-  pub next_pair : (k : ℕ) (new new' : List (Option Holder)) (d v : Option Holder) → k < length old → new' ≡ new ++ (v ∷ []) → R (get_or old k d) v → UpTo R k old new → UpTo R (k + 1) old new'
-  next_pair k new new' d v lt is this u = record {
-    many = ap length is ∙ length-append new (v ∷ []) ∙ ap (λ n. n + 1) u.many;
-    each = λ r a b ga gb. elim (got_cases new v r b (subst (λ l. slice_get l r ≡ Some b) is gb)) [
-      | inl before ↦ u.each r a b ga before
-      | inr here ↦
-          let place : r ≡ k = here.0 ∙ u.many in
-          let first : get_or old k d ≡ a = same_Some (get_or old k d) a (sym (slice_get-get_or old k d lt) ∙ ap (slice_get old) (sym place) ∙ ga) in
-          subst (λ x. R x b) first (subst (R (get_or old k d)) (sym here.1) this)
-    ];
-  }
-
-  pub all_pairs : (k : ℕ) (new : List (Option Holder)) → length old ≤ k → k ≤ length old → UpTo R k old new → Pairwise R old new
-  all_pairs k new past within u = record {
-    many = let e = u.many in omega (arith, e, past, within);
-    each = u.each;
-  }
+pub pairs_also : {R S : Option Holder → Option Holder → Type 0} {old new : List (Option Holder)} → Pairwise R old new → ((d e : Option Holder) → R d e → S d e) → Pairwise S old new
+pairs_also pairs also = record { many = pairs.many; each = λ r d e a b. also d e (pairs.each r d e a b) }
 
 -- ---- the registers that are held
 
@@ -100,9 +71,6 @@ module _ (held : List (Option Holder)) where
       → RegistersUpTo held k registers → RegistersUpTo held (k + 1) new
   next_register k registers new None there is u = subst (RegistersUpTo held (k + 1)) (sym is) (one_more_free k registers (λ d e. let h : Some None ≡ Some (Some d) = sym there ∙ e in cc) u)
   next_register k registers new (Some d) there is u = one_more_held k registers new d there is u
-
-pub many_more : {A : Type 0} (old new : List A) (v : A) (k : ℕ) → new ≡ old ++ (v ∷ []) → length old ≡ k → length new ≡ k + 1
-many_more old new v k is many = ap length is ∙ length-append old (v ∷ []) ∙ ap (λ n. n + 1) many
 
 pub held_below : (held : List (Option Holder)) (k : ℕ) (o : Option Holder) → slice_get held k ≡ Some o → ((d : Holder) × (o ≡ Some d)) → ((r : ℕ) → r < k → (d : Holder) × Held held r d)
     → (r : ℕ) → r < k + 1 → (d : Holder) × Held held r d

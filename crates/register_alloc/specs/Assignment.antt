@@ -3,8 +3,8 @@ use Rattle.std.specs.Prelude.{ℕ, ◌/◌, ◌%◌, ◌^◌, nat_eq, Bool, List
 use Rattle.parallel_move.specs.declared.Spot.{Spot}
 use Rattle.parallel_move.specs.declared.Spot.TheVariants.{Scratch}
 
--- the spot of each variable, the mask of the registers that each procedure may change, the registers saved at each site of a
--- call, and the words of each procedure's frame
+-- the spot of each variable, the mask of the registers that each procedure may change, the
+-- registers saved at each site of a call, and the words of each procedure's frame
 pub record Assignment : Type 0 where
   pub spots : List Spot
   pub masks : List ℕ

@@ -33,19 +33,22 @@ module _ (place : ℕ → Spot) where
   ClearOf x [] = Unit {0}
   ClearOf x (y ∷ ys) = (place y ≢ place x) × ClearOf x ys
 
-  -- the places of variables that are bound at one point are apart from each other and from those of the variables live after it
+  -- the places of variables that are bound at one point are apart from each other and from those of
+  -- the variables live after it
   abbrev pub Apart : (scope xs : List ℕ) → Code → (later : List ℕ) → Type 0
   Apart scope [] c later = Unit {0}
   Apart scope (x ∷ xs) c later = Clear scope c later x × (ClearOf x xs × Apart scope xs c later)
 
   -- a register holds a variable that is bound at a point, or live after it
   abbrev pub Holds : (scope xs : List ℕ) → Code → (later : List ℕ) → (r : ℕ) → Type 0
-  Holds scope xs c later r = (y : ℕ) × ((is_among y xs ≡ true) ⊎ IsLive scope c later y) × (place y ≡ Reg r)
+  Holds scope xs c later r =
+      (y : ℕ) × ((is_among y xs ≡ true) ⊎ IsLive scope c later y) × (place y ≡ Reg r)
 
   -- a variable that is bound at a point has a slot only where each of x8 to x31 holds another one
   abbrev pub Full : (scope xs : List ℕ) → Code → (later : List ℕ) → Type 0
   Full scope xs c later =
-      (x : ℕ) → is_among x xs ≡ true → IsSlot (place x) → (r : ℕ) → 8 ≤ r → r < 32 → Holds scope xs c later r
+      (x : ℕ) → is_among x xs ≡ true → IsSlot (place x) → (r : ℕ) → 8 ≤ r
+      → r < 32 → Holds scope xs c later r
 
 -- ---- frames
 
@@ -64,7 +67,8 @@ longest saved (s ∷ ss) = max (length (saved s.0)) (longest saved ss)
 
 -- one word for the return address, then the slots, then the longest list of saved registers
 abbrev pub words_of_frame : Assignment → Procedure → ℕ
-words_of_frame a q = 1 + slots_of (place_of a) (variables q) + longest (saves_at a) (calls_in q.body)
+words_of_frame a q =
+    1 + slots_of (place_of a) (variables q) + longest (saves_at a) (calls_in q.body)
 
 abbrev pub Ascending : List ℕ → Type 0
 Ascending [] = Unit {0}
@@ -74,7 +78,8 @@ Ascending (r ∷ q ∷ rs) = (r < q) × Ascending (q ∷ rs)
 -- the registers of the variables live after the call at a site that the called procedure may change
 abbrev pub IsSaved : Assignment → Procedure → (site called r : ℕ) → Type 0
 IsSaved a q site called r =
-    (x : ℕ) × (LiveAfter site q.params q.body [] x × ((place_of a x ≡ Reg r) × (may_change a called r ≡ true)))
+    (x : ℕ) × (LiveAfter site q.params q.body [] x
+    × ((place_of a x ≡ Reg r) × (may_change a called r ≡ true)))
 
 -- ---- the whole program
 
@@ -90,25 +95,33 @@ AllSlots p a = (x : ℕ) → is_among x (all_variables p.procs) ≡ true → IsS
 
 abbrev pub ParametersInRegisters : Program → Assignment → Type 0
 ParametersInRegisters p a =
-    (f x : ℕ) (q : Procedure) → slice_get p.procs f ≡ Some q → is_among x q.params ≡ true → IsRegister (place_of a x)
+    (f x : ℕ) (q : Procedure) → slice_get p.procs f ≡ Some q
+    → is_among x q.params ≡ true → IsRegister (place_of a x)
 
 pub record Fits (p : Program) (a : Assignment) : Type 0 where
   pub covers : Covers p a
   pub places : (x : ℕ) → is_among x (all_variables p.procs) ≡ true → IsPlace (place_of a x)
-  pub apart : (f : ℕ) (q : Procedure) → slice_get p.procs f ≡ Some q → EachBindingOf (Apart (place_of a)) q
+  pub apart : (f : ℕ) (q : Procedure) → slice_get p.procs f ≡ Some q
+      → EachBindingOf (Apart (place_of a)) q
   -- no register below x8 or beyond x31 is said to be changed
   pub changed : (f r : ℕ) → may_change a f r ≡ true → (8 ≤ r) × (r < 32)
-  pub written : (f r : ℕ) → f < length p.procs → (may_change a f r ≡ true) ↔ Written (place_of a) p f r
-  pub saved : (f k site called r : ℕ) (q : Procedure) → slice_get p.procs f ≡ Some q → slice_get (calls_in q.body) k ≡ Some (site, called)
+  pub written : (f r : ℕ) → f < length p.procs
+      → (may_change a f r ≡ true) ↔ Written (place_of a) p f r
+  pub saved : (f k site called r : ℕ) (q : Procedure) → slice_get p.procs f ≡ Some q
+      → slice_get (calls_in q.body) k ≡ Some (site, called)
       → (is_among r (saves_at a site) ≡ true) ↔ IsSaved a q site called r
   pub ascending : (site : ℕ) → Ascending (saves_at a site)
-  pub frames : (f : ℕ) (q : Procedure) → slice_get p.procs f ≡ Some q → words_at a f ≡ words_of_frame a q
+  pub frames : (f : ℕ) (q : Procedure) → slice_get p.procs f ≡ Some q
+      → words_at a f ≡ words_of_frame a q
   -- a frame has no more words than one for each variable and one for the return address
-  pub dense : (f : ℕ) (q : Procedure) → slice_get p.procs f ≡ Some q → words_at a f ≤ 1 + length (variables q)
-  -- arguments travel in the registers of the parameters, or, where no variable has a register, in x8 and up
+  pub dense : (f : ℕ) (q : Procedure) → slice_get p.procs f ≡ Some q
+      → words_at a f ≤ 1 + length (variables q)
+  -- arguments travel in the registers of the parameters, or, where no variable has a register, in
+  -- x8 and up
   pub parameters : AllSlots p a ⊎ ParametersInRegisters p a
 
 -- every register is used before a slot is, and each parameter has one
 pub record UsesRegisters (p : Program) (a : Assignment) : Type 0 where
-  pub full : (f : ℕ) (q : Procedure) → slice_get p.procs f ≡ Some q → EachBindingOf (Full (place_of a)) q
+  pub full : (f : ℕ) (q : Procedure) → slice_get p.procs f ≡ Some q
+      → EachBindingOf (Full (place_of a)) q
   pub parameters : ParametersInRegisters p a

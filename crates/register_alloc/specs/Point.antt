@@ -42,7 +42,8 @@ abbrev mutual
   points scope (join xs b c) later = points scope b (uses c ++ later)
       ++ points (xs ++ scope) c later
   points scope (give as') later = []
-  points scope (tail f site as') later = record { site = site; proc = f; scope = []; rest = fail; later = [] } ∷ []
+  points scope (tail f site as') later =
+      record { site = site; proc = f; scope = []; rest = fail; later = [] } ∷ []
   points scope (choose as') later = arms_points scope as' later
   points scope fail later = []
 

@@ -21,7 +21,8 @@ with_called calls masks f = joined masks (mask_at masks f) (called_by calls f)
 -- from the one masks to the other, one procedure after another
 pub data Grows (calls : List (List ℕ)) (old : List ℕ) : List ℕ → Type 0 where
   same : Grows calls old old
-  more : {masks : List ℕ} (f : ℕ) → Grows calls old masks → f < length masks → Grows calls old (set masks f (with_called calls masks f))
+  more : {masks : List ℕ} (f : ℕ) → Grows calls old masks → f < length masks
+      → Grows calls old (set masks f (with_called calls masks f))
 
 -- nothing is added to the first n masks
 abbrev pub AreWhole : (calls : List (List ℕ)) → List ℕ → (n : ℕ) → Type 0

@@ -19,8 +19,9 @@ use parallel_move::Spot;
 use seq::Seq;
 use std::alloc::{AllocError, Global};
 
-/// What is gathered of the procedures of a program: the walk of each, the places of all variables, the registers of each
-/// procedure's own variables and results as a mask, and the procedures that it calls.
+/// What is gathered of the procedures of a program: the walk of each, the places of all variables,
+/// the registers of each procedure's own variables and results as a mask, and the procedures that
+/// it calls.
 #[derive(Drop)]
 pub struct Gathered {
     pub walks: Vec<Registers>,
@@ -90,7 +91,8 @@ impl Gathered {
         }
     }
 
-    /// Adds a procedure. `AllocError` where memory is wanting, or where numbers of 32 bits don't reach.
+    /// Adds a procedure. `AllocError` where memory is wanting, or where numbers of 32 bits don't
+    /// reach.
     fn add(&mut self, alloc: Global, proc: &LowProc) -> Result<(), AllocError>
         ensures { OnOk result (IsAdded (procedure_of proc.now) self.old self.new) }
     {
@@ -271,8 +273,9 @@ fn frames(alloc: Global, walks: &[Registers], saves: &[Seq<u8>]) -> Result<Vec<u
     Ok(frames)
 }
 
-/// Places for the variables of a program. They fit a program that is formed and whose procedures take at most 16 words and give
-/// at most 13 words each, and use every register before a slot. `AllocError` where memory is wanting.
+/// Places for the variables of a program. They fit a program that is formed and whose procedures
+/// take at most 16 words and give at most 13 words each, and use every register before a slot.
+/// `AllocError` where memory is wanting.
 pub fn allocate(alloc: Global, low: &Low) -> Result<Places, AllocError>
     ensures fits { IfOk result (λ a. Formed (program_of low.now)
         → HaveFewParameters (program_of low.now).procs → HaveFewResults (program_of low.now).procs

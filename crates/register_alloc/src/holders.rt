@@ -2,7 +2,7 @@
 
 ghost use Rattle.std.specs.Prelude.{◌≡◌, ◌||◌, ◌<◌, ◌++◌, ◌∷◌, [], ℕ, true, false, List, length, slice_get, slice_set, Some, None, Option, vec_len, IfOk, OnOk, MatchOption};
 ghost use Rattle.register_alloc.specs.Uses.{AreUses};
-ghost use Rattle.register_alloc.specs.Holders.{Held, AreStillUsed, AreEntering, AllFree, AreRegisters, IsStill, IsMarked, new_holder};
+ghost use Rattle.register_alloc.specs.Holders.{Held, AreStillUsed, AreEntering, AllFree, AreRegisters, IsStill, IsMarked, Pairwise, new_holder};
 ghost use Rattle.register_alloc.specs.declared.holders.Holder.{Holder};
 
 use crate::uses::Uses;
@@ -50,14 +50,11 @@ impl Holders {
         ensures { IfOk result (λ h. (used : List ℕ) → AreUses used uses.now
             → AreStillUsed used from to self.now.of.items h.of.items) }
     {
-        let mut of = Vec::new(alloc);
-        for held in self.of.as_slice() {
-            of.push(still(*held, uses, from, to))?;
-        }
-        Ok(Holders { of })
+        self.each(alloc, |held| still(held, uses, from, to))
     }
 
-    /// The same at the head of a join's block, after which come the positions from `from` on and before `to`.
+    /// The same at the head of a join's block, after which come the positions from `from` on and
+    /// before `to`.
     pub fn entering(
         &self,
         alloc: Global,
@@ -68,9 +65,21 @@ impl Holders {
         ensures { IfOk result (λ h. (used : List ℕ) → AreUses used uses.now
             → AreEntering used from to self.now.of.items h.of.items) }
     {
+        self.each(alloc, |held| within_join(held, uses, from, to))
+    }
+
+    /// What each register's holder becomes.
+    fn each<F: Fn(Option<Holder>) -> Option<Holder>>(
+        &self,
+        alloc: Global,
+        becomes: F,
+    ) -> Result<Holders, AllocError>
+        requires { F.IsAlwaysCallable becomes }
+        ensures { IfOk result (λ h. Pairwise (F.post becomes) self.now.of.items h.of.items) }
+    {
         let mut of = Vec::new(alloc);
         for held in self.of.as_slice() {
-            of.push(within_join(*held, uses, from, to))?;
+            of.push(becomes(*held))?;
         }
         Ok(Holders { of })
     }

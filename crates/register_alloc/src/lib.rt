@@ -18,8 +18,8 @@ use seq::Seq;
 use std::marker::Model;
 pub use walk::{Call, Walk};
 
-/// Where the variables of a program stand, which registers each procedure may change, which of them are saved at each call
-/// site, and the words of each frame.
+/// Where the variables of a program stand, which registers each procedure may change, which of them
+/// are saved at each call site, and the words of each frame.
 #[derive(Drop)]
 pub struct Places {
     spots: Vec<Spot>,

@@ -26,7 +26,8 @@ pub struct Given {
     pub spot: Spot,
 }
 
-/// A call: its site, the procedure, and the registers of the variables that are live after it, ascending.
+/// A call: its site, the procedure, and the registers of the variables that are live after it,
+/// ascending.
 #[derive(Drop)]
 pub struct CallSite {
     pub site: u32,
@@ -34,15 +35,16 @@ pub struct CallSite {
     pub live: Seq<u8>,
 }
 
-/// What the walk reads of a procedure: where its variables are used, and the sizes of its inner blocks.
+/// What the walk reads of a procedure: where its variables are used, and the sizes of its inner
+/// blocks.
 #[derive(Drop)]
 pub struct Text {
     pub uses: Uses,
     pub sizes: Vec<u32>,
 }
 
-/// Where the walk stands: the position of the next use and the number of the next inner block; and what it has made so far: the
-/// places of variables, the number of slots among them, and the calls.
+/// Where the walk stands: the position of the next use and the number of the next inner block; and
+/// what it has made so far: the places of variables, the number of slots among them, and the calls.
 #[derive(Drop)]
 pub struct Registers {
     alloc: Global,
@@ -150,7 +152,8 @@ impl Registers {
         Ok(end)
     }
 
-    /// Gives a variable a free register, the wanted one where it is free, and where none is the next slot.
+    /// Gives a variable a free register, the wanted one where it is free, and where none is the
+    /// next slot.
     fn give(
         &mut self,
         holders: &mut Holders,

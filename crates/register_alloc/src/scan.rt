@@ -1,4 +1,5 @@
-// The uses of a procedure in the order of its text, and how many of them stand in each block of a join and each arm.
+// The uses of a procedure in the order of its text, and how many of them stand in each block of a
+// join and each arm.
 
 #![tactic(auto, using(low_code::proofs::TreeOf::tree_of, crate::proofs::Walked::nothing_more, crate::proofs::Walked::in_front, crate::proofs::Walked::grouped))]
 
@@ -10,8 +11,8 @@ ghost use Rattle.register_alloc.specs.Inner.{sizes_of, arms_sizes};
 use low_code::{LowArm, LowBlock, LowEnd, LowStmt, LowTest, Operand};
 use std::alloc::{AllocError, Global};
 
-/// The variables that are used, in the order of the text, and for each block of a join and each arm but the last one, as they
-/// begin, the number of its uses.
+/// The variables that are used, in the order of the text, and for each block of a join and each arm
+/// but the last one, as they begin, the number of its uses.
 #[derive(Drop)]
 pub struct Scan {
     pub used: Vec<u32>,

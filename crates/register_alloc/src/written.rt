@@ -49,7 +49,8 @@ fn either(a: bool, b: bool) -> bool
     a || b
 }
 
-/// Adds to the mask of each procedure those of the procedures that it calls. Whether there was anything to add.
+/// Adds to the mask of each procedure those of the procedures that it calls. Whether there was
+/// anything to add.
 fn round(masks: &mut Vec<u32>, calls: &[Seq<u32>]) -> bool
     requires { length masks.old.items ≡ length calls.now }
     ensures grows { Grows calls.now masks.old.items masks.new.items }
@@ -64,7 +65,8 @@ fn round(masks: &mut Vec<u32>, calls: &[Seq<u32>]) -> bool
     grew
 }
 
-/// The least masks that have each procedure's own registers, and those of the procedures that it calls.
+/// The least masks that have each procedure's own registers, and those of the procedures that it
+/// calls.
 pub(crate) fn least(own: Vec<u32>, calls: &[Seq<u32>]) -> Vec<u32>
     requires { length own.items ≡ length calls.now }
     ensures many { length result.items ≡ length own.items }

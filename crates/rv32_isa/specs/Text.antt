@@ -89,11 +89,14 @@ text_of (Lui rd imm) = two (codes "lui") (register rd) (decimal imm)
 text_of (Auipc rd imm) = two (codes "auipc") (register rd) (decimal imm)
 text_of (Jal rd off) = two (codes "jal") (register rd) (signed_decimal off)
 text_of (Jalr rd rs1 imm) = two (codes "jalr") (register rd) (offset_from imm rs1)
-text_of (Branch kind rs1 rs2 off) = three (branch_name kind) (register rs1) (register rs2) (signed_decimal off)
+text_of (Branch kind rs1 rs2 off) =
+    three (branch_name kind) (register rs1) (register rs2) (signed_decimal off)
 text_of (Load kind rd rs1 imm) = two (load_name kind) (register rd) (offset_from imm rs1)
 text_of (Store kind rs2 rs1 imm) = two (store_name kind) (register rs2) (offset_from imm rs1)
-text_of (OpImm kind rd rs1 imm) = three (imm_name kind) (register rd) (register rs1) (signed_decimal imm)
-text_of (Shift kind rd rs1 amount) = three (shift_name kind) (register rd) (register rs1) (decimal amount)
+text_of (OpImm kind rd rs1 imm) =
+    three (imm_name kind) (register rd) (register rs1) (signed_decimal imm)
+text_of (Shift kind rd rs1 amount) =
+    three (shift_name kind) (register rd) (register rs1) (decimal amount)
 text_of (Op kind rd rs1 rs2) = three (op_name kind) (register rd) (register rs1) (register rs2)
 text_of (Fence top rs1 rd) = three (codes "fence") (decimal top) (register rs1) (register rd)
 text_of Ecall = codes "ecall"

@@ -8,8 +8,8 @@ ghost use Rattle.rv32_isa.specs.Table.{word_of, op_kind, branch_kind, load_kind,
 use crate::fields::{Amount, Imm12, Imm20, OffB, OffJ, Reg, Top};
 use crate::instr::{BranchKind, ImmKind, Instr, LoadKind, OpKind, ShiftKind, StoreKind};
 
-/// The instruction of a word of 32 bits, or `None` where no instruction of RV32IM has this word. The instruction has
-/// exactly this word again.
+/// The instruction of a word of 32 bits, or `None` where no instruction of RV32IM has this word.
+/// The instruction has exactly this word again.
 pub fn decode(word: u32) -> Option<Instr>
     ensures value { result ≡ instr_of word }
     ensures row { IfSome result (λ i. (word_of i ≡ word) × InRange i) }

@@ -2,7 +2,8 @@
 
 use crate::fields::{Amount, Imm12, Imm20, OffB, OffJ, Reg, Top};
 
-/// The test of a branch on its two registers: equal, not equal, less, or greater or equal, with sign and without.
+/// The test of a branch on its two registers: equal, not equal, less, or greater or equal, with
+/// sign and without.
 #[derive(Clone, Copy, PartialEq, Eq, Debug, Drop)]
 pub enum BranchKind {
     Beq,
@@ -73,8 +74,8 @@ pub enum OpKind {
     Remu,
 }
 
-/// An instruction. Its registers stand in the order of its text: the target first, then the sources; a store has the
-/// stored register first, and then its base.
+/// An instruction. Its registers stand in the order of its text: the target first, then the
+/// sources; a store has the stored register first, and then its base.
 #[derive(Clone, Copy, PartialEq, Eq, Debug, Drop)]
 pub enum Instr {
     /// Target and upper bits.

@@ -15,7 +15,7 @@ use Rattle.rv32_items.specs.Placed.{is_instruction, times, Climbs, Does, Placed}
 use Rattle.rv32_items.specs.Flows.{is_begin}
 use Rattle.rv32_items.specs.Laws.{HasCode, addresses_of, ItemsEnter}
 use Rattle.rv32_items.proofs.Addresses.{none_within, none_at, begin_is, not_one}
-use Rattle.rv32_items.proofs.Turns.{turn_is, Fresh, Good, GoodTurn, turn_good, fresh_behind}
+use Rattle.rv32_items.proofs.CodeAfterTurn.{turn_is, Fresh, Good, GoodTurn, turn_good, fresh_behind}
 use Rattle.rv32_items.proofs.Moments.{Same, same_seen, course_none, course_more, trace_none, trace_more, climbs_run, climbs_part, climbs_trace, climbs_trace_part}
 
 -- behind a label

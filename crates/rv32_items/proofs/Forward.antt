@@ -17,7 +17,7 @@ use Rattle.rv32_items.specs.Flows.{is_begin, GoesOn, IsStop, Flows}
 use Rattle.rv32_items.specs.Laws.{HasCode, address_of, addresses_of, ItemsGoForward}
 use Rattle.rv32_items.proofs.Stands.{stands}
 use Rattle.rv32_items.proofs.Addresses.{not_true, not_one, label_there, addresses_rise, below_top, begin_at, none_within}
-use Rattle.rv32_items.proofs.Turns.{turn_is, Fresh, Good, GoodTurn, turn_good, fresh_behind}
+use Rattle.rv32_items.proofs.CodeAfterTurn.{turn_is, Fresh, Good, GoodTurn, turn_good, fresh_behind}
 use Rattle.rv32_items.proofs.Moments.{course_none, climbs_below}
 use Rattle.rv32_items.proofs.Enters.{entered, course_is, next_point, behind_begin, first_is_fresh}
 

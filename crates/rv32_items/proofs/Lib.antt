@@ -1,7 +1,7 @@
 pub mod Stands
 pub mod Keeps
 pub mod Addresses
-pub mod Turns
+pub mod CodeAfterTurn
 pub mod Moments
 pub mod Enters
 pub mod Reached

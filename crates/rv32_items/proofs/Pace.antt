@@ -22,7 +22,7 @@ use Rattle.rv32_items.specs.Flows.{is_begin, GoesOn, Flows}
 use Rattle.rv32_items.specs.Laws.{HasCode}
 use Rattle.rv32_items.specs.Pace.{ItemsKeepPace}
 use Rattle.rv32_items.proofs.Addresses.{not_one}
-use Rattle.rv32_items.proofs.Turns.{turn_is, GoodTurn}
+use Rattle.rv32_items.proofs.CodeAfterTurn.{turn_is, GoodTurn}
 use Rattle.rv32_items.proofs.Moments.{Same, same_seen, course_none, climbs_run}
 use Rattle.rv32_items.proofs.Enters.{course_is}
 use Rattle.rv32_items.proofs.Forward.{home_step, Way, WayTurn, turn_way}

@@ -13,7 +13,7 @@ use Rattle.rv32_items.specs.Course.{Layout, Point, Course, Turn, Next, Written, 
 use Rattle.rv32_items.specs.Placed.{is_instruction, times, Does, steps, Placed}
 use Rattle.rv32_items.specs.Flows.{is_begin}
 use Rattle.rv32_items.specs.Laws.{HasCode, ItemsShow, ItemsAreReached}
-use Rattle.rv32_items.proofs.Turns.{turn_is, Good, GoodTurn, turn_good, Fresh}
+use Rattle.rv32_items.proofs.CodeAfterTurn.{turn_is, Good, GoodTurn, turn_good, Fresh}
 use Rattle.rv32_items.proofs.Moments.{Same, same_seen, course_none, climbs_run}
 use Rattle.rv32_items.proofs.Enters.{entered, course_is, never_next, never_written, never_asked, no_trap}
 

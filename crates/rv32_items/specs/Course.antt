@@ -14,7 +14,8 @@ use Rattle.rv32_items.specs.declared.Cond.TheVariants.{Eq, Ne, Lt, Ge, Ltu, Geu}
 use Rattle.rv32_items.specs.declared.Item.{Item}
 use Rattle.rv32_items.specs.declared.Item.TheVariants.{Label, Plain, Branch, Jump}
 
--- the address of each item, what the way of a branch or jump that is taken leaves of the registers, and the segment of the code
+-- the address of each item, what the way of a branch or jump that is taken leaves of the registers,
+-- and the segment of the code
 pub record Layout : Type 0 where
   pub address : (item : ℕ) → ℕ
   pub far : (item : ℕ) → (regs : ℕ → ℕ) → ℕ → ℕ
@@ -26,7 +27,8 @@ pub record Point : Type 0 where
   pub item : ℕ
   pub memory : List Stretch
 
--- what an item does: it goes on, also with bytes written, asks for a byte of the input, ends the program, or traps
+-- what an item does: it goes on, also with bytes written, asks for a byte of the input, ends the
+-- program, or traps
 pub data Turn : Type 0 where
   Next : Point → Turn
   Written : (address len : ℕ) → List ℕ → Point → Turn
@@ -54,7 +56,8 @@ label_from n (i ∷ is) l = if is_label l i then Some n else label_from (suc n) 
 -- the number of the first item at this address
 abbrev pub address_from : ℕ → List Item → Layout → ℕ → Option ℕ
 address_from n [] lay a = None
-address_from n (i ∷ is) lay a = if nat_eq (lay.address n) a then Some n else address_from (suc n) is lay a
+address_from n (i ∷ is) lay a =
+    if nat_eq (lay.address n) a then Some n else address_from (suc n) is lay a
 
 -- the label that an item is
 abbrev pub label_of : Option Item → List ℕ
@@ -71,7 +74,8 @@ pub data End : Type 0 where
   Exited : (code : ℕ) → End
   Stopped : TrapKind → End
 
--- the bytes that a course wrote, the bytes of its input that are left, the labels that it passed, in order, and where it stands
+-- the bytes that a course wrote, the bytes of its input that are left, the labels that it passed,
+-- in order, and where it stands
 pub record Course : Type 0 where
   pub out : List ℕ
   pub left : List ℕ
@@ -83,7 +87,8 @@ stands left end = record { out = []; left = left; passed = []; end = end }
 
 -- a course, with bytes that were written and labels that were passed before it
 abbrev pub after : (bytes labels : List ℕ) → Course → Course
-after bytes labels c = record { out = bytes ++ c.out; left = c.left; passed = labels ++ c.passed; end = c.end }
+after bytes labels c =
+    record { out = bytes ++ c.out; left = c.left; passed = labels ++ c.passed; end = c.end }
 
 module _ (lay : Layout) (items : List Item) where
   -- the state of the machine that stands at a point
@@ -105,7 +110,8 @@ module _ (lay : Layout) (items : List Item) where
   -- a return goes to the first item at the address in x1
   abbrev pub plain : Point → Instr → Turn
   plain p i =
-      if is_return i then to_item (address_from 0 items lay (p.regs 1)) (set_reg p.regs 0 (lay.address (suc p.item))) p
+      if is_return i then to_item (address_from 0 items lay (p.regs 1))
+      (set_reg p.regs 0 (lay.address (suc p.item))) p
       else behind_plain p (act (state_at p) i)
 
   abbrev pub turn_of : Point → Option Item → Turn
@@ -117,23 +123,27 @@ module _ (lay : Layout) (items : List Item) where
       then to_item (label_from 0 items l) (lay.far p.item p.regs) p
       else Next (record { regs = p.regs; item = suc p.item; memory = p.memory })
   turn_of p (Some (Jump link l)) =
-      to_item (label_from 0 items l) (lay.far p.item (set_reg p.regs link (lay.address (suc p.item)))) p
+      to_item (label_from 0 items l)
+      (lay.far p.item (set_reg p.regs link (lay.address (suc p.item)))) p
 
   unfoldable pub turn : Point → Turn
   turn p = turn_of p (slice_get items p.item)
 
-  -- the rest of a course behind one item: where a byte is asked for, the first one that is left is given, if there is one
+  -- the rest of a course behind one item: where a byte is asked for, the first one that is left is
+  -- given, if there is one
   abbrev pub onward : (rest : List ℕ → Point → Course) → (input : List ℕ) → Point → Turn → Course
   onward rest input p (Next q) = rest input q
   onward rest input p (Written address len bytes q) = after bytes [] (rest input q)
-  onward rest input p (Asked address) = rest (drop 1 input) (behind p.item (given (state_at p) (slice_get input 0)))
+  onward rest input p (Asked address) =
+      rest (drop 1 input) (behind p.item (given (state_at p) (slice_get input 0)))
   onward rest input p (Ended code) = stands input (Exited code)
   onward rest input p (Trapped kind) = stands input (Stopped kind)
 
   -- so many items from a point on an input, where an end stays
   unfoldable pub course : ℕ → (input : List ℕ) → Point → Course
   course zero input p = stands input (Going p)
-  course (suc n) input p = after [] (label_of (slice_get items p.item)) (onward (course n) input p (turn p))
+  course (suc n) input p =
+      after [] (label_of (slice_get items p.item)) (onward (course n) input p (turn p))
 
   -- no item traps, however far the course goes
   abbrev pub NeverTrapsOn : (input : List ℕ) → Point → Type 0

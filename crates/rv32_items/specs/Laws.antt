@@ -28,15 +28,19 @@ ItemsShow =
     → HasCode placed.lay p → NeverTraps placed.lay items p
     → Shows (of_items placed.lay items p) (of_machine (state_at placed.lay items p))
 
--- after so many items there is a moment of the machine that shows the same, in at most three steps for each
+-- after so many items there is a moment of the machine that shows the same, in at most three steps
+-- for each
 abbrev pub ItemsAreReached : Type 0
 ItemsAreReached =
     (items : List Item) (words : List ℕ) (placed : Placed items words) (p : Point) (i : List ℕ)
     → HasCode placed.lay p → NeverTrapsOn placed.lay items i p → (n : ℕ)
-    → (m : ℕ) × ((m ≤ 3 * n) × (of_machine (state_at placed.lay items p) i m ≡ of_items placed.lay items p i n))
+    → (m : ℕ) × ((m ≤ 3 * n)
+    × (of_machine (state_at placed.lay items p) i m ≡ of_items placed.lay items p i n))
 
--- after m steps the machine shows what n items show, and it has entered the addresses of just the labels that they passed
-pub record Meets (lay : Layout) (items : List Item) (begins i : List ℕ) (p : Point) (m n : ℕ) : Type 0 where
+-- after m steps the machine shows what n items show, and it has entered the addresses of just the
+-- labels that they passed
+pub record Meets (lay : Layout) (items : List Item) (begins i : List ℕ) (p : Point) (m n : ℕ)
+    : Type 0 where
   pub seen : of_machine (state_at lay items p) i m ≡ of_items lay items p i n
   pub entered :
       procedures_at (addresses_of lay items begins) (trace m i (state_at lay items p))
@@ -49,12 +53,14 @@ StandOnce begins items = (b : ℕ) → is_one_of begins b ≡ true → times b i
 -- and has an instruction right behind it
 abbrev pub BeforeInstructions : (begins : List ℕ) → List Item → Type 0
 BeforeInstructions begins items =
-    (n : ℕ) → is_begin begins (slice_get items n) ≡ true → is_instruction (slice_get items (suc n)) ≡ true
+    (n : ℕ) → is_begin begins (slice_get items n) ≡ true
+    → is_instruction (slice_get items (suc n)) ≡ true
 
 -- after any number of steps there are so many items that the two meet
 abbrev pub ItemsEnter : Type 0
 ItemsEnter =
-    (items : List Item) (words : List ℕ) (placed : Placed items words) (p : Point) (i begins : List ℕ)
+    (items : List Item) (words : List ℕ) (placed : Placed items words)
+    (p : Point) (i begins : List ℕ)
     → HasCode placed.lay p → NeverTrapsOn placed.lay items i p → p.item ≡ 0
     → StandOnce begins items → BeforeInstructions begins items
     → (m : ℕ) → (n : ℕ) × Meets placed.lay items begins i p m n
@@ -62,7 +68,8 @@ ItemsEnter =
 -- where items flow and each return goes home, the machine goes forward
 abbrev pub ItemsGoForward : Type 0
 ItemsGoForward =
-    (items : List Item) (words : List ℕ) (placed : Placed items words) (p : Point) (i begins : List ℕ)
+    (items : List Item) (words : List ℕ) (placed : Placed items words)
+    (p : Point) (i begins : List ℕ)
     → HasCode placed.lay p → p.item ≡ 0 → ((n : ℕ) → ReturnsHome placed.lay items n i p [])
     → StandOnce begins items → Flows begins items
     → (m : ℕ) → Forward (addresses_of placed.lay items begins) m i (state_at placed.lay items p) []

@@ -9,11 +9,12 @@ use Rattle.rv32_items.specs.Told.{of_items, ReturnsHome}
 use Rattle.rv32_items.specs.Flows.{Flows}
 use Rattle.rv32_items.specs.Laws.{HasCode, StandOnce}
 
--- where items flow and each return goes home, the machine shows what so many items show after no more steps than all items take
--- once at the start and once for each procedure that was passed
+-- where items flow and each return goes home, the machine shows what so many items show after no
+-- more steps than all items take once at the start and once for each procedure that was passed
 abbrev pub ItemsKeepPace : Type 0
 ItemsKeepPace =
-    (items : List Item) (words : List ℕ) (placed : Placed items words) (p : Point) (i begins : List ℕ)
+    (items : List Item) (words : List ℕ) (placed : Placed items words)
+    (p : Point) (i begins : List ℕ)
     → HasCode placed.lay p → p.item ≡ 0 → ((n : ℕ) → ReturnsHome placed.lay items n i p [])
     → StandOnce begins items → Flows begins items → (n : ℕ)
     → let procedures = length (procedures_at begins (course placed.lay items n i p).passed) in

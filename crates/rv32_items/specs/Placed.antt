@@ -52,7 +52,8 @@ times l (_ ∷ is) = times l is
 
 -- each label that is used stands once
 abbrev pub LabelsStand : List Item → Type 0
-LabelsStand items = (n l : ℕ) (i : Item) → slice_get items n ≡ Some i → target_of i ≡ Some l → times l items ≡ 1
+LabelsStand items =
+    (n l : ℕ) (i : Item) → slice_get items n ≡ Some i → target_of i ≡ Some l → times l items ≡ 1
 
 -- a label stands at item n alone
 pub record Stands (items : List Item) (l n : ℕ) : Type 0 where
@@ -64,48 +65,54 @@ AllPlain items = (n : ℕ) (i : Item) → slice_get items n ≡ Some i → IsPla
 
 -- ---- where items stand
 
--- addresses from the code's first on, each a multiple of four: a label takes no word, every other item at least one and at most
--- its size. A branch or jump that is taken changes x7 at most beside its link, and x0, which reads zero
+-- addresses from the code's first on, each a multiple of four: a label takes no word, every other
+-- item at least one and at most its size. A branch or jump that is taken changes x7 at most beside
+-- its link, and x0, which reads zero
 pub record Rises (items : List Item) (lay : Layout) : Type 0 where
   pub first : lay.address 0 ≡ lay.code.first
   pub fixed : lay.code.write ≡ false
   pub runs : lay.code.exec ≡ true
   pub fours : (n : ℕ) → lay.address n % 4 ≡ 0
   pub labels : (n l : ℕ) → slice_get items n ≡ Some (Label l) → lay.address (suc n) ≡ lay.address n
-  pub rises : (n : ℕ) → is_instruction (slice_get items n) ≡ true → lay.address n + 4 ≤ lay.address (suc n)
-  pub sizes : (n : ℕ) (i : Item) → slice_get items n ≡ Some i → lay.address (suc n) ≤ lay.address n + 4 * size i
+  pub rises : (n : ℕ) → is_instruction (slice_get items n) ≡ true
+      → lay.address n + 4 ≤ lay.address (suc n)
+  pub sizes : (n : ℕ) (i : Item) → slice_get items n ≡ Some i
+      → lay.address (suc n) ≤ lay.address n + 4 * size i
   pub last : lay.address (length items) ≡ end_of lay.code
   pub below : end_of lay.code < 2 ^ 32
   pub far_keeps : (n r : ℕ) (regs : ℕ → ℕ) → r ≢ 0 → r ≢ 7 → lay.far n regs r ≡ regs r
 
 -- ---- what the words do
 
--- the last instruction of an item: it is a return just where the item is one, and links x1 just where the item is a call, at the
--- item's end
+-- the last instruction of an item: it is a return just where the item is one, and links x1 just
+-- where the item is a call, at the item's end
 pub record Closes (i : Item) (end : ℕ) (s : State) : Type 0 where
   pub returning : returns' (instruction_at s) ≡ returns (Some i)
   pub linking : writes_link (instruction_at s) ≡ is_call (Some i)
   pub at_end : is_call (Some i) ≡ true → s.pc + 4 ≡ end
 
--- in so many steps that only go on, at rising addresses of which the last is below `end`, from s to t: none for a label, and at
--- least one for an instruction
+-- in so many steps that only go on, at rising addresses of which the last is below `end`, from s to
+-- t: none for a label, and at least one for an instruction
 abbrev pub Climbs : Item → ℕ → (end : ℕ) → State → State → Type 0
 Climbs i zero end s t = (is_instruction (Some i) ≡ false) × (s ≡ t)
 Climbs i (suc zero) end s t = (s.pc < end) × ((step s ≡ Next' t) × Closes i end s)
 Climbs i (suc (suc k)) end s t =
-    (u : State) × ((s.pc < u.pc) × ((step s ≡ Next' u) × ((returns' (instruction_at s) ≡ false) × Climbs i (suc k) end u t)))
+    (u : State) × ((s.pc < u.pc) × ((step s ≡ Next' u)
+    × ((returns' (instruction_at s) ≡ false) × Climbs i (suc k) end u t)))
 
 -- the machine does what the turn of item n says, in k steps within the item's words
 abbrev pub Does : Layout → (items : List Item) → (n : ℕ) → Item → (k : ℕ) → State → Turn → Type 0
 Does lay items n i k s (Next p) = Climbs i k (lay.address (suc n)) s (state_at lay items p)
-Does lay items n i k s (Written a len bytes p) = (k ≡ 1) × (step s ≡ Written' a len bytes (state_at lay items p))
+Does lay items n i k s (Written a len bytes p) =
+    (k ≡ 1) × (step s ≡ Written' a len bytes (state_at lay items p))
 Does lay items n i k s (Asked a) = (k ≡ 1) × (step s ≡ Asked' a)
 Does lay items n i k s (Ended code) = (k ≡ 1) × (step s ≡ Ended' code)
 Does lay items n i k s (Trapped kind) = Unit {0}
 
 -- how many steps an item does at most: a branch that is not taken is one
 abbrev pub steps : State → Item → ℕ
-steps s (Branch cond left right l) = if is_taken (kind_of cond) (reg s left) (reg s right) then 3 else 1
+steps s (Branch cond left right l) =
+    if is_taken (kind_of cond) (reg s left) (reg s right) then 3 else 1
 steps s i = size i
 
 -- the words are those of the code's segment, and do item by item what the items do
@@ -116,5 +123,7 @@ pub record Placed (items : List Item) (words : List ℕ) : Type 0 where
   pub rises : Rises items lay
   pub few : length words ≤ size_of items
   pub some : (n : ℕ) → is_instruction (slice_get items n) ≡ true → 0 < length words
-  pub does : (p : Point) (i : Item) (rest : List Stretch) → p.memory ≡ lay.code ∷ rest → slice_get items p.item ≡ Some i →
-      (k : ℕ) × ((k ≤ steps (state_at lay items p) i) × Does lay items p.item i k (state_at lay items p) (turn lay items p))
+  pub does : (p : Point) (i : Item) (rest : List Stretch) → p.memory ≡ lay.code ∷ rest
+      → slice_get items p.item ≡ Some i →
+      (k : ℕ) × ((k ≤ steps (state_at lay items p) i)
+      × Does lay items p.item i k (state_at lay items p) (turn lay items p))

@@ -3,13 +3,15 @@
 ghost use Rattle.rv32_items.specs.Laws.{ItemsShow, ItemsAreReached, ItemsEnter, ItemsGoForward};
 ghost use Rattle.rv32_items.specs.Pace.{ItemsKeepPace};
 
-/// Where the items never trap, the machine shows what they show, and in at most three steps an item.
+/// Where the items never trap, the machine shows what they show, and in at most three steps an
+/// item.
 pub fn items_show()
     ensures show { ItemsShow }
     ensures reached { ItemsAreReached }
 {}
 
-/// The machine enters the addresses of just the labels that the course passes, each with an instruction right after it.
+/// The machine enters the addresses of just the labels that the course passes, each with an
+/// instruction right after it.
 pub fn items_enter()
     ensures { ItemsEnter }
 {}

@@ -1,4 +1,5 @@
--- By which instructions an item does what it says. Words are counted from the first one of the code, which stands at 65536.
+-- By which instructions an item does what it says. Words are counted from the first one of the
+-- code, which stands at 65536.
 use Rattle.std.specs.Prelude.{ℕ, ℤ, pos, negsuc, ◌+◌, ◌-◌, ◌*◌, ◌/◌, ◌%◌, ◌^◌, ◌<◌, ◌≤◌, Bool, ◌&&◌, nat_eq, nat_lt, nat_le, if◌then◌else◌, List, [], ◌∷◌}
 use Rattle.rv32_isa.specs.Bits.{signed_part}
 use Rattle.rv32_isa.specs.declared.instr.Instr.{Instr}
@@ -24,8 +25,9 @@ branch_range = 1024
 abbrev pub jump_range : ℕ
 jump_range = 262144
 
--- an item begins at word `at`, ends before word `end` and goes to word `to`. Its last word, which will be the one `before` words
--- behind its first, is in range of `to`, and stays so while distances shrink
+-- an item begins at word `at`, ends before word `end` and goes to word `to`. Its last word, which
+-- will be the one `before` words behind its first, is in range of `to`, and stays so while
+-- distances shrink
 abbrev pub reaches : (range before at end to : ℕ) → Bool
 reaches range before at end to = nat_lt (to + 1) (end + range) && nat_le (at + before) (to + range)
 
@@ -35,7 +37,8 @@ reaches range before at end to = nat_lt (to + 1) (end + range) && nat_le (at + b
 abbrev pub offset : (from to : ℕ) → ℤ
 offset from to = if nat_le from to then pos (4 * (to - from)) else negsuc (4 * (from - to) - 1)
 
--- from word to word in bytes, as a word: the upper 20 bits that AUIPC adds, and the lower 12, which have a sign
+-- from word to word in bytes, as a word: the upper 20 bits that AUIPC adds, and the lower 12, which
+-- have a sign
 abbrev pub distance : (from to : ℕ) → ℕ
 distance from to = (4 * to + (2 ^ 32 - 4 * from)) % 2 ^ 32
 
@@ -114,7 +117,8 @@ CanGo way at to (Plain i) = Unit {0}
 CanGo way at to (Branch cond left right l) = BranchGoes way at to
 CanGo way at to (Jump link l) = JumpGoes way at to
 
--- the shortest way of an item that begins at word `at`, ends before word `end` and goes to word `to`
+-- the shortest way of an item that begins at word `at`, ends before word `end` and goes to word
+-- `to`
 abbrev pub shortest : (at end to : ℕ) → Item → Way
 shortest at end to (Label l) = ByBranch
 shortest at end to (Plain i) = ByBranch

@@ -38,25 +38,32 @@ AllGo items ways = (n : ℕ) (i : Item) → slice_get items n ≡ Some i →
 
 -- the shortest way of an item that is number n
 abbrev pub shortest_at : List Way → List Item → ℕ → Item → Way
-shortest_at ways items n i = shortest (place ways items n) (place ways items (suc n)) (place ways items (goal items i)) i
+shortest_at ways items n i =
+    shortest (place ways items n) (place ways items (suc n)) (place ways items (goal items i)) i
 
 -- each item's new way is the shortest by the old ones
 abbrev pub Shortens : List Item → (old new : List Way) → Type 0
-Shortens items old new = (n : ℕ) (i : Item) → slice_get items n ≡ Some i → way_at new n ≡ shortest_at old items n i
+Shortens items old new =
+    (n : ℕ) (i : Item) → slice_get items n ≡ Some i → way_at new n ≡ shortest_at old items n i
 
 -- no item is longer by the new ways than by the old ones
 abbrev pub NoLonger : List Item → (old new : List Way) → Type 0
-NoLonger items old new = (n : ℕ) → width_in (way_at new n) (slice_get items n) ≤ width_in (way_at old n) (slice_get items n)
+NoLonger items old new =
+    (n : ℕ)
+    → width_in (way_at new n) (slice_get items n) ≤ width_in (way_at old n) (slice_get items n)
 
 -- no item is longer than the shortest by the longest ways
 abbrev pub AllShort : List Item → List Way → Type 0
-AllShort items ways = (n : ℕ) (i : Item) → slice_get items n ≡ Some i → width (way_at ways n) i ≤ width (shortest_at [] items n i) i
+AllShort items ways =
+    (n : ℕ) (i : Item) → slice_get items n ≡ Some i
+    → width (way_at ways n) i ≤ width (shortest_at [] items n i) i
 
 -- ---- code
 
 abbrev pub code_at : List Way → List Item → ℕ → Option Item → List Instr
 code_at ways items n None = []
-code_at ways items n (Some i) = instructions (way_at ways n) (place ways items n) (place ways items (goal items i)) i
+code_at ways items n (Some i) =
+    instructions (way_at ways n) (place ways items n) (place ways items (goal items i)) i
 
 -- the instructions of the first n items
 unfoldable pub code : List Way → List Item → ℕ → List Instr

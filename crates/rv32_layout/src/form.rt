@@ -52,8 +52,8 @@ pub fn width(way: Way, item: &Item) -> u32
     }
 }
 
-/// The shortest way of an item that begins at word `at`, ends before word `end` and goes to word `to`. It still reaches
-/// where distances shrink.
+/// The shortest way of an item that begins at word `at`, ends before word `end` and goes to word
+/// `to`. It still reaches where distances shrink.
 pub fn shortest(at: u32, end: u32, to: u32, item: &Item) -> Way
     requires { (at ≤ 268435456) × ((end ≤ 268435456) × (to ≤ 268435456)) }
     ensures { result ≡ shortest at end to item.now }

@@ -11,7 +11,8 @@ use rv32_isa::{BranchKind, Imm12, Imm20, Instr, OffB, OffJ, Reg, encode};
 use rv32_items::{Cond, Item};
 use std::alloc::AllocError;
 
-/// Puts the instructions of an item at the end: its first word is word `at`, and it goes to word `to`.
+/// Puts the instructions of an item at the end: its first word is word `at`, and it goes to word
+/// `to`.
 pub fn put(words: &mut Vec<u32>, way: Way, at: u32, to: u32, item: &Item) -> Result<(), AllocError>
     requires room { (at ≤ 268435456) × (to ≤ 268435456) }
     requires reach { CanGo way at to item.now }

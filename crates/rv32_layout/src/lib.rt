@@ -16,10 +16,10 @@ use plan::Plan;
 use rv32_items::Asm;
 use std::alloc::{AllocError, Global};
 
-/// The words of the items, of which the first stands at 65536: they do what the items do, and each is
-/// that of an instruction. A branch or a jump takes the
-/// short form wherever its label is sure to be in reach, and longer ones elsewhere; these change x7, unless a jump links
-/// another register, and x0, which reads zero.
+/// The words of the items, of which the first stands at 65536: they do what the items do, and each
+/// is that of an instruction. A branch or a jump takes the short form wherever its label is sure to
+/// be in reach, and longer ones elsewhere; these change x7, unless a jump links another register,
+/// and x0, which reads zero.
 pub fn place(alloc: Global, asm: &Asm) -> Result<Vec<u32>, AllocError>
     requires labels { LabelsStand asm.now.items }
     requires plain { AllPlain asm.now.items }

@@ -10,7 +10,7 @@ use Rattle.rv32_machine.specs.Steps.{State, Stand, IsRunning, state_of, step}
 use Rattle.rv32_machine.specs.Runs.{run, pieces, piece_of, Stays}
 use Rattle.rv32_machine.specs.Plain.{GoesOn, Halts}
 use Rattle.rv32_machine.proofs.Loops.{Kept, starts, one_turn, last_turn, fault_turn}
-use Rattle.rv32_machine.proofs.Turns.{next_stays, next_piece_is}
+use Rattle.rv32_machine.proofs.OneStep.{next_stays, next_piece_is}
 
 module _ {K : Type 0} (gives : K → List ℕ → Bool → K → Type 0) (taken : K → Option (List ℕ)) (faults : K → ℕ) (s : State) (left : Option (List ℕ)) (old : K) where
   -- at the start all steps are left

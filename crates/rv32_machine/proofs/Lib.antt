@@ -1,5 +1,5 @@
 pub mod Composed
-pub mod Turns
+pub mod OneStep
 pub mod Loops
 pub mod Advanced
 pub mod Division

@@ -1,5 +1,7 @@
--- What the operations compute. A register holds a word, a number below 2 ^ 32; the signed operations read a word in two's complement.
--- Source: the RISC-V unprivileged manual, chapter RV32I ("Integer Computational Instructions", "Conditional Branches", "Load and Store Instructions") and the chapter on the extension M.
+-- What the operations compute. A register holds a word, a number below 2 ^ 32; the signed
+-- operations read a word in two's complement. Source: the RISC-V unprivileged manual, chapter RV32I
+-- ("Integer Computational Instructions", "Conditional Branches", "Load and Store Instructions") and
+-- the chapter on the extension M.
 use Rattle.std.specs.Prelude.{◌≡◌, ◌<◌, ℕ, ℤ, pos, ◌+◌, ◌-◌, ◌*◌, ◌/◌, ◌%◌, ◌^◌, ◌*ℤ◌, Bool, not, nat_eq, nat_lt, int_lt, bit_and, bit_or, bit_xor, if◌then◌else◌}
 use Rattle.std.specs.Int.{int_shr}
 use Rattle.numbers.specs.Numbers.{sum, difference, product, quotient, remainder, less}
@@ -41,7 +43,8 @@ shift_right_signed a k = pattern (int_shr (signed a) k)
 abbrev pub high_half : ℤ → ℕ
 high_half z = pattern (int_shr z 32)
 
--- the word's highest bit is its sign, and two words are each other's negative whose sum is a multiple of 2 ^ 32
+-- the word's highest bit is its sign, and two words are each other's negative whose sum is a
+-- multiple of 2 ^ 32
 abbrev pub is_negative : ℕ → Bool
 is_negative a = not (nat_lt a (2 ^ 31))
 
@@ -58,8 +61,9 @@ with_sign negative n = if negative then negated n else n
 abbrev pub just_one : Bool → Bool → Bool
 just_one a b = if a then not b else b
 
--- Division rounds towards zero: the quotient is negative where just one of the two is, and the remainder where the dividend is. By zero
--- the quotient has all bits set and the remainder is the dividend. The least number by -1 is itself, as 2 ^ 31 is its own negative.
+-- Division rounds towards zero: the quotient is negative where just one of the two is, and the
+-- remainder where the dividend is. By zero the quotient has all bits set and the remainder is the
+-- dividend. The least number by -1 is itself, as 2 ^ 31 is its own negative.
 abbrev pub divided : ℕ → ℕ → ℕ
 divided a b =
     if nat_eq b 0 then 2 ^ 32 - 1
@@ -122,7 +126,8 @@ store_size Sb = 1
 store_size Sh = 2
 store_size Sw = 4
 
--- the word that a load makes of the number it reads: extended by its sign, but by zeros in the unsigned loads
+-- the word that a load makes of the number it reads: extended by its sign, but by zeros in the
+-- unsigned loads
 abbrev pub load_value : LoadKind → ℕ → ℕ
 load_value Lb v = pattern (signed_part 256 v)
 load_value Lh v = pattern (signed_part 65536 v)
@@ -130,10 +135,12 @@ load_value Lw v = v
 load_value Lbu v = v
 load_value Lhu v = v
 
--- ---- law: of the numbers of two words an operation gives the word of the number that every language here gives
+-- ---- law: of the numbers of two words an operation gives the word of the number that every
+-- language here gives
 
 abbrev pub Computes : OpKind → (ℤ → ℤ → ℤ) → Type 0
-Computes kind f = (a b : ℕ) → a < 2 ^ 32 → b < 2 ^ 32 → op_value kind a b ≡ pattern (f (signed a) (signed b))
+Computes kind f =
+    (a b : ℕ) → a < 2 ^ 32 → b < 2 ^ 32 → op_value kind a b ≡ pattern (f (signed a) (signed b))
 
 pub record OperationsAgree : Type 0 where
   pub add_is : Computes Add sum

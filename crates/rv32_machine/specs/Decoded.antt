@@ -10,12 +10,17 @@ use Rattle.rv32_machine.specs.Memory.{Stretch, access, segment_at, bytes_at, num
 
 -- so many bytes at a place of memory are the word that an instruction is fetched from
 abbrev pub IsWordAt : List Stretch → (address word : ℕ) → (segment offset : ℕ) → Type 0
-IsWordAt memory address word segment offset = (access Execute memory address 4 ≡ At segment offset) × (number_of (bytes_at memory segment offset 4) ≡ word)
+IsWordAt memory address word segment offset =
+    (access Execute memory address 4 ≡ At segment offset)
+    × (number_of (bytes_at memory segment offset 4) ≡ word)
 
 -- what stands at an address: an instruction, a word that is none, or nothing that may be executed
 abbrev pub Fetches : List Stretch → (address : ℕ) → Fetched → Type 0
-Fetches memory address (Instr i) = (segment offset word : ℕ) × IsWordAt memory address word segment offset × (instr_of word ≡ Some i)
-Fetches memory address (Illegal word) = (segment offset : ℕ) × IsWordAt memory address word segment offset × (instr_of word ≡ None)
+Fetches memory address (Instr i) =
+    (segment offset word : ℕ) × IsWordAt memory address word segment offset
+    × (instr_of word ≡ Some i)
+Fetches memory address (Illegal word) =
+    (segment offset : ℕ) × IsWordAt memory address word segment offset × (instr_of word ≡ None)
 Fetches memory address (Outside a) = access Execute memory address 4 ≡ outside a
 
 -- the instruction stands at its address, in a segment that can't be written
@@ -29,9 +34,12 @@ pub record IsDecoded (memory : List Stretch) (d : Decoded) : Type 0 where
 
 -- no two segments share an address
 abbrev pub AreApart : List Stretch → Type 0
-AreApart memory = (address m n : ℕ) → is_in address (segment_at memory m) ≡ true → is_in address (segment_at memory n) ≡ true → m ≡ n
+AreApart memory =
+    (address m n : ℕ) → is_in address (segment_at memory m) ≡ true
+    → is_in address (segment_at memory n) ≡ true → m ≡ n
 
--- the segments, and so many instructions that are kept; a place with an address that is no multiple of four is empty
+-- the segments, and so many instructions that are kept; a place with an address that is no multiple
+-- of four is empty
 pub record IsStore (memory : List Stretch) (decoded : List Decoded) : Type 0 where
   pub apart : AreApart memory
   pub places : length decoded ≡ 65536

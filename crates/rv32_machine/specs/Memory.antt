@@ -16,7 +16,12 @@ pub record Stretch : Type 0 where
 -- the segment that a program asks for: its bytes, and then zeros
 abbrev pub stretch_of : Part → Stretch
 stretch_of p =
-    record { first = p.addr; write = p.write; exec = p.exec; bytes = p.bytes ++ replicate (p.size - length p.bytes) 0 }
+    record {
+      first = p.addr;
+      write = p.write;
+      exec = p.exec;
+      bytes = p.bytes ++ replicate (p.size - length p.bytes) 0;
+    }
 
 abbrev pub no_stretch : Stretch
 no_stretch = record { first = 0; write = false; exec = false; bytes = [] }
@@ -33,7 +38,8 @@ end_of s = s.first + length s.bytes
 abbrev pub is_in : ℕ → Stretch → Bool
 is_in address s = nat_le s.first address && nat_lt address (end_of s)
 
--- the number of the segment that allows it and has the address, counted from n: the first one, if there were several
+-- the number of the segment that allows it and has the address, counted from n: the first one, if
+-- there were several
 abbrev pub place_from : Right → ℕ → ℕ → List Stretch → Option ℕ
 place_from right address n [] = None
 place_from right address n (s ∷ rest) =
@@ -44,13 +50,15 @@ segment_at memory n = slice_index_or memory n no_stretch
 
 abbrev pub within : (address len n : ℕ) → Stretch → Access
 within address len n s =
-    if nat_le (address + len) (end_of s) then At n (address - s.first) else Outside (end_of s % 2 ^ 32)
+    if nat_le (address + len) (end_of s) then At n (address - s.first)
+    else Outside (end_of s % 2 ^ 32)
 
 abbrev pub at_place : List Stretch → (address len : ℕ) → Option ℕ → Access
 at_place memory address len None = Outside address
 at_place memory address len (Some n) = within address len n (segment_at memory n)
 
--- where an access goes, which stands in one segment; else the first of its addresses that is not in the segment of the first one, or the first one itself where no segment serves
+-- where an access goes, which stands in one segment; else the first of its addresses that is not in
+-- the segment of the first one, or the first one itself where no segment serves
 unfoldable pub access : Right → List Stretch → (address len : ℕ) → Access
 access right memory address len = at_place memory address len (place_from right address 0 memory)
 
@@ -77,7 +85,8 @@ with_bytes s bytes = record { first = s.first; write = s.write; exec = s.exec; b
 
 abbrev pub stored_at : List Stretch → (segment offset : ℕ) → List ℕ → List Stretch
 stored_at memory segment offset new =
-    let s = segment_at memory segment in slice_set memory segment (with_bytes s (put_over s.bytes offset new))
+    let s = segment_at memory segment in
+    slice_set memory segment (with_bytes s (put_over s.bytes offset new))
 
 -- bytes stored where an access goes; nothing changes outside
 abbrev pub stored_to : List Stretch → List ℕ → Access → List Stretch
@@ -86,12 +95,16 @@ stored_to memory new (At n offset) = stored_at memory n offset new
 
 -- the place and so many bytes there are in memory
 abbrev pub IsInside : List Stretch → ℕ → Access → Type 0
-IsInside memory len (At n offset) = (n < length memory) × (offset + len ≤ length (segment_at memory n).bytes)
+IsInside memory len (At n offset) =
+    (n < length memory) × (offset + len ≤ length (segment_at memory n).bytes)
 IsInside memory len (Outside address) = Unit {0}
 
--- the number is that of the segment where an access that begins at the address goes, or, where none serves, how many there are
+-- the number is that of the segment where an access that begins at the address goes, or, where none
+-- serves, how many there are
 abbrev pub IsPlace : Right → (address : ℕ) → List Stretch → (number : ℕ) → Type 0
-IsPlace right address memory number = place_from right address 0 memory ≡ (if nat_lt number (length memory) then Some number else None)
+IsPlace right address memory number =
+    place_from right address 0 memory
+    ≡ (if nat_lt number (length memory) then Some number else None)
 
 -- the segment at the place has the right
 abbrev pub IsAllowed : Right → List Stretch → Access → Type 0

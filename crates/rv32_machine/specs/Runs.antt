@@ -6,7 +6,8 @@ use Rattle.rv32_machine.specs.declared.machine.Stop.TheVariants.{Steps, Exit, Tr
 use Rattle.rv32_machine.specs.declared.machine.TrapKind.{TrapKind}
 use Rattle.rv32_machine.specs.Steps.{State, Outcome, Next, Written, Asked, Ended, Trapped, step, given, Stand, IsAt}
 
--- where a run stands: it goes on, its program has exited with a code, or it stands at an instruction that traps
+-- where a run stands: it goes on, its program has exited with a code, or it stands at an
+-- instruction that traps
 pub data End : Type 0 where
   Going : State → End
   Exited : (code : ℕ) → State → End
@@ -94,22 +95,30 @@ has_ended (Stopped kind s) = true
 
 -- so many steps and then so many more are all of them together
 abbrev pub RunsCompose : Type 0
-RunsCompose = (m n : ℕ) (input : List ℕ) (s : State) → run (m + n) input s ≡ continued n (run m input s)
+RunsCompose =
+    (m n : ℕ) (input : List ℕ) (s : State) → run (m + n) input s ≡ continued n (run m input s)
 
 -- a run that has ended stays as it is
 abbrev pub EndStays : Type 0
-EndStays = (m n : ℕ) (input : List ℕ) (s : State) → has_ended (run m input s).end ≡ true → run (m + n) input s ≡ run m input s
+EndStays =
+    (m n : ℕ) (input : List ℕ) (s : State) → has_ended (run m input s).end ≡ true
+    → run (m + n) input s ≡ run m input s
 
 -- with more steps a run only writes more
 abbrev pub OutputGrows : Type 0
-OutputGrows = (m n : ℕ) (input : List ℕ) (s : State) → (more : List ℕ) × ((run (m + n) input s).out ≡ (run m input s).out ++ more)
+OutputGrows =
+    (m n : ℕ) (input : List ℕ) (s : State)
+    → (more : List ℕ) × ((run (m + n) input s).out ≡ (run m input s).out ++ more)
 
 -- the bytes of the pieces that a run puts are its output
 abbrev pub PiecesAreTheOutput : Type 0
-PiecesAreTheOutput = (n : ℕ) (input : List ℕ) (s : State) → concat (pieces n input s) ≡ (run n input s).out
+PiecesAreTheOutput =
+    (n : ℕ) (input : List ℕ) (s : State) → concat (pieces n input s) ≡ (run n input s).out
 
--- what is left of the input is its rest behind the bytes that were used, and with more steps a run only uses more
+-- what is left of the input is its rest behind the bytes that were used, and with more steps a run
+-- only uses more
 abbrev pub InputIsUsedInOrder : Type 0
 InputIsUsedInOrder =
     (m n : ℕ) (input : List ℕ) (s : State)
-    → (gone : List ℕ) × ((run m input s).left ≡ gone ++ (run (m + n) input s).left) × (length gone + used input (run m input s) ≡ used input (run (m + n) input s))
+    → (gone : List ℕ) × ((run m input s).left ≡ gone ++ (run (m + n) input s).left)
+    × (length gone + used input (run m input s) ≡ used input (run (m + n) input s))

@@ -1,5 +1,6 @@
--- What one instruction does.
--- Source of the instructions: the RISC-V unprivileged manual, chapter RV32I and the chapter on the extension M. The traps, and the calls behind ECALL, are this machine's own.
+-- What one instruction does. Source of the instructions: the RISC-V unprivileged manual, chapter
+-- RV32I and the chapter on the extension M. The traps, and the calls behind ECALL, are this
+-- machine's own.
 use Rattle.std.specs.Prelude.{ℕ, ◌-◌, ◌*◌, ◌/◌, ◌%◌, ◌^◌, List, [], Bool, true, false, nat_eq, if◌then◌else◌, Option, Some, None, slice_index, ◌≡◌, map}
 use Rattle.elf32.specs.Image.{Image}
 use Rattle.rv32_isa.specs.declared.instr.Instr.{Instr}
@@ -32,7 +33,8 @@ reg s r = if nat_eq r 0 then 0 else s.regs r
 abbrev pub set_reg : (ℕ → ℕ) → ℕ → ℕ → ℕ → ℕ
 set_reg regs r v q = if nat_eq q r then v else regs q
 
--- what an instruction does: it goes on, also with bytes written, asks for a byte of the input, ends the program, or traps
+-- what an instruction does: it goes on, also with bytes written, asks for a byte of the input, ends
+-- the program, or traps
 pub data Outcome : Type 0 where
   Next : State → Outcome
   Written : (address len : ℕ) → List ℕ → State → Outcome
@@ -68,14 +70,16 @@ load s r value len address =
 
 abbrev pub stored : State → List ℕ → Access → Outcome
 stored s bytes (Outside a) = Trapped (AccessOutside a)
-stored s bytes (At n offset) = Next (record { regs = s.regs; pc = next_pc s; memory = stored_at s.memory n offset bytes })
+stored s bytes (At n offset) =
+    Next (record { regs = s.regs; pc = next_pc s; memory = stored_at s.memory n offset bytes })
 
 abbrev pub store : State → (v len address : ℕ) → Outcome
 store s v len address =
     if nat_eq (address % len) 0 then stored s (bytes_of len v) (access Write s.memory address len)
     else Trapped (MisalignedAccess address)
 
--- the number of the calls' files, by x10: the input is 0 and the output 1; another one is answered by -9
+-- the number of the calls' files, by x10: the input is 0 and the output 1; another one is answered
+-- by -9
 abbrev pub no_file : ℕ
 no_file = 2 ^ 32 - 9
 
@@ -90,7 +94,8 @@ write_from s address len (At n offset) = written s address len (bytes_at s.memor
 abbrev pub write_call : State → (file address len : ℕ) → Outcome
 write_call s file address len =
     if nat_eq file 1 then
-    (if nat_eq len 0 then written s address 0 [] else write_from s address len (access Read s.memory address len))
+    (if nat_eq len 0 then written s address 0 []
+    else write_from s address len (access Read s.memory address len))
     else put s 10 no_file
 
 -- one byte is asked for, whatever the length; the whole range has to be one that may be written
@@ -104,7 +109,8 @@ read_call s file address len =
     (if nat_eq len 0 then put s 10 0 else asked address (access Write s.memory address len))
     else put s 10 no_file
 
--- a read call is answered: the byte stands at the address in x11, and 1 in x10; at the input's end, 0 in x10
+-- a read call is answered: the byte stands at the address in x11, and 1 in x10; at the input's end,
+-- 0 in x10
 abbrev pub given : State → Option ℕ → State
 given s None = with_reg s 10 0 (next_pc s)
 given s (Some byte) =
@@ -114,7 +120,8 @@ given s (Some byte) =
       memory = stored_to s.memory (bytes_of 1 byte) (access Write s.memory (reg s 11) 1);
     }
 
--- the number of the call is in x17: exit with the code in x10, write and read with the file, the address and the length in x10 to x12
+-- the number of the call is in x17: exit with the code in x10, write and read with the file, the
+-- address and the length in x10 to x12
 abbrev pub call : State → Outcome
 call s =
     if nat_eq (reg s 17) 93 then Ended (reg s 10)
@@ -122,18 +129,24 @@ call s =
     else if nat_eq (reg s 17) 63 then read_call s (reg s 10) (reg s 11) (reg s 12)
     else Trapped (UnknownCall (reg s 17))
 
--- one instruction; a link is the address of the next instruction, and is written after the target is computed
+-- one instruction; a link is the address of the next instruction, and is written after the target
+-- is computed
 abbrev pub act : State → Instr → Outcome
 act s (Lui rd imm) = put s rd (imm * 4096)
 act s (Auipc rd imm) = put s rd (plus s.pc (imm * 4096))
-act s (Jal rd off) = let target = plus s.pc (pattern off) in jump target (Next (with_reg s rd (next_pc s) target))
+act s (Jal rd off) =
+    let target = plus s.pc (pattern off) in jump target (Next (with_reg s rd (next_pc s) target))
 act s (Jalr rd rs1 imm) =
-    let target = plus (reg s rs1) (pattern imm) / 2 * 2 in jump target (Next (with_reg s rd (next_pc s) target))
+    let target = plus (reg s rs1) (pattern imm) / 2 * 2 in
+    jump target (Next (with_reg s rd (next_pc s) target))
 act s (Branch kind rs1 rs2 off) =
     let target = plus s.pc (pattern off) in
-    if is_taken kind (reg s rs1) (reg s rs2) then jump target (Next (go_to s target)) else Next (go_to s (next_pc s))
-act s (Load kind rd rs1 imm) = load s rd (load_value kind) (load_size kind) (plus (reg s rs1) (pattern imm))
-act s (Store kind rs2 rs1 imm) = store s (reg s rs2) (store_size kind) (plus (reg s rs1) (pattern imm))
+    if is_taken kind (reg s rs1) (reg s rs2) then jump target (Next (go_to s target))
+    else Next (go_to s (next_pc s))
+act s (Load kind rd rs1 imm) =
+    load s rd (load_value kind) (load_size kind) (plus (reg s rs1) (pattern imm))
+act s (Store kind rs2 rs1 imm) =
+    store s (reg s rs2) (store_size kind) (plus (reg s rs1) (pattern imm))
 act s (OpImm kind rd rs1 imm) = put s rd (imm_value kind (reg s rs1) (pattern imm))
 act s (Shift kind rd rs1 amount) = put s rd (shift_value kind (reg s rs1) amount)
 act s (Op kind rd rs1 rs2) = put s rd (op_value kind (reg s rs1) (reg s rs2))
@@ -147,13 +160,17 @@ act_on s word (Some i) = act s i
 
 abbrev pub fetched : State → Access → Outcome
 fetched s (Outside a) = Trapped (AccessOutside a)
-fetched s (At n offset) = let word = number_of (bytes_at s.memory n offset 4) in act_on s word (instr_of word)
+fetched s (At n offset) =
+    let word = number_of (bytes_at s.memory n offset 4) in act_on s word (instr_of word)
 
 -- the instruction at pc
 unfoldable pub step : State → Outcome
-step s = if nat_eq (s.pc % 4) 0 then fetched s (access Execute s.memory s.pc 4) else Trapped MisalignedJump
+step s =
+    if nat_eq (s.pc % 4) 0 then fetched s (access Execute s.memory s.pc 4)
+    else Trapped MisalignedJump
 
--- the machine as data: its registers as a list, whether its program is over, and whether a read call waits for its answer
+-- the machine as data: its registers as a list, whether its program is over, and whether a read
+-- call waits for its answer
 pub record Stand : Type 0 where
   pub regs : List ℕ
   pub pc : ℕ
@@ -167,11 +184,13 @@ state_of m = record { regs = λ r. slice_index m.regs r; pc = m.pc; memory = m.m
 abbrev pub IsAt : Stand → State → (over waiting : Bool) → Type 0
 IsAt m s over waiting = (state_of m ≡ s) × (m.over ≡ over) × (m.waiting ≡ waiting)
 
--- the machine did what the outcome says, and told it; a trap, an exit and an unanswered read call leave the state
+-- the machine did what the outcome says, and told it; a trap, an exit and an unanswered read call
+-- leave the state
 abbrev pub Does : (old : State) → Outcome → StepResult → (new : Stand) → Type 0
 Does old (Next s) result new = (result ≡ Next') × IsAt new s false false
 Does old (Written address len bytes s) result new =
-    (result ≡ Write' address len) × IsAt new s false false × (range_bytes new.memory address len ≡ Some bytes)
+    (result ≡ Write' address len) × IsAt new s false false
+    × (range_bytes new.memory address len ≡ Some bytes)
 Does old (Asked address) result new = (result ≡ Read' address) × IsAt new old false true
 Does old (Ended code) result new = (result ≡ Exit code) × IsAt new old true false
 Does old (Trapped kind) result new = (result ≡ Trap kind old.pc) × IsAt new old true false

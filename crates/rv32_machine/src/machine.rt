@@ -62,7 +62,8 @@ pub enum Stop {
 /// The answer of a call to a file that is not there, -9.
 const NO_FILE: u32 = 4294967287;
 
-/// A machine with a program: 32 registers, the address of the next instruction, and the program's memory.
+/// A machine with a program: 32 registers, the address of the next instruction, and the program's
+/// memory.
 #[derive(Drop)]
 pub struct Machine {
     regs: [u32; 32],
@@ -87,7 +88,8 @@ impl Model for Machine {
 }
 
 impl Machine {
-    /// The machine at the start of a program: all registers are zero, and each segment's bytes are followed by zeros.
+    /// The machine at the start of a program: all registers are zero, and each segment's bytes are
+    /// followed by zeros.
     pub fn load(alloc: Global, image: &Loaded) -> Result<Machine, AllocError>
         ensures { IfOk result (λ m. IsAt m (start_of image.now) false false) }
     {
@@ -115,7 +117,8 @@ impl Machine {
         self.waiting
     }
 
-    /// The `len` bytes from the address `addr` on, a range that is in one segment, as that of a write call is.
+    /// The `len` bytes from the address `addr` on, a range that is in one segment, as that of a
+    /// write call is.
     pub fn bytes(&self, addr: u32, len: u32) -> &[u8]
         requires { IsSome (range_bytes self.now.memory addr len) }
         ensures { range_bytes self.now.memory addr len ≡ Some result.now }
@@ -126,8 +129,8 @@ impl Machine {
         self.memory.slice(addr, len)
     }
 
-    /// Does one instruction. Exit and Trap end the program, and a trap leaves registers, memory and the address of the
-    /// instruction. After Read the instruction waits for `give`.
+    /// Does one instruction. Exit and Trap end the program, and a trap leaves registers, memory and
+    /// the address of the instruction. After Read the instruction waits for `give`.
     #[inline(always)]
     #[tactic(auto, unfolding(crate::specs::Steps::step))]
     pub fn step(&mut self) -> StepResult
@@ -144,7 +147,8 @@ impl Machine {
         }
     }
 
-    /// Answers a read call: with a byte of the input, or with `None` at the input's end. The call is then done.
+    /// Answers a read call: with a byte of the input, or with `None` at the input's end. The call
+    /// is then done.
     pub fn give(&mut self, byte: Option<u8>)
         requires { self.old.waiting ≡ true }
         ensures { IsAt self.new (given (state_of self.old) byte) self.old.over false }

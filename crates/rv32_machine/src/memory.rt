@@ -182,7 +182,8 @@ pub enum Access {
     Outside(u32),
 }
 
-/// The number of the first segment that serves an access which begins at the address, or how many there are where none does.
+/// The number of the first segment that serves an access which begins at the address, or how many
+/// there are where none does.
 pub fn place(regions: &[Region], right: Right, address: u32) -> usize
     ensures { IsPlace right address regions.now result }
 {
@@ -194,7 +195,8 @@ pub fn place(regions: &[Region], right: Right, address: u32) -> usize
     regions.len()
 }
 
-/// Where an access goes that begins in the segment of this number, or in none where there is no such segment.
+/// Where an access goes that begins in the segment of this number, or in none where there is no
+/// such segment.
 #[inline(always)]
 pub fn access_at(regions: &[Region], number: usize, right: Right, address: u32, len: u32) -> Access
     requires some { 0 < len }

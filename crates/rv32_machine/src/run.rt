@@ -14,9 +14,10 @@ use crate::machine::{Machine, StepResult, Stop};
 use grin_io::{Failed, Fault, Sink, Source};
 
 impl Machine {
-    /// Does at most `steps` instructions. Each byte that the program reads is one read of the source, and the bytes of
-    /// each of its write calls are one put, also where there are none. After `Steps` the program has not ended, and a later call goes on; after every
-    /// other answer it is over, and a fault of the source or the sink is the last thing that was asked of them.
+    /// Does at most `steps` instructions. Each byte that the program reads is one read of the
+    /// source, and the bytes of each of its write calls are one put, also where there are none.
+    /// After `Steps` the program has not ended, and a later call goes on; after every other answer
+    /// it is over, and a fault of the source or the sink is the last thing that was asked of them.
     pub fn run<I: Source, K: Sink>(
         &mut self,
         steps: u64,
@@ -56,9 +57,9 @@ impl Machine {
         Ok(Stop::Steps)
     }
 
-    /// Does instructions after which the program just goes on, at most `most`, up to the first that does more. Answers
-    /// how many there were, and what that one did. The loop stands in a program once, whatever its sources and sinks
-    /// are, so that an instruction is compiled into it.
+    /// Does instructions after which the program just goes on, at most `most`, up to the first that
+    /// does more. Answers how many there were, and what that one did. The loop stands in a program
+    /// once, whatever its sources and sinks are, so that an instruction is compiled into it.
     #[inline(never)]
     fn advance(&mut self, most: u64) -> (u64, StepResult)
         requires { IsRunning self.old }

@@ -35,8 +35,9 @@ pub enum Fetched {
 
 /// The segments of a program.
 ///
-/// Instructions in segments that can't be written are decoded once, and kept at a place that their address gives; another
-/// one with the same place takes it over. The segment of the last access is tried first at the next one.
+/// Instructions in segments that can't be written are decoded once, and kept at a place that their
+/// address gives; another one with the same place takes it over. The segment of the last access is
+/// tried first at the next one.
 #[derive(Drop)]
 pub struct Memory {
     regions: Vec<Region>,
@@ -146,7 +147,8 @@ impl Memory {
         access_at(&self.regions, region, right, address, len)
     }
 
-    /// The number of the segment that serves an access which begins at the address, or how many there are where none does.
+    /// The number of the segment that serves an access which begins at the address, or how many
+    /// there are where none does.
     #[inline(always)]
     fn place(&mut self, right: Right, address: u32) -> usize
         ensures same { self.new ≡ self.old }

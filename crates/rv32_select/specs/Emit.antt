@@ -1,6 +1,6 @@
--- The instructions and items of each piece of low code, in their cheapest forms.
--- x1 is a return address, x2 the address of the frame, x3 that of the next cell, x4 the heap's end and x5 the scratch spot; x6
--- and x7 are for one piece at a time, x7 for the address of a far slot.
+-- The instructions and items of each piece of low code, in their cheapest forms. x1 is a return
+-- address, x2 the address of the frame, x3 that of the next cell, x4 the heap's end and x5 the
+-- scratch spot; x6 and x7 are for one piece at a time, x7 for the address of a far slot.
 use Rattle.std.specs.Prelude.{ℕ, zero, suc, ◌+◌, ◌-◌, ◌*◌, ◌/◌, ◌%◌, ◌^◌, ℤ, pos, negsuc, Bool, true, false, ◌||◌, nat_eq, nat_lt, if◌then◌else◌, List, [], ◌∷◌, ◌++◌, map, length}
 use Rattle.rv32_isa.specs.Bits.{signed_part}
 use Rattle.rv32_isa.specs.declared.instr.Instr.{Instr}
@@ -47,7 +47,8 @@ number_to r n =
 
 -- a register gets the sum of another one and a number
 abbrev pub add_to : (r q n : ℕ) → List Instr
-add_to r q n = if is_short n then OpImm Addi r q (lower n) ∷ [] else number_to 5 n ++ Op op.Add r q 5 ∷ []
+add_to r q n =
+    if is_short n then OpImm Addi r q (lower n) ∷ [] else number_to 5 n ++ Op op.Add r q 5 ∷ []
 
 -- ---- spots
 
@@ -63,7 +64,8 @@ abbrev pub slot_base : ℕ → ℕ
 slot_base k = if nat_lt (slot_bytes k) 2048 then 2 else 7
 
 abbrev pub reach : ℕ → List Instr
-reach k = if nat_lt (slot_bytes k) 2048 then [] else Lui 7 (upper (slot_bytes k)) ∷ Op op.Add 7 7 2 ∷ []
+reach k =
+    if nat_lt (slot_bytes k) 2048 then [] else Lui 7 (upper (slot_bytes k)) ∷ Op op.Add 7 7 2 ∷ []
 
 abbrev pub load_slot : (r k : ℕ) → List Instr
 load_slot r k = reach k ++ Load Lw r (slot_base k) (lower (slot_bytes k)) ∷ []
@@ -174,16 +176,19 @@ immediate Mul t q n = []
 immediate Quot t q n = []
 immediate Rem t q n = []
 immediate Eq t q n =
-    if nat_eq n 0 then OpImm Sltiu t q (pos 1) ∷ [] else OpImm Addi t q (lower (negated n)) ∷ OpImm Sltiu t t (pos 1) ∷ []
+    if nat_eq n 0 then OpImm Sltiu t q (pos 1) ∷ []
+    else OpImm Addi t q (lower (negated n)) ∷ OpImm Sltiu t t (pos 1) ∷ []
 immediate Lt t q n = OpImm Slti t q (lower n) ∷ []
 
 abbrev pub operands_held : PrimOp → (t : ℕ) → (left right : Source) → List Instr
-operands_held f t left right = hold 5 left ++ (hold 6 right ++ operation f t (held 5 left) (held 6 right))
+operands_held f t left right =
+    hold 5 left ++ (hold 6 right ++ operation f t (held 5 left) (held 6 right))
 
 abbrev pub operate_on : PrimOp → (t : ℕ) → (left right : Source) → List Instr
 operate_on f t left (At s) = operands_held f t left (At s)
 operate_on f t left (Number n) =
-    if is_immediate f n then hold 5 left ++ immediate f t (held 5 left) n else operands_held f t left (Number n)
+    if is_immediate f n then hold 5 left ++ immediate f t (held 5 left) n
+    else operands_held f t left (Number n)
 
 -- where the order of the operands is free, a number stands on the right
 abbrev pub is_free : PrimOp → Bool
@@ -197,7 +202,8 @@ is_free Lt = false
 
 abbrev pub operate_in_order : PrimOp → (t : ℕ) → (left right : Source) → List Instr
 operate_in_order f t (At s) right = operate_on f t (At s) right
-operate_in_order f t (Number n) right = if is_free f then operate_on f t right (Number n) else operate_on f t (Number n) right
+operate_in_order f t (Number n) right =
+    if is_free f then operate_on f t right (Number n) else operate_on f t (Number n) right
 
 abbrev pub prim_code : PrimOp → (to : Spot) → (left right : Source) → List Instr
 prim_code f to left right = operate_in_order f (target 5 to) left right ++ keep 5 to
@@ -207,10 +213,12 @@ abbrev pub word_offset : ℕ → ℤ
 word_offset k = pos (4 * (k % 512))
 
 abbrev pub load_code : (to : Spot) → (cell : Source) → (index : ℕ) → List Instr
-load_code to cell k = hold 5 cell ++ (Load Lw (target 5 to) (held 5 cell) (word_offset k) ∷ keep 5 to)
+load_code to cell k =
+    hold 5 cell ++ (Load Lw (target 5 to) (held 5 cell) (word_offset k) ∷ keep 5 to)
 
 abbrev pub save_code : (cell : Source) → (index : ℕ) → Source → List Instr
-save_code cell k word = hold 5 cell ++ (hold 6 word ++ Store Sw (held 6 word) (held 5 cell) (word_offset k) ∷ [])
+save_code cell k word =
+    hold 5 cell ++ (hold 6 word ++ Store Sw (held 6 word) (held 5 cell) (word_offset k) ∷ [])
 
 -- ---- taking cells
 
@@ -218,7 +226,8 @@ save_code cell k word = hold 5 cell ++ (hold 6 word ++ Store Sw (held 6 word) (h
 abbrev pub room_items : (bytes heap_full : ℕ) → List Item
 room_items bytes heap_full = plain (add_to 5 3 bytes) ++ Branch Ltu 4 5 heap_full ∷ []
 
--- a place gets the address of a cell, so many bytes behind x3; before an offset is none of 12 bits, x3 goes on
+-- a place gets the address of a cell, so many bytes behind x3; before an offset is none of 12 bits,
+-- x3 goes on
 abbrev pub is_offset : ℕ → Bool
 is_offset off = nat_lt off 2048
 
@@ -226,53 +235,65 @@ abbrev pub next_offset : (step off : ℕ) → ℕ
 next_offset step off = if is_offset (off + step) then off + step else 0
 
 abbrev pub go_on : (step off : ℕ) → List Instr
-go_on step off = if is_offset (off + step) then [] else OpImm Addi 3 3 (pos off) ∷ OpImm Addi 3 3 (pos step) ∷ []
+go_on step off =
+    if is_offset (off + step) then [] else OpImm Addi 3 3 (pos off) ∷ OpImm Addi 3 3 (pos step) ∷ []
 
 abbrev pub cells_code : (step off : ℕ) → List Spot → List Instr
 cells_code step off [] = []
 cells_code step off (s ∷ ss) =
-    OpImm Addi (target 6 s) 3 (pos off) ∷ (keep 6 s ++ (go_on step off ++ cells_code step (next_offset step off) ss))
+    OpImm Addi (target 6 s) 3 (pos off)
+    ∷ (keep 6 s ++ (go_on step off ++ cells_code step (next_offset step off) ss))
 
 abbrev pub take_items : (step heap_full : ℕ) → List Spot → List Item
 take_items step heap_full ss =
-    room_items (step * length ss) heap_full ++ plain (cells_code step 0 ss ++ OpImm Addi 3 5 (pos 0) ∷ [])
+    room_items (step * length ss) heap_full
+    ++ plain (cells_code step 0 ss ++ OpImm Addi 3 5 (pos 0) ∷ [])
 
 -- ---- calls to the machine
 
 -- the registers of a call wait in x4 to x7; then they come back, and x4 is made anew
 abbrev pub aside : List Instr
-aside = OpImm Addi 5 10 (pos 0) ∷ OpImm Addi 6 11 (pos 0) ∷ OpImm Addi 7 12 (pos 0) ∷ OpImm Addi 4 17 (pos 0) ∷ []
+aside =
+    OpImm Addi 5 10 (pos 0) ∷ OpImm Addi 6 11 (pos 0) ∷ OpImm Addi 7 12 (pos 0)
+    ∷ OpImm Addi 4 17 (pos 0) ∷ []
 
 abbrev pub back : (heap_end : ℕ) → List Instr
 back heap_end =
-    OpImm Addi 10 5 (pos 0) ∷ OpImm Addi 11 6 (pos 0) ∷ OpImm Addi 12 7 (pos 0) ∷ OpImm Addi 17 4 (pos 0) ∷ number_to 4 heap_end
+    OpImm Addi 10 5 (pos 0) ∷ OpImm Addi 11 6 (pos 0) ∷ OpImm Addi 12 7 (pos 0)
+    ∷ OpImm Addi 17 4 (pos 0) ∷ number_to 4 heap_end
 
 -- a call of this number and file on one byte at the frame's first word
 abbrev pub call_code : (file call : ℕ) → List Instr
 call_code file call =
-    OpImm Addi 10 0 (pos file) ∷ OpImm Addi 11 2 (pos 0) ∷ OpImm Addi 12 0 (pos 1) ∷ OpImm Addi 17 0 (pos call) ∷ Ecall ∷ []
+    OpImm Addi 10 0 (pos file) ∷ OpImm Addi 11 2 (pos 0) ∷ OpImm Addi 12 0 (pos 1)
+    ∷ OpImm Addi 17 0 (pos call) ∷ Ecall ∷ []
 
 -- the frame's first word is the byte's while the return address is in x1
 abbrev pub put_code : (heap_end : ℕ) → Source → List Instr
 put_code heap_end word =
-    Load Lw 1 2 (pos 0) ∷ (hold 5 word ++ (Store Sw (held 5 word) 2 (pos 0) ∷ (aside ++ (call_code 1 64 ++ (back heap_end ++ Store Sw 1 2 (pos 0) ∷ [])))))
+    Load Lw 1 2 (pos 0)
+    ∷ (hold 5 word ++ (Store Sw (held 5 word) 2 (pos 0)
+    ∷ (aside ++ (call_code 1 64 ++ (back heap_end ++ Store Sw 1 2 (pos 0) ∷ [])))))
 
--- where a byte was given it is the frame's first word, and 1 is in x10; else both are 0: x1 gets the sum of that word and x10
--- less one, and the frame's first word is the return address again
+-- where a byte was given it is the frame's first word, and 1 is in x10; else both are 0: x1 gets
+-- the sum of that word and x10 less one, and the frame's first word is the return address again
 abbrev pub byte_given : List Instr
 byte_given =
-    Load Lw 17 2 (pos 0) ∷ Store Sw 1 2 (pos 0) ∷ OpImm Addi 10 10 (negsuc 0) ∷ Op op.Add 1 10 17 ∷ []
+    Load Lw 17 2 (pos 0) ∷ Store Sw 1 2 (pos 0) ∷ OpImm Addi 10 10 (negsuc 0)
+    ∷ Op op.Add 1 10 17 ∷ []
 
 abbrev pub get_code : (heap_end : ℕ) → (to : Spot) → List Instr
 get_code heap_end to =
-    Load Lw 1 2 (pos 0) ∷ Store Sw 0 2 (pos 0) ∷ (aside ++ (call_code 0 63 ++ (byte_given ++ (back heap_end ++ move_to to (Reg 1)))))
+    Load Lw 1 2 (pos 0) ∷ Store Sw 0 2 (pos 0)
+    ∷ (aside ++ (call_code 0 63 ++ (byte_given ++ (back heap_end ++ move_to to (Reg 1)))))
 
 abbrev pub exit_with : ℕ → List Item
 exit_with code = plain (OpImm Addi 10 0 (pos code) ∷ OpImm Addi 17 0 (pos 93) ∷ Ecall ∷ [])
 
 -- ---- procedures
 
--- the argument for a parameter comes in its place, or, where that is none of the registers, in x8 and up; then it is put there
+-- the argument for a parameter comes in its place, or, where that is none of the registers, in x8
+-- and up; then it is put there
 abbrev pub argument_spot : (i : ℕ) → Spot → Spot
 argument_spot i (Reg r) = Reg r
 argument_spot i (Slot k) = Reg (8 + i)
@@ -311,14 +332,16 @@ save_moves first (r ∷ rs) = record { to = Slot first; from = Reg r } ∷ save_
 
 abbrev pub restore_moves : (first : ℕ) → List ℕ → List Move
 restore_moves first [] = []
-restore_moves first (r ∷ rs) = record { to = Reg r; from = Slot first } ∷ restore_moves (suc first) rs
+restore_moves first (r ∷ rs) =
+    record { to = Reg r; from = Slot first } ∷ restore_moves (suc first) rs
 
 -- ---- choices
 
 -- a word that isn't this number goes on to the label
 abbrev pub test_items : (next : ℕ) → (word : Source) → ℕ → List Item
 test_items next word n =
-    plain (hold 5 word ++ hold 6 (Number n)) ++ Branch Ne (held 5 word) (held 6 (Number n)) next ∷ []
+    plain (hold 5 word ++ hold 6 (Number n))
+    ++ Branch Ne (held 5 word) (held 6 (Number n)) next ∷ []
 
 -- ---- start-up and stops
 
@@ -326,14 +349,18 @@ test_items next word n =
 abbrev pub globals_code : (step : ℕ) → List ℕ → List Instr
 globals_code step [] = []
 globals_code step (t ∷ ts) =
-    hold 6 (Number t) ++ (Store Sw (held 6 (Number t)) 3 (pos 0) ∷ OpImm Addi 3 3 (pos step) ∷ globals_code step ts)
+    hold 6 (Number t)
+    ++ (Store Sw (held 6 (Number t)) 3 (pos 0) ∷ OpImm Addi 3 3 (pos step) ∷ globals_code step ts)
 
 -- the frames' end, the next cell and the heap's end; then the globals, where there is room for them
-abbrev pub start_items : (stack_end heap_base heap_end step heap_full : ℕ) → (globals : List ℕ) → List Item
+abbrev pub start_items : (stack_end heap_base heap_end step heap_full : ℕ)
+    → (globals : List ℕ) → List Item
 start_items stack_end heap_base heap_end step heap_full globals =
     plain (number_to 2 stack_end ++ (number_to 3 heap_base ++ number_to 4 heap_end))
     ++ (room_items (step * length globals) heap_full ++ plain (globals_code step globals))
 
 -- the exits without an alternative and with a full heap or stack, at three labels
 abbrev pub stop_items : (first : ℕ) → List Item
-stop_items first = Label first ∷ (exit_with 3 ++ Label (1 + first) ∷ (exit_with 4 ++ Label (2 + first) ∷ exit_with 5))
+stop_items first =
+    Label first
+    ∷ (exit_with 3 ++ Label (1 + first) ∷ (exit_with 4 ++ Label (2 + first) ∷ exit_with 5))

@@ -30,48 +30,63 @@ abbrev pub one_arm : List LowTest × Code → Arms → Arms
 one_arm t = arm t.0 t.1
 
 module _ (l : Program) (a : Assignment) (cells stack : ℕ) where
-  pub record Called (words saved f site : ℕ) (as' : List Operand) (xs : List ℕ) (old new : List Item) : Type 0 where
+  pub record Called (words saved f site : ℕ) (as' : List Operand) (xs : List ℕ)
+      (old new : List Item) : Type 0 where
     pub arguments : List Move
     pub results : List Move
-    pub order : IsOrder arguments (spot_moves (argument_spots_of l a cells stack f) (sources l a cells stack as'))
-    pub results_order : IsOrder results (moves_between (places l a cells stack xs) (result_spots_of l a cells stack f))
-    pub is : new ≡ old ++ call_items l a cells stack words saved f as' (saves_at a site) arguments results
+    pub order : IsOrder arguments
+        (spot_moves (argument_spots_of l a cells stack f) (sources l a cells stack as'))
+    pub results_order : IsOrder results
+        (moves_between (places l a cells stack xs) (result_spots_of l a cells stack f))
+    pub is : new
+        ≡ old ++ call_items l a cells stack words saved f as' (saves_at a site) arguments results
 
   pub record TailCalled (words f : ℕ) (as' : List Operand) (old new : List Item) : Type 0 where
     pub steps : List Move
-    pub order : IsOrder steps (spot_moves (argument_spots_of l a cells stack f) (sources l a cells stack as'))
-    pub is : new ≡ old ++ (plain (moves_code steps ++ (number_moves (argument_spots_of l a cells stack f) (sources l a cells stack as') ++ leave_code words)) ++ Jump 0 f ∷ [])
+    pub order : IsOrder steps
+        (spot_moves (argument_spots_of l a cells stack f) (sources l a cells stack as'))
+    pub is : new
+        ≡ old ++ (plain (moves_code steps ++ (number_moves (argument_spots_of l a cells stack f)
+        (sources l a cells stack as') ++ leave_code words)) ++ Jump 0 f ∷ [])
 
 module _ (l : Program) (a : Assignment) (cells stack words saved : ℕ) where
   -- a block
-  pub record Emitted (to : List Spot) (way : Way) (c : Code) (old : List Item) (n : ℕ) (new : List Item) (m : ℕ) : Type 0 where
+  pub record Emitted (to : List Spot) (way : Way) (c : Code) (old : List Item)
+      (n : ℕ) (new : List Item) (m : ℕ) : Type 0 where
     pub items : List Item
     pub is : new ≡ old ++ items
     pub emits : Emits l a cells stack words saved to way c n m items
 
-  pub record EmittedArms (to : List Spot) (way : Way) (c : Arms) (old : List Item) (n : ℕ) (new : List Item) (m : ℕ) : Type 0 where
+  pub record EmittedArms (to : List Spot) (way : Way) (c : Arms) (old : List Item)
+      (n : ℕ) (new : List Item) (m : ℕ) : Type 0 where
     pub items : List Item
     pub is : new ≡ old ++ items
     pub emits : EmitsArms l a cells stack words saved to way c n m items
 
   -- a statement, or several, before any block
-  pub record Before (before : Code → Code) (old : List Item) (n : ℕ) (new : List Item) (m : ℕ) : Type 0 where
+  pub record Before (before : Code → Code) (old : List Item) (n : ℕ) (new : List Item) (m : ℕ)
+      : Type 0 where
     pub items : List Item
     pub is : new ≡ old ++ items
     pub placed : (c : Code) → Placed l a (before c) → Placed l a c
     pub emits : (to : List Spot) (way : Way) (c : Code) (k : ℕ) (rest : List Item)
-        → Emits l a cells stack words saved to way c m k rest → Emits l a cells stack words saved to way (before c) n k (items ++ rest)
+        → Emits l a cells stack words saved to way c m k rest
+        → Emits l a cells stack words saved to way (before c) n k (items ++ rest)
 
   -- an arm, or several, before any others
-  pub record ArmsBefore (to : List Spot) (way : Way) (before : Arms → Arms) (old : List Item) (n : ℕ) (new : List Item) (m : ℕ) : Type 0 where
+  pub record ArmsBefore (to : List Spot) (way : Way) (before : Arms → Arms)
+      (old : List Item) (n : ℕ) (new : List Item) (m : ℕ) : Type 0 where
     pub items : List Item
     pub is : new ≡ old ++ items
     pub placed : (as' : Arms) → ArmsPlaced l a (before as') → ArmsPlaced l a as'
     pub emits : (as' : Arms) (k : ℕ) (rest : List Item)
-        → EmitsArms l a cells stack words saved to way as' m k rest → EmitsArms l a cells stack words saved to way (before as') n k (items ++ rest)
+        → EmitsArms l a cells stack words saved to way as' m k rest
+        → EmitsArms l a cells stack words saved to way (before as') n k (items ++ rest)
 
 -- a procedure
-pub record EmittedProcedure (l : Program) (a : Assignment) (cells stack f : ℕ) (old : List Item) (n : ℕ) (new : List Item) (m : ℕ) : Type 0 where
+pub record EmittedProcedure (l : Program) (a : Assignment) (cells stack f : ℕ)
+    (old : List Item) (n : ℕ) (new : List Item) (m : ℕ) : Type 0 where
   pub items : List Item
   pub is : new ≡ old ++ items
-  pub emits : (q : Procedure) → slice_get l.procs f ≡ Some q → EmitsProcedure l a cells stack f q n m items
+  pub emits : (q : Procedure) → slice_get l.procs f ≡ Some q
+      → EmitsProcedure l a cells stack f q n m items

@@ -1,4 +1,5 @@
--- The items that stand for low code, statement by statement, where moves may be done in any order that does them at once.
+-- The items that stand for low code, statement by statement, where moves may be done in any order
+-- that does them at once.
 use Rattle.std.specs.Prelude.{◌≡◌, ℕ, suc, ◌+◌, ◌-◌, ◌*◌, ◌%◌, ◌^◌, ◌≤◌, List, [], ◌∷◌, ◌++◌, map, length, Option, Some, None, slice_get}
 use Rattle.parallel_move.specs.declared.Spot.{Spot}
 use Rattle.parallel_move.specs.declared.Move.{Move}
@@ -103,38 +104,52 @@ module _ (l : Program) (a : Assignment) (cells stack : ℕ) where
   tests_items next [] = []
   tests_items next (t ∷ ts) = test_items next (source t.left) t.right ++ tests_items next ts
 
-  -- in a procedure whose frame has so many words, of which the slots from `saved` on are for saved registers
+  -- in a procedure whose frame has so many words, of which the slots from `saved` on are for saved
+  -- registers
   module _ (words saved : ℕ) where
-    -- a call: registers are saved, arguments go to their spots, results to their variables, and registers come back
-    abbrev pub call_items : (proc : ℕ) → List Operand → (registers : List ℕ) → (arguments results : List Move) → List Item
+    -- a call: registers are saved, arguments go to their spots, results to their variables, and
+    -- registers come back
+    abbrev pub call_items : (proc : ℕ) → List Operand → (registers : List ℕ)
+        → (arguments results : List Move) → List Item
     call_items f as' registers arguments results =
-        plain (moves_code (save_moves saved registers) ++ (moves_code arguments ++ number_moves (argument_spots_of f) (sources as')))
+        plain (moves_code (save_moves saved registers)
+        ++ (moves_code arguments ++ number_moves (argument_spots_of f) (sources as')))
         ++ Jump 1 f ∷ plain (moves_code results ++ moves_code (restore_moves saved registers))
 
     abbrev mutual
-      -- the items of a block that gives its words to these spots and goes this way then; n is the first label of its own, and m
-      -- the next one behind them
+      -- the items of a block that gives its words to these spots and goes this way then; n is the
+      -- first label of its own, and m the next one behind them
       pub Emits : (to : List Spot) → Way → Code → (n m : ℕ) → List Item → Type 0
-      Emits to way (set x b c) n m items = Then (plain (set_code (place_of a x) (source b))) (Emits to way c n m) items
-      Emits to way (prim f x b d c) n m items = Then (plain (prim_code f (place_of a x) (source b) (source d))) (Emits to way c n m) items
-      Emits to way (load x b k c) n m items = Then (plain (load_code (place_of a x) (source b) k)) (Emits to way c n m) items
-      Emits to way (save b k d c) n m items = Then (plain (save_code (source b) k (source d))) (Emits to way c n m) items
-      Emits to way (take xs c) n m items = Then (take_items step heap_full (places xs)) (Emits to way c n m) items
-      Emits to way (put b c) n m items = Then (plain (put_code heap_end (source b))) (Emits to way c n m) items
-      Emits to way (get x c) n m items = Then (plain (get_code heap_end (place_of a x))) (Emits to way c n m) items
+      Emits to way (set x b c) n m items =
+          Then (plain (set_code (place_of a x) (source b))) (Emits to way c n m) items
+      Emits to way (prim f x b d c) n m items =
+          Then (plain (prim_code f (place_of a x) (source b) (source d))) (Emits to way c n m) items
+      Emits to way (load x b k c) n m items =
+          Then (plain (load_code (place_of a x) (source b) k)) (Emits to way c n m) items
+      Emits to way (save b k d c) n m items =
+          Then (plain (save_code (source b) k (source d))) (Emits to way c n m) items
+      Emits to way (take xs c) n m items =
+          Then (take_items step heap_full (places xs)) (Emits to way c n m) items
+      Emits to way (put b c) n m items =
+          Then (plain (put_code heap_end (source b))) (Emits to way c n m) items
+      Emits to way (get x c) n m items =
+          Then (plain (get_code heap_end (place_of a x))) (Emits to way c n m) items
       Emits to way (call f site as' xs c) n m items =
           (arguments results : List Move)
           × IsOrder arguments (spot_moves (argument_spots_of f) (sources as'))
           × IsOrder results (moves_between (places xs) (result_spots_of f))
           × Then (call_items f as' (saves_at a site) arguments results) (Emits to way c n m) items
       Emits to way (join xs b c) n m items =
-          (k : ℕ) × (block : List Item) × Emits (places xs) (Follows n) b (suc n) k block × Then (block ++ Label n ∷ []) (Emits to way c k m) items
+          (k : ℕ) × (block : List Item) × Emits (places xs) (Follows n) b (suc n) k block
+          × Then (block ++ Label n ∷ []) (Emits to way c k m) items
       Emits to way (give as') n m items =
           (m ≡ n) × (steps : List Move) × IsOrder steps (spot_moves to (sources as'))
           × (items ≡ plain (moves_code steps ++ number_moves to (sources as')) ++ way_out words way)
       Emits to way (tail f site as') n m items =
-          (m ≡ n) × (steps : List Move) × IsOrder steps (spot_moves (argument_spots_of f) (sources as'))
-          × (items ≡ plain (moves_code steps ++ (number_moves (argument_spots_of f) (sources as') ++ leave_code words)) ++ Jump 0 f ∷ [])
+          (m ≡ n) × (steps : List Move)
+          × IsOrder steps (spot_moves (argument_spots_of f) (sources as'))
+          × (items ≡ plain (moves_code steps ++ (number_moves (argument_spots_of f) (sources as')
+          ++ leave_code words)) ++ Jump 0 f ∷ [])
       Emits to way (choose as') n m items = EmitsArms to way as' n m items
       Emits to way fail n m items = (m ≡ n) × (items ≡ Jump 0 no_alternative ∷ [])
 
@@ -147,14 +162,17 @@ module _ (l : Program) (a : Assignment) (cells stack : ℕ) where
   -- procedure f: its entry, and its block
   pub record EmitsProcedure (f : ℕ) (q : Procedure) (n m : ℕ) (items : List Item) : Type 0 where
     pub block : List Item
-    pub body : Emits (words_at a f) (slots_of (place_of a) (variables q)) (result_spots 10 q.results) Returns q.body n m block
-    pub is : items ≡ entry_items f (words_at a f) (stack_end - stack) stack_full (places q.params) ++ block
+    pub body : Emits (words_at a f) (slots_of (place_of a) (variables q))
+        (result_spots 10 q.results) Returns q.body n m block
+    pub is : items
+        ≡ entry_items f (words_at a f) (stack_end - stack) stack_full (places q.params) ++ block
 
   -- the procedures from number f on
   abbrev pub EmitsProcedures : (f : ℕ) → List Procedure → (n m : ℕ) → List Item → Type 0
   EmitsProcedures f [] n m items = (m ≡ n) × (items ≡ [])
   EmitsProcedures f (q ∷ qs) n m items =
-      (k : ℕ) × (first rest : List Item) × EmitsProcedure f q n k first × EmitsProcedures (suc f) qs k m rest × (items ≡ first ++ rest)
+      (k : ℕ) × (first rest : List Item) × EmitsProcedure f q n k first
+      × EmitsProcedures (suc f) qs k m rest × (items ≡ first ++ rest)
 
   abbrev pub start_argument : Option ℕ → List Operand
   start_argument None = []
@@ -162,11 +180,14 @@ module _ (l : Program) (a : Assignment) (cells stack : ℕ) where
 
   -- the call of the start, and the exit behind it
   abbrev pub first_call : List Item
-  first_call = plain (number_moves (argument_spots_of l.start) (sources (start_argument l.argument))) ++ Jump 1 l.start ∷ exit_with 0
+  first_call =
+      plain (number_moves (argument_spots_of l.start) (sources (start_argument l.argument)))
+      ++ Jump 1 l.start ∷ exit_with 0
 
   pub record IsSelected (items : List Item) : Type 0 where
     pub last : ℕ
     pub procedures : List Item
     pub each : EmitsProcedures 0 l.procs first_label last procedures
-    pub is : items ≡ (start_items stack_end heap_base heap_end step heap_full l.globals ++ first_call)
+    pub is : items
+        ≡ (start_items stack_end heap_base heap_end step heap_full l.globals ++ first_call)
         ++ (procedures ++ stop_items no_alternative)

@@ -12,4 +12,5 @@ use Rattle.rv32_select.specs.Selects.{Selects}
 abbrev pub SelectedItemsDo : Type 0
 SelectedItemsDo =
     (l : Program) (a : Assignment) (cells stack : ℕ) (items : List Item)
-    → Selectable l a cells stack → NeverMissing l → IsSelected l a cells stack items → Selects l a cells stack items
+    → Selectable l a cells stack → NeverMissing l → IsSelected l a cells stack items
+    → Selects l a cells stack items

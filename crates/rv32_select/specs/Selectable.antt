@@ -1,4 +1,5 @@
--- What instructions are selected for: formed programs of some size, places that fit them, and room in limits.
+-- What instructions are selected for: formed programs of some size, places that fit them, and room
+-- in limits.
 use Rattle.std.specs.Prelude.{◌≡◌, ℕ, ◌*◌, ◌%◌, ◌≤◌, ◌<◌, length, Some, slice_get}
 use Rattle.low_code.specs.Tree.{Procedure, Program}
 use Rattle.low_code.specs.Formed.{Formed}

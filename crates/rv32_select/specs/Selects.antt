@@ -20,7 +20,8 @@ pub use Rattle.rv32_items.specs.Flows.{is_begin, NoBegin, GoesOn, IsStop, Flows}
 abbrev pub zeros : (first size : ℕ) → Stretch
 zeros first size = record { first = first; write = true; exec = false; bytes = replicate size 0 }
 
--- at the first item, with all registers zero; the heap is at 0x50000000, and the stack ends at 0x78000000
+-- at the first item, with all registers zero; the heap is at 0x50000000, and the stack ends at
+-- 0x78000000
 abbrev pub start_at : (width cells stack : ℕ) → Layout → Point
 start_at width cells stack lay = record {
   regs = λ r. 0;
@@ -51,8 +52,8 @@ Finishes input a c (Going p) = Unit {0}
 Finishes input a c (Exited code) = (exit_of (end_of a) ≡ Some code) × SameEnd input a c
 Finishes input a c (Stopped kind) = ⊥
 
--- a course has written and read no more than a run, passed the labels of the procedures that the run entered, and ended only as
--- the run has
+-- a course has written and read no more than a run, passed the labels of the procedures that the
+-- run entered, and ended only as the run has
 pub record Follows (begins input : List ℕ) (a : Answer) (c : Course) : Type 0 where
   pub entered : procedures_at begins c.passed ≡ (world_of a).entered
   pub output : Begins c.out (world_of a).out
@@ -63,7 +64,8 @@ abbrev pub Matches : (input : List ℕ) → Answer → Course → Option ℕ →
 Matches input a c None = Unit {0}
 Matches input a c (Some code) = (c.end ≡ Exited code) × SameEnd input a c
 
--- a course has passed the labels of just the procedures that a run entered, written what that has, and ended where it has
+-- a course has passed the labels of just the procedures that a run entered, written what that has,
+-- and ended where it has
 pub record Arrives (begins input : List ℕ) (a : Answer) (c : Course) : Type 0 where
   pub entered : procedures_at begins c.passed ≡ (world_of a).entered
   pub output : Begins (world_of a).out c.out
@@ -71,7 +73,8 @@ pub record Arrives (begins input : List ℕ) (a : Answer) (c : Course) : Type 0 
 
 -- ---- selection
 
-pub record Selects (l : Program) (a : Assignment) (cells stack : ℕ) (items : List Item) : Type 0 where
+pub record Selects (l : Program) (a : Assignment) (cells stack : ℕ) (items : List Item)
+    : Type 0 where
   pub begins : List ℕ
   pub one_each : length begins ≡ length l.procs
   pub different : AllDifferent begins
@@ -81,14 +84,22 @@ pub record Selects (l : Program) (a : Assignment) (cells stack : ℕ) (items : L
   pub some_item : (n : ℕ) × (is_instruction (slice_get items n) ≡ true)
   pub flows : Flows begins items
   -- no more items, counted as they are placed, than this
-  pub few : AtMostTwoTests l → size_of items ≤ 64 * (length l.procs + length l.globals + 1) + 8 * low_all l + 256 * calls_of l
-  -- whatever the layout, where the code is below the heap: after any number of items the course follows the run with as many units as procedures were passed,
-  pub follows : (lay : Layout) → Rises items lay → BelowHeap lay → (i : List ℕ) → IsBytes i → (k : ℕ) →
+  pub few : AtMostTwoTests l
+      → size_of items
+      ≤ 64 * (length l.procs + length l.globals + 1) + 8 * low_all l + 256 * calls_of l
+  -- whatever the layout, where the code is below the heap: after any number of items the course
+  -- follows the run with as many units as procedures were passed,
+  pub follows : (lay : Layout) → Rises items lay → BelowHeap lay
+      → (i : List ℕ) → IsBytes i → (k : ℕ) →
       let c = course lay items k i (start_at l.width cells stack lay) in
-      Follows begins i (limited l (words_at a) cells stack i (length (procedures_at begins c.passed))) c
+      Follows begins i
+      (limited l (words_at a) cells stack i (length (procedures_at begins c.passed))) c
   -- for any number of units it arrives where the run does,
-  pub arrives : (lay : Layout) → Rises items lay → BelowHeap lay → (i : List ℕ) → IsBytes i → (n : ℕ) →
-      (k : ℕ) × Arrives begins i (limited l (words_at a) cells stack i n) (course lay items k i (start_at l.width cells stack lay))
+  pub arrives : (lay : Layout) → Rises items lay → BelowHeap lay
+      → (i : List ℕ) → IsBytes i → (n : ℕ) →
+      (k : ℕ)
+      × Arrives begins i (limited l (words_at a) cells stack i n)
+      (course lay items k i (start_at l.width cells stack lay))
   -- and each return goes behind the last call that is open
   pub home : (lay : Layout) → Rises items lay → BelowHeap lay → (i : List ℕ) → IsBytes i → (k : ℕ) →
       ReturnsHome lay items k i (start_at l.width cells stack lay) []

@@ -1,5 +1,6 @@
--- What a program and its places are, so that each of its items can be written: places are in the lists and no scratch spots,
--- registers are x0 to x31, and words that go to spots at once go to different ones.
+-- What a program and its places are, so that each of its items can be written: places are in the
+-- lists and no scratch spots, registers are x0 to x31, and words that go to spots at once go to
+-- different ones.
 use Rattle.std.specs.Prelude.{◌≡◌, ℕ, ◌*◌, ◌≤◌, ◌<◌, ◌^◌, List, [], ◌∷◌, map, length, Some, slice_get}
 use Rattle.low_code.specs.declared.program.Operand.{Operand}
 use Rattle.low_code.specs.declared.program.Operand.TheVariants.{Var, Num, Cell}
@@ -42,7 +43,8 @@ module _ (l : Program) (a : Assignment) where
   -- registers are saved only where they are variables': x8 to x31
   abbrev pub CallPlaced : (proc site : ℕ) → List Operand → List ℕ → Type 0
   CallPlaced f site as' xs =
-      (f < length l.procs) × (site < length a.saves) × AreRegisters (saves_at a site) × (length (saves_at a site) ≤ 24)
+      (f < length l.procs) × (site < length a.saves) × AreRegisters (saves_at a site)
+      × (length (saves_at a site) ≤ 24)
       × OperandsPlaced as' × TargetsPlaced xs
 
   abbrev mutual

@@ -26,8 +26,8 @@ mod statements;
 pub use laws::selected_items_do;
 pub use source::{Source, Way};
 
-/// The items of a program over its places, for a heap of so many cells and frames of so many bytes. `AllocError` where memory
-/// is wanting.
+/// The items of a program over its places, for a heap of so many cells and frames of so many bytes.
+/// `AllocError` where memory is wanting.
 pub fn select(
     alloc: Global,
     low: &Low,

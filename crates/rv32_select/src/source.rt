@@ -9,8 +9,8 @@ pub enum Source {
     Number(u32),
 }
 
-/// Where a block goes once it has given its words: it returns from its procedure, or goes on at a label, which follows in the
-/// items or is jumped to.
+/// Where a block goes once it has given its words: it returns from its procedure, or goes on at a
+/// label, which follows in the items or is jumped to.
 #[derive(Clone, Copy, Debug, PartialEq, Eq)]
 pub enum Way {
     Returns,

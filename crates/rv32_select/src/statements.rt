@@ -207,7 +207,8 @@ impl Code {
         self.instr(Instr::Store(StoreKind::Sw, r, base, word_offset(k)))
     }
 
-    /// x5 gets the end of so many bytes of cells, and where the heap ends before it the heap is full.
+    /// x5 gets the end of so many bytes of cells, and where the heap ends before it the heap is
+    /// full.
     pub(crate) fn room(&mut self, bytes: u32, heap_full: u32) -> Result<(), AllocError>
         ensures { OnOk result (self.new ≡ self.old ++ room_items bytes heap_full) }
     {
@@ -294,7 +295,8 @@ impl Code {
         self.instr(Instr::Ecall)
     }
 
-    /// The low byte of a word is written; the frame's first word is the byte's while the return address is in x1.
+    /// The low byte of a word is written; the frame's first word is the byte's while the return
+    /// address is in x1.
     pub(crate) fn put_byte(&mut self, heap_end: u32, word: Source) -> Result<(), AllocError>
         requires { IsSource word }
         ensures { OnOk result (self.new ≡ self.old ++ plain (put_code heap_end word)) }
@@ -309,7 +311,8 @@ impl Code {
         self.instr(Instr::Store(StoreKind::Sw, Reg(1), Reg(2), Imm12(0)))
     }
 
-    /// The word that a read call gave goes to x1, and the return address back to the frame's first word.
+    /// The word that a read call gave goes to x1, and the return address back to the frame's first
+    /// word.
     fn byte_given(&mut self) -> Result<(), AllocError>
         ensures { OnOk result (self.new ≡ self.old ++ plain byte_given_code) }
     {

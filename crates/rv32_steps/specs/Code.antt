@@ -16,9 +16,11 @@ abbrev pub AllInRange : List Instr → Type 0
 AllInRange [] = Unit {0}
 AllInRange (i ∷ is) = InRange i × AllInRange is
 
--- an instruction stands at an address of the code: with pc there a step does it, whatever the registers and the other segments
+-- an instruction stands at an address of the code: with pc there a step does it, whatever the
+-- registers and the other segments
 pub record Holds (c : Stretch) (pc : ℕ) (i : Instr) : Type 0 where
-  pub steps : (regs : ℕ → ℕ) (rest : List Stretch) → step (at regs pc (c ∷ rest)) ≡ act (at regs pc (c ∷ rest)) i
+  pub steps : (regs : ℕ → ℕ) (rest : List Stretch)
+      → step (at regs pc (c ∷ rest)) ≡ act (at regs pc (c ∷ rest)) i
   pub next : plus pc 4 ≡ pc + 4
 
 -- instructions stand from an address on, one each four bytes

@@ -53,9 +53,13 @@ IsWord b w address = IsSlot b.heap w.heap address ⊎ IsSlot b.stack w.stack add
 
 abbrev pub word_at : Bases → Words → ℕ → ℕ
 word_at b w address =
-    if nat_lt address b.stack then get_or w.heap (slot b.heap address) 0 else get_or w.stack (slot b.stack address) 0
+    if nat_lt address b.stack then get_or w.heap (slot b.heap address) 0
+    else get_or w.stack (slot b.stack address) 0
 
 abbrev pub with_word : Bases → Words → ℕ → ℕ → Words
 with_word b w address v =
-    if nat_lt address b.stack then record { heap = set w.heap (slot b.heap address) v; stack = w.stack }
+    if nat_lt address b.stack then record {
+      heap = set w.heap (slot b.heap address) v;
+      stack = w.stack;
+    }
     else record { heap = w.heap; stack = set w.stack (slot b.stack address) v }

@@ -17,11 +17,14 @@ use Rattle.rv32_steps.specs.Straight.{value, Asks, regs_after, words_after, AllA
 abbrev pub StretchesJoin : Type 0
 StretchesJoin =
     (j k : ℕ) (input middle left : List ℕ) (s t u : State) (v w : List ℕ)
-    → LeadsOn j input s v middle t → LeadsOn k middle t w left u → LeadsOn (j + k) input s (v ++ w) left u
+    → LeadsOn j input s v middle t → LeadsOn k middle t w left u
+    → LeadsOn (j + k) input s (v ++ w) left u
 
 -- what reads no byte is a stretch on every input
 abbrev pub StretchesKeepTheInput : Type 0
-StretchesKeepTheInput = (k : ℕ) (input : List ℕ) (s t : State) (v : List ℕ) → Leads k s v t → LeadsOn k input s v input t
+StretchesKeepTheInput =
+    (k : ℕ) (input : List ℕ) (s t : State) (v : List ℕ) → Leads k s v t
+    → LeadsOn k input s v input t
 
 -- a segment of the words of instructions has these instructions, one each four bytes
 abbrev pub CodeStands : Type 0
@@ -30,20 +33,24 @@ CodeStands =
     → c.exec ≡ true → c.bytes ≡ code_bytes is → c.first % 4 ≡ 0 → end_of c < 2 ^ 32 → AllInRange is
     → Stand c c.first is
 
--- an instruction of straight-line code changes registers and words as `regs_after` and `words_after` say, wherever it stands
+-- an instruction of straight-line code changes registers and words as `regs_after` and
+-- `words_after` say, wherever it stands
 abbrev pub InstructionsAct : Type 0
 InstructionsAct =
     (c : Stretch) (b : Bases) (rest : List Stretch) (i : Instr) (regs : ℕ → ℕ) (pc : ℕ) (w : Words)
     → LaidOut c b w → Asks b i regs w
-    → (act (at regs pc (memory_of c b w rest)) i ≡ Next (at (regs_after b i regs w) (plus pc 4) (memory_of c b (words_after b i regs w) rest)))
+    → (act (at regs pc (memory_of c b w rest)) i
+    ≡ Next (at (regs_after b i regs w) (plus pc 4) (memory_of c b (words_after b i regs w) rest)))
     × LaidOut c b (words_after b i regs w)
 
 -- straight-line code is done to its end, one step each instruction
 abbrev pub StraightCodeRuns : Type 0
 StraightCodeRuns =
-    (c : Stretch) (b : Bases) (rest : List Stretch) (is : List Instr) (pc : ℕ) (regs : ℕ → ℕ) (w : Words)
+    (c : Stretch) (b : Bases) (rest : List Stretch) (is : List Instr)
+    (pc : ℕ) (regs : ℕ → ℕ) (w : Words)
     → LaidOut c b w → Stand c pc is → AllAsk b is regs w
-    → Leads (length is) (at regs pc (memory_of c b w rest)) [] (at (straight_regs b is regs w) (pc + 4 * length is) (memory_of c b (straight_words b is regs w) rest))
+    → Leads (length is) (at regs pc (memory_of c b w rest)) [] (at (straight_regs b is regs w)
+    (pc + 4 * length is) (memory_of c b (straight_words b is regs w) rest))
 
 -- jumps, and branches by their test, go where their offset says
 abbrev pub JumpsGo : Type 0
@@ -60,13 +67,16 @@ ReturnsGoBack =
 
 abbrev pub BranchesGo : Type 0
 BranchesGo =
-    (c : Stretch) (pc : ℕ) (regs : ℕ → ℕ) (rest : List Stretch) (kind : BranchKind) (rs1 rs2 : ℕ) (off : ℤ) (to : ℕ)
-    → Holds c pc (Branch kind rs1 rs2 off) → is_taken kind (value regs rs1) (value regs rs2) ≡ true → plus pc (pattern off) ≡ to → to % 4 ≡ 0
+    (c : Stretch) (pc : ℕ) (regs : ℕ → ℕ) (rest : List Stretch)
+    (kind : BranchKind) (rs1 rs2 : ℕ) (off : ℤ) (to : ℕ)
+    → Holds c pc (Branch kind rs1 rs2 off) → is_taken kind (value regs rs1) (value regs rs2) ≡ true
+    → plus pc (pattern off) ≡ to → to % 4 ≡ 0
     → Leads 1 (at regs pc (c ∷ rest)) [] (at regs to (c ∷ rest))
 
 abbrev pub BranchesStay : Type 0
 BranchesStay =
-    (c : Stretch) (pc : ℕ) (regs : ℕ → ℕ) (rest : List Stretch) (kind : BranchKind) (rs1 rs2 : ℕ) (off : ℤ)
+    (c : Stretch) (pc : ℕ) (regs : ℕ → ℕ) (rest : List Stretch)
+    (kind : BranchKind) (rs1 rs2 : ℕ) (off : ℤ)
     → Holds c pc (Branch kind rs1 rs2 off) → is_taken kind (value regs rs1) (value regs rs2) ≡ false
     → Leads 1 (at regs pc (c ∷ rest)) [] (at regs (pc + 4) (c ∷ rest))
 
@@ -85,9 +95,11 @@ BytesAreWritten =
     (c : Stretch) (b : Bases) (rest : List Stretch) (regs : ℕ → ℕ) (pc : ℕ) (w : Words) (a : ℕ)
     → LaidOut c b w → IsWord b w a → Called 64 1 a 1 regs
     → act (at regs pc (memory_of c b w rest)) Ecall
-    ≡ Written a 1 (word_at b w a % 256 ∷ []) (at (set_reg regs 10 1) (plus pc 4) (memory_of c b w rest))
+    ≡ Written a 1 (word_at b w a % 256 ∷ [])
+    (at (set_reg regs 10 1) (plus pc 4) (memory_of c b w rest))
 
--- a read call of one byte asks for it; a word that was zero becomes the byte, and at the input's end it stays zero
+-- a read call of one byte asks for it; a word that was zero becomes the byte, and at the input's
+-- end it stays zero
 abbrev pub BytesAreAsked : Type 0
 BytesAreAsked =
     (c : Stretch) (b : Bases) (rest : List Stretch) (regs : ℕ → ℕ) (pc : ℕ) (w : Words) (a : ℕ)
@@ -110,16 +122,21 @@ ZerosAreWords =
 -- a write call writes the bytes at its range
 abbrev pub WriteCallsWrite : Type 0
 WriteCallsWrite =
-    (c : Stretch) (pc : ℕ) (regs : ℕ → ℕ) (rest : List Stretch) (a len segment offset : ℕ) (input : List ℕ)
-    → Holds c pc Ecall → Called 64 1 a len regs → 0 < len → access Read (c ∷ rest) a len ≡ At segment offset
-    → LeadsOn 1 input (at regs pc (c ∷ rest)) (bytes_at (c ∷ rest) segment offset len) input (at (set_reg regs 10 len) (pc + 4) (c ∷ rest))
+    (c : Stretch) (pc : ℕ) (regs : ℕ → ℕ) (rest : List Stretch)
+    (a len segment offset : ℕ) (input : List ℕ)
+    → Holds c pc Ecall → Called 64 1 a len regs → 0 < len
+    → access Read (c ∷ rest) a len ≡ At segment offset
+    → LeadsOn 1 input (at regs pc (c ∷ rest)) (bytes_at (c ∷ rest) segment offset len)
+    input (at (set_reg regs 10 len) (pc + 4) (c ∷ rest))
 
 -- a read call of one byte takes it, and tells the input's end
 abbrev pub ReadCallsTake : Type 0
 ReadCallsTake =
-    (c : Stretch) (pc : ℕ) (regs : ℕ → ℕ) (rest : List Stretch) (a segment offset byte : ℕ) (input : List ℕ)
+    (c : Stretch) (pc : ℕ) (regs : ℕ → ℕ) (rest : List Stretch)
+    (a segment offset byte : ℕ) (input : List ℕ)
     → Holds c pc Ecall → Called 63 0 a 1 regs → access Write (c ∷ rest) a 1 ≡ At segment offset
-    → LeadsOn 1 (byte ∷ input) (at regs pc (c ∷ rest)) [] input (at (set_reg regs 10 1) (pc + 4) (stored_at (c ∷ rest) segment offset (bytes_of 1 byte)))
+    → LeadsOn 1 (byte ∷ input) (at regs pc (c ∷ rest)) [] input
+    (at (set_reg regs 10 1) (pc + 4) (stored_at (c ∷ rest) segment offset (bytes_of 1 byte)))
 
 abbrev pub ReadCallsEnd : Type 0
 ReadCallsEnd =

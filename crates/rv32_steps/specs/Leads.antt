@@ -13,9 +13,13 @@ pub record Leads (k : ℕ) (s : State) (written : List ℕ) (t : State) : Type 0
   pub by : (n : ℕ) (input : List ℕ) → run (k + n) input s ≡ after written (run n input t)
 
 -- in k steps from s on this input to t, with these bytes written and this input left
-pub record LeadsOn (k : ℕ) (input : List ℕ) (s : State) (written : List ℕ) (left : List ℕ) (t : State) : Type 0 where
+pub record LeadsOn (k : ℕ) (input : List ℕ) (s : State) (written : List ℕ)
+    (left : List ℕ) (t : State) : Type 0 where
   pub by : (n : ℕ) → run (k + n) input s ≡ after written (run n left t)
 
--- in k steps from s on this input to the exit at t with a code, with these bytes written and this input left
-pub record ExitsOn (k : ℕ) (input : List ℕ) (s : State) (written : List ℕ) (left : List ℕ) (code : ℕ) (t : State) : Type 0 where
-  pub by : (n : ℕ) → run (k + n) input s ≡ record { out = written; left = left; end = Exited code t }
+-- in k steps from s on this input to the exit at t with a code, with these bytes written and this
+-- input left
+pub record ExitsOn (k : ℕ) (input : List ℕ) (s : State) (written : List ℕ)
+    (left : List ℕ) (code : ℕ) (t : State) : Type 0 where
+  pub by : (n : ℕ)
+      → run (k + n) input s ≡ record { out = written; left = left; end = Exited code t }

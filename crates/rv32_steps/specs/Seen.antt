@@ -11,7 +11,8 @@ finish_of (Stopped kind s) = traps
 
 -- what is seen from a state on
 abbrev pub of_machine : State → Machine
-of_machine s i m = let r = run m i s in record { out = r.out; used = used i r; finish = finish_of r.end }
+of_machine s i m =
+    let r = run m i s in record { out = r.out; used = used i r; finish = finish_of r.end }
 
 -- what is seen of an image from its start on
 abbrev pub seen : Image → Machine

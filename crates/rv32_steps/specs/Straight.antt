@@ -1,4 +1,5 @@
--- Straight-line code: instructions that change registers, words of the heap and words of the stack, and do not branch.
+-- Straight-line code: instructions that change registers, words of the heap and words of the stack,
+-- and do not branch.
 use Rattle.std.specs.Prelude.{ℕ, ◌^◌, ◌*◌, ◌<◌, List, [], ◌∷◌, nat_eq, if◌then◌else◌}
 use Rattle.rv32_isa.specs.declared.instr.Instr.{Instr}
 use Rattle.rv32_isa.specs.declared.instr.Instr.TheVariants.{Lui, OpImm, Shift, Op, Load, Store}
@@ -19,30 +20,39 @@ Asks b (OpImm kind rd rs1 imm) regs w = Unit {0}
 Asks b (Shift kind rd rs1 amount) regs w = Unit {0}
 Asks b (Op kind rd rs1 rs2) regs w = Unit {0}
 Asks b (Load Lw rd rs1 imm) regs w = IsWord b w (plus (value regs rs1) (pattern imm))
-Asks b (Store Sw rs2 rs1 imm) regs w = IsWord b w (plus (value regs rs1) (pattern imm)) × (value regs rs2 < 2 ^ 32)
+Asks b (Store Sw rs2 rs1 imm) regs w =
+    IsWord b w (plus (value regs rs1) (pattern imm)) × (value regs rs2 < 2 ^ 32)
 Asks b _ regs w = ⊥
 
 abbrev pub regs_after : Bases → Instr → (ℕ → ℕ) → Words → ℕ → ℕ
 regs_after b (Lui rd imm) regs w = set_reg regs rd (imm * 4096)
-regs_after b (OpImm kind rd rs1 imm) regs w = set_reg regs rd (imm_value kind (value regs rs1) (pattern imm))
-regs_after b (Shift kind rd rs1 amount) regs w = set_reg regs rd (shift_value kind (value regs rs1) amount)
-regs_after b (Op kind rd rs1 rs2) regs w = set_reg regs rd (op_value kind (value regs rs1) (value regs rs2))
-regs_after b (Load Lw rd rs1 imm) regs w = set_reg regs rd (word_at b w (plus (value regs rs1) (pattern imm)))
+regs_after b (OpImm kind rd rs1 imm) regs w =
+    set_reg regs rd (imm_value kind (value regs rs1) (pattern imm))
+regs_after b (Shift kind rd rs1 amount) regs w =
+    set_reg regs rd (shift_value kind (value regs rs1) amount)
+regs_after b (Op kind rd rs1 rs2) regs w =
+    set_reg regs rd (op_value kind (value regs rs1) (value regs rs2))
+regs_after b (Load Lw rd rs1 imm) regs w =
+    set_reg regs rd (word_at b w (plus (value regs rs1) (pattern imm)))
 regs_after b _ regs w = regs
 
 abbrev pub words_after : Bases → Instr → (ℕ → ℕ) → Words → Words
-words_after b (Store Sw rs2 rs1 imm) regs w = with_word b w (plus (value regs rs1) (pattern imm)) (value regs rs2)
+words_after b (Store Sw rs2 rs1 imm) regs w =
+    with_word b w (plus (value regs rs1) (pattern imm)) (value regs rs2)
 words_after b _ regs w = w
 
 -- the same of instructions one after the other
 abbrev pub AllAsk : Bases → List Instr → (ℕ → ℕ) → Words → Type 0
 AllAsk b [] regs w = Unit {0}
-AllAsk b (i ∷ is) regs w = Asks b i regs w × AllAsk b is (regs_after b i regs w) (words_after b i regs w)
+AllAsk b (i ∷ is) regs w =
+    Asks b i regs w × AllAsk b is (regs_after b i regs w) (words_after b i regs w)
 
 abbrev pub straight_regs : Bases → List Instr → (ℕ → ℕ) → Words → ℕ → ℕ
 straight_regs b [] regs w = regs
-straight_regs b (i ∷ is) regs w = straight_regs b is (regs_after b i regs w) (words_after b i regs w)
+straight_regs b (i ∷ is) regs w =
+    straight_regs b is (regs_after b i regs w) (words_after b i regs w)
 
 abbrev pub straight_words : Bases → List Instr → (ℕ → ℕ) → Words → Words
 straight_words b [] regs w = w
-straight_words b (i ∷ is) regs w = straight_words b is (regs_after b i regs w) (words_after b i regs w)
+straight_words b (i ∷ is) regs w =
+    straight_words b is (regs_after b i regs w) (words_after b i regs w)

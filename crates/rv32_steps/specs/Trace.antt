@@ -9,7 +9,8 @@ use Rattle.rv32_machine.specs.Arithmetic.{plus}
 use Rattle.rv32_machine.specs.Steps.{State, Outcome, Next, Written, Asked, Ended, Trapped, step, given}
 
 -- the places of the instructions behind an outcome
-abbrev pub trace_after : (rest : List ℕ → State → List ℕ) → (input : List ℕ) → State → Outcome → List ℕ
+abbrev pub trace_after : (rest : List ℕ → State → List ℕ) → (input : List ℕ)
+    → State → Outcome → List ℕ
 trace_after rest input s (Next t) = rest input t
 trace_after rest input s (Written a len bytes t) = rest input t
 trace_after rest input s (Asked a) = rest (drop 1 input) (given s (slice_get input 0))
@@ -70,31 +71,40 @@ module _ (addresses : List ℕ) where
   abbrev pub Leaves : (input : List ℕ) → State → Type 0
   Leaves input s = (m : ℕ) → procedures_at addresses (trace m input s) ≡ []
 
-  -- to where a procedure begins; or on, with none that begins in between; or on to where none is entered any more
+  -- to where a procedure begins; or on, with none that begins in between; or on to where none is
+  -- entered any more
   abbrev pub Onward : (from : ℕ) → (input : List ℕ) → State → Type 0
   Onward from input s =
-      (is_one_of addresses s.pc ≡ true) ⊎ (((from < s.pc) × NoneBetween from s.pc) ⊎ ((from < s.pc) × Leaves input s))
+      (is_one_of addresses s.pc ≡ true)
+      ⊎ (((from < s.pc) × NoneBetween from s.pc) ⊎ ((from < s.pc) × Leaves input s))
 
-  abbrev pub back_to : (rest : List ℕ → State → (calls : List ℕ) → Type 0) → (input calls : List ℕ) → State → Type 0
+  abbrev pub back_to : (rest : List ℕ → State → (calls : List ℕ) → Type 0)
+      → (input calls : List ℕ) → State → Type 0
   back_to rest input [] t = ⊥
   back_to rest input (a ∷ calls) t = (t.pc ≡ a) × rest input t calls
 
-  -- where s went to t, with these calls open: a call opens one more, a return closes the last one, and every other step goes on
-  abbrev pub forward_by : (rest : List ℕ → State → (calls : List ℕ) → Type 0) → (input : List ℕ) → State → (calls : List ℕ) → State → (closes opens : Bool) → Type 0
+  -- where s went to t, with these calls open: a call opens one more, a return closes the last one,
+  -- and every other step goes on
+  abbrev pub forward_by : (rest : List ℕ → State → (calls : List ℕ) → Type 0) → (input : List ℕ)
+      → State → (calls : List ℕ) → State → (closes opens : Bool) → Type 0
   forward_by rest input s calls t true opens = back_to rest input calls t
   forward_by rest input s calls t false true = rest input t (plus s.pc 4 ∷ calls)
   forward_by rest input s calls t false false = Onward s.pc input t × rest input t calls
 
-  abbrev pub forward_to : (rest : List ℕ → State → (calls : List ℕ) → Type 0) → (input : List ℕ) → State → (calls : List ℕ) → Outcome → Type 0
+  abbrev pub forward_to : (rest : List ℕ → State → (calls : List ℕ) → Type 0)
+      → (input : List ℕ) → State → (calls : List ℕ) → Outcome → Type 0
   forward_to rest input s calls (Next t) =
-      let i = instruction_at s in forward_by rest input s calls t (returns i) (writes_link i && is_one_of addresses t.pc)
+      let i = instruction_at s in
+      forward_by rest input s calls t (returns i) (writes_link i && is_one_of addresses t.pc)
   forward_to rest input s calls (Written a len bytes t) = Onward s.pc input t × rest input t calls
   forward_to rest input s calls (Asked a) =
-      let t = given s (slice_get input 0) in Onward s.pc (drop 1 input) t × rest (drop 1 input) t calls
+      let t = given s (slice_get input 0) in
+      Onward s.pc (drop 1 input) t × rest (drop 1 input) t calls
   forward_to rest input s calls (Ended code) = Unit {0}
   forward_to rest input s calls (Trapped kind) = ⊥
 
-  -- the run goes forward for so many steps; `calls` are the addresses behind the calls that are open, the last call first
+  -- the run goes forward for so many steps; `calls` are the addresses behind the calls that are
+  -- open, the last call first
   unfoldable pub Forward : ℕ → (input : List ℕ) → State → (calls : List ℕ) → Type 0
   Forward zero input s calls = Unit {0}
   Forward (suc m) input s calls = forward_to (λ i t c. Forward m i t c) input s calls (step s)

@@ -1,5 +1,6 @@
-//! How the machine runs the code of a compiler: code that stands in memory is done, stretches of a run join, and
-//! straight-line code, jumps, branches and calls do what they say. All of it is laws, for the proofs of code generators.
+//! How the machine runs the code of a compiler: code that stands in memory is done, stretches of a
+//! run join, and straight-line code, jumps, branches and calls do what they say. All of it is laws,
+//! for the proofs of code generators.
 #![tactic(auto)]
 
 ghost use Rattle.rv32_steps.specs.Laws.{StretchesJoin, StretchesKeepTheInput, CodeStands, InstructionsAct, StraightCodeRuns, ZerosAreWords, BytesAreWritten, BytesAreAsked, BytesAreTaken, JumpsGo, ReturnsGoBack, BranchesGo, BranchesStay, WriteCallsWrite, ReadCallsTake, ReadCallsEnd, ExitCallsEnd};
@@ -10,13 +11,14 @@ pub fn stretches_join()
     ensures input { StretchesKeepTheInput }
 {}
 
-/// In a segment of the words of instructions these instructions stand, one each four bytes: a step does each.
+/// In a segment of the words of instructions these instructions stand, one each four bytes: a step
+/// does each.
 pub fn code_stands()
     ensures { CodeStands }
 {}
 
-/// Straight-line code over registers, heap and stack is done to its end, one step each instruction, and each instruction
-/// does the same wherever it stands. A segment of zeros is one of words.
+/// Straight-line code over registers, heap and stack is done to its end, one step each instruction,
+/// and each instruction does the same wherever it stands. A segment of zeros is one of words.
 pub fn straight_code_runs()
     ensures each { InstructionsAct }
     ensures all { StraightCodeRuns }
@@ -31,8 +33,8 @@ pub fn jumps_go()
     ensures not_taken { BranchesStay }
 {}
 
-/// A call of one byte finds it in a word: a write call writes the low byte of the word, and a read call puts the byte where
-/// a word is zero.
+/// A call of one byte finds it in a word: a write call writes the low byte of the word, and a read
+/// call puts the byte where a word is zero.
 pub fn bytes_stand_in_words()
     ensures written { BytesAreWritten }
     ensures asked { BytesAreAsked }

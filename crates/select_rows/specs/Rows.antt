@@ -10,7 +10,8 @@ use Rattle.low_code.specs.Size.{AtMostTwoTests, low_all, calls_of}
 
 abbrev pub AreFew : List Procedure → Type 0
 AreFew [] = Unit {0}
-AreFew (q ∷ qs) = ((length q.params ≤ 16) × (q.results ≤ 13) × (length (variables q) ≤ 1000)) × AreFew qs
+AreFew (q ∷ qs) =
+    ((length q.params ≤ 16) × (q.results ≤ 13) × (length (variables q) ≤ 1000)) × AreFew qs
 
 pub record IsRow (l : Program) : Type 0 where
   pub formed : Formed l
@@ -51,7 +52,8 @@ takes = procedure [] 0 (put (Num 97) (take (0 ∷ []) (tail 0 0 [])))
 abbrev pub nests : Procedure
 nests = procedure [] 0 (put (Num 98) (call 0 0 [] [] (give [])))
 
--- makes a list of the numbers from 10 to 1 behind a list, adds them up, writes the sum, and a mark where it is 55
+-- makes a list of the numbers from 10 to 1 behind a list, adds them up, writes the sum, and a mark
+-- where it is 55
 abbrev pub main : Procedure
 main = procedure (0 ∷ []) 0
     (call 1 0 (Num 10 ∷ Var 0 ∷ []) (1 ∷ []) (call 2 1 (Var 1 ∷ []) (2 ∷ [])
@@ -85,4 +87,10 @@ digit = procedure (19 ∷ []) 0 (prim Add 20 (Var 19) (Num 48) (put (Var 20) (gi
 
 -- the list that has nothing is the one global, with the tag 0
 abbrev pub sums : Program
-sums = record { procs = main ∷ count ∷ sum ∷ show ∷ digit ∷ []; start = 0; argument = Some 0; globals = 0 ∷ []; width = 3 }
+sums = record {
+  procs = main ∷ count ∷ sum ∷ show ∷ digit ∷ [];
+  start = 0;
+  argument = Some 0;
+  globals = 0 ∷ [];
+  width = 3;
+}

@@ -10,7 +10,8 @@ use low_code::{Low, LowProc, LowStmt, Operand, PrimOp};
 use seq::Seq;
 use std::alloc::{AllocError, Global};
 
-/// Makes a list of the numbers from 10 to 1 behind a list, adds them up, writes the sum, and a mark where it is 55.
+/// Makes a list of the numbers from 10 to 1 behind a list, adds them up, writes the sum, and a mark
+/// where it is 55.
 fn main(alloc: Global) -> Result<LowProc, AllocError>
     ensures { IfOk result (λ q. procedure_of q ≡ main_tree) }
 {

@@ -15,3 +15,8 @@ and_then (Some a) k = k a
 abbrev pub each : {A B : Type 0} → (A → Option B) → List A → Option (List B)
 each f [] = Some []
 each f (a ∷ as') = and_then (f a) (λ b. and_then (each f as') (λ bs. Some (b ∷ bs)))
+
+-- an item stands in a list
+pub data In {X : Type 0} : X → List X → Type 0 where
+  here : {x : X} {xs : List X} → In x (x ∷ xs)
+  there : {x y : X} {xs : List X} → In x xs → In x (y ∷ xs)

@@ -4,7 +4,8 @@ ghost use Rattle.std.specs.Option.{option_copied};
 use std::alloc::{AllocError, Global};
 use std::marker::Model;
 
-/// A list of items, which contracts see as the list itself. It is made from a `Vec`, and gives it back, without memory.
+/// A list of items, which contracts see as the list itself. It is made from a `Vec`, and gives it
+/// back, without memory.
 #[derive(Debug, Drop)]
 pub struct Seq<T> {
     items: Vec<T>,
@@ -88,7 +89,8 @@ impl<T> Seq<T> {
 }
 
 impl<T: Drop> Seq<T> {
-    /// Puts an item at the end. Where memory is wanting the list stays as it was, and the item is dropped.
+    /// Puts an item at the end. Where memory is wanting the list stays as it was, and the item is
+    /// dropped.
     pub fn push(&mut self, item: T) -> Result<(), AllocError>
         ensures ok { OnOk result (self.new ≡ self.old ++ item ∷ []) }
         ensures err { OnErr result (self.new ≡ self.old) }
@@ -97,7 +99,8 @@ impl<T: Drop> Seq<T> {
         Ok(())
     }
 
-    /// Moves the items of `more` to the end. Where memory is wanting the list stays as it was, and `more` is dropped.
+    /// Moves the items of `more` to the end. Where memory is wanting the list stays as it was, and
+    /// `more` is dropped.
     pub fn append(&mut self, more: Seq<T>) -> Result<(), AllocError>
         ensures ok { OnOk result (self.new ≡ self.old ++ more) }
         ensures err { OnErr result (self.new ≡ self.old) }

@@ -1,4 +1,5 @@
-//! Rows for the stages: programs that were worked by hand, their listings, and the sizes of large ones.
+//! Rows for the stages: programs that were worked by hand, their listings, and the sizes of large
+//! ones.
 #![tactic(auto)]
 
 #[cfg(test)]

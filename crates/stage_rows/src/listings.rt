@@ -5,7 +5,8 @@ use grin_syntax::{VarId, copy, list};
 use grin_text::program;
 use std::test::Fail;
 
-// What the translation makes of `data Nil 0; data Cons 2; main = Nil;`, with other numbers for its variables.
+// What the translation makes of `data Nil 0; data Cons 2; main = Nil;`, with other numbers for its
+// variables.
 const PRINTING: &str = "\
 tags CInt/1 CNil/0 CCons/2 Fmain/0
 global main = (Fmain)
@@ -144,7 +145,8 @@ fn a_copy_has_the_same_listing(rt: HostRuntime) -> Result<(), Fail> {
     Ok(())
 }
 
-// The first procedure binds no variable past number 81, so that those of the second one have the numbers 83 to 85.
+// The first procedure binds no variable past number 81, so that those of the second one have the
+// numbers 83 to 85.
 #[test]
 fn fresh_variables_follow_all_others(rt: HostRuntime) -> Result<(), Fail> {
     let mut procs = program(rt.alloc(), ALL)?.procs.into_vec();

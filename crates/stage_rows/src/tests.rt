@@ -47,7 +47,8 @@ fn expanded(alloc: Global, text: &str) -> Result<u64, Fail> {
     Ok(expanded_size(&g, &flow))
 }
 
-/// The size of the largest procedure of a text's program once it is inlined: each is measured alone, by the solution of all.
+/// The size of the largest procedure of a text's program once it is inlined: each is measured
+/// alone, by the solution of all.
 fn largest(alloc: Global, text: &str) -> Result<u64, Fail> {
     let p = checked(alloc, text)?;
     let mut g = translate(alloc, &p)?;
@@ -63,8 +64,8 @@ fn largest(alloc: Global, text: &str) -> Result<u64, Fail> {
     Ok(largest)
 }
 
-/// A text in which k functions are delayed, and each of their results is given to one function. Once inlined, its program
-/// has the size 9 k k + 14 k + 42.
+/// A text in which k functions are delayed, and each of their results is given to one function.
+/// Once inlined, its program has the size 9 k k + 14 k + 42.
 pub(crate) fn many_delayed(alloc: Global, k: u32) -> Result<String, AllocError> {
     let mut text = String::from_str(alloc, LISTS)?;
     for i in 0..k {

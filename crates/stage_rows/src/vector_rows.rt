@@ -1,4 +1,5 @@
-//! Stages with vectors in place of node variables: one that was worked by hand, and those of small and large programs.
+//! Stages with vectors in place of node variables: one that was worked by hand, and those of small
+//! and large programs.
 
 use crate::tests::{LISTS, checked, listed, many_delayed};
 use grin_opt::PassName;

@@ -1,5 +1,5 @@
-//! Copies the standard input to the standard output, three bytes at a time, through the adapters of the system's streams,
-//! and says on the standard error that all was copied.
+//! Copies the standard input to the standard output, three bytes at a time, through the adapters of
+//! the system's streams, and says on the standard error that all was copied.
 #![tactic(auto)]
 
 use grin_io::{Failed, Sink, Source, StdErr, StdIn, StdOut};

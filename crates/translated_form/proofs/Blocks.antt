@@ -21,7 +21,7 @@ use Rattle.grin_translate.specs.Blocks.{local, temp, cell_of, as_act, temps, giv
 use Rattle.grin_translate.specs.Blocks as blocks
 use Rattle.grin_translate.specs.Pieces.{result_of, evaluated_of}
 use Rattle.grin_translate.specs.Translation.{tr}
-use Rattle.grin_translate.specs.WellFormed.{In, InGroup, FormOk, TermOk, BranchesOk}
+use Rattle.grin_translate.specs.WellFormed.{InLocals, InGroup, FormOk, TermOk, BranchesOk}
 use Rattle.grin_translate.proofs.Places.{Has}
 use Rattle.grin_translate.proofs.Found.{has_calls}
 use Rattle.grin_translate.proofs.Expressions.{or_first, or_second, any_has, Waits, WaitsIn}
@@ -129,7 +129,7 @@ module _ (p : Program) (base : ℕ) where
     arms_formed NoMore v t S scope scoped hv ok waits = (tt, tt, tt)
     arms_formed (OnCon c xs e rest) v t S scope scoped hv ok waits = (
       constructor_known p c (length xs) ok.0,
-      block_formed e t (λ x. S x ⊎ In xs x) (with_words (numbers_of (map (local p base) xs)) scope) (scoped_fields p base xs scoped) ok.1 (λ d i. waits d (or_first _ _ i)),
+      block_formed e t (λ x. S x ⊎ InLocals xs x) (with_words (numbers_of (map (local p base) xs)) scope) (scoped_fields p base xs scoped) ok.1 (λ d i. waits d (or_first _ _ i)),
       arms_formed rest v (t + temps e) S scope scoped hv ok.2 (λ d i. waits d (or_second (delays_in d e) _ i)),
     )
     arms_formed (OnInt k e rest) v t S scope scoped hv ok waits =

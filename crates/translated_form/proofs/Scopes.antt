@@ -8,7 +8,7 @@ use Rattle.grin_syntax.specs.Formed.{InScope}
 use Rattle.grin_syntax.proofs.Scopes.{first_in}
 use Rattle.grin_translate.specs.Tags.{numbers_from}
 use Rattle.grin_translate.specs.Blocks.{local, cell_of}
-use Rattle.grin_translate.specs.WellFormed.{In, InGroup}
+use Rattle.grin_translate.specs.WellFormed.{InLocals, InGroup}
 use Rattle.grin_translate.proofs.Places.{Has, has_number_from}
 
 pub in_this : (x y : ℕ) (scope : List ℕ) → x ≡ y → InScope (y ∷ scope) x
@@ -33,15 +33,15 @@ module _ (p : Program) (base : ℕ) where
       by_case x (inl s) = in_later (local p base x).0 (local p base y).0 scope (b.each x s)
       by_case x (inr e) = in_this (local p base x).0 (local p base y).0 scope (ap (λ z. (local p base z).0) e)
 
-  among_fields : (x : ℕ) (xs scope : List ℕ) → In xs x → InScope (numbers_of (map (local p base) xs) ++ scope) (local p base x).0
+  among_fields : (x : ℕ) (xs scope : List ℕ) → InLocals xs x → InScope (numbers_of (map (local p base) xs) ++ scope) (local p base x).0
   among_fields x [] scope h = absurd h
   among_fields x (y ∷ xs) scope (inl e) = in_this (local p base x).0 (local p base y).0 _ (ap (λ z. (local p base z).0) e)
   among_fields x (y ∷ xs) scope (inr h) = in_later (local p base x).0 (local p base y).0 _ (among_fields x xs scope h)
 
-  pub scoped_fields : {S : ℕ → Type 0} {scope : List ℕ} (xs : List ℕ) → Scoped S scope → Scoped (λ x. S x ⊎ In xs x) (numbers_of (map (local p base) xs) ++ scope)
+  pub scoped_fields : {S : ℕ → Type 0} {scope : List ℕ} (xs : List ℕ) → Scoped S scope → Scoped (λ x. S x ⊎ InLocals xs x) (numbers_of (map (local p base) xs) ++ scope)
   scoped_fields {S} {scope} xs b = record { each = λ x h. by_case x h }
     where
-      by_case : (x : ℕ) → S x ⊎ In xs x → InScope (numbers_of (map (local p base) xs) ++ scope) (local p base x).0
+      by_case : (x : ℕ) → S x ⊎ InLocals xs x → InScope (numbers_of (map (local p base) xs) ++ scope) (local p base x).0
       by_case x (inl s) = in_right (local p base x).0 (numbers_of (map (local p base) xs)) scope (b.each x s)
       by_case x (inr h) = among_fields x xs scope h
 

@@ -8,7 +8,8 @@ use Rattle.grin_meaning.specs.Ready.{most_fields, most_value_fields}
 use Rattle.flow_system.specs.Covers.{Started}
 use Rattle.grin_translate.specs.Translation.{tr}
 
--- each variable is bound once and before its uses, each site stands once, and what is named is there
+-- each variable is bound once and before its uses, each site stands once, and what is named is
+-- there
 abbrev pub ValidTranslationsAreFormed : Type 0
 ValidTranslationsAreFormed = (p : core.Program) → IsValid p → Formed (tr p)
 
@@ -16,7 +17,8 @@ ValidTranslationsAreFormed = (p : core.Program) → IsValid p → Formed (tr p)
 abbrev pub ValidTranslationsAreStarted : Type 0
 ValidTranslationsAreStarted = (p : core.Program) → IsValid p → Started (tr p)
 
--- procedures with few parameters, and tags with few fields; beside the fields of a value there is room for its tag
+-- procedures with few parameters, and tags with few fields; beside the fields of a value there is
+-- room for its tag
 pub record HasFewWords (g : Program) : Type 0 where
   pub few_params : AllOf (λ q. length q.params ≤ 13) g.procs
   pub few_fields : most_fields g.tags ≤ 13

@@ -8,6 +8,7 @@ pub mod Rounding
 pub mod Same
 pub mod Shape
 pub mod SoFar
+pub mod Stays
 pub mod Sweeping
 pub mod Well
 pub mod PassContract

@@ -12,12 +12,12 @@ use Rattle.grin_syntax.specs.declared.program.Target.{Target}
 use Rattle.grin_syntax.specs.declared.program.Target.TheVariants as to
 use Rattle.grin_syntax.specs.Tree.{Code, end, store, bind, Act, unit, fetch, fetch_word, update, eval, apply, call, prim, read, write, case, nested, fail, Arms, no_arm, arm, Procedure, Program}
 use Rattle.grin_syntax.specs.Binders.{times, numbers_of, target_vars, shape_vars, cell_vars, act_vars, code_vars, arms_vars, procs_vars}
-use Rattle.grin_syntax.specs.Formed.{AllOf, Formed}
+use Rattle.grin_syntax.specs.Formed.{Formed}
 use Rattle.grin_syntax.proofs.Counted.{times_append}
 use Rattle.grin_meaning.specs.Values.{Datum, number, tag, Value, words, Env, HeapCell, World, missing, and_then, gives, stops, need, Binding, with_vars, one_each, fits, fit_of, word_of, bindings_of}
 use Rattle.grin_meaning.specs.Run.{Calls, act_by, places, cells_of, looking, nth_or_zero}
 use Rattle.grin_meaning.specs.Checks.{has_block, is_given, fills, all_fill, is_bound_well}
-use Rattle.grin_meaning.specs.Ready.{EachAct, EachCode, EachArms, Any as Free, Inlined, NoNodeTarget, NoNodeVar, BindsNothing}
+use Rattle.grin_meaning.specs.Ready.{EachAct, EachCode, EachArms, NoNodeTarget, EachBody, inlined_kind, vectorised_kind}
 use Rattle.grin_meaning.specs.Follows.{Same, same, Every}
 use Rattle.grin_meaning.specs.Keeps.{world_of, Keeps}
 use Rattle.grin_meaning.specs.Looking.{look, NeverMissed}
@@ -324,7 +324,7 @@ module _ (g : Program) (A : Solution) (M : Procedures) where
     mutual
       unfolding unbox_act act_calls IntAct EachAct act_vars ActClosed
 
-      act_like : (bare : Bool) (o : Act) → Ends bare o → EachAct Inlined Free Free Free o → EachAct Free NoNodeTarget NoNodeVar BindsNothing o → Once (act_vars o) → ActClosed A M o
+      act_like : (bare : Bool) (o : Act) → Ends bare o → EachAct inlined_kind o → EachAct vectorised_kind o → Once (act_vars o) → ActClosed A M o
           → ActFollows it R (EndGives bare) o (unbox_act M bare o)
       act_like bare (case v as') l i u n k = case_like v as' (unbox_arms M bare as') (arms_like bare as' (case_ends bare v as' l) i.2 u.2 n k)
       act_like bare (nested b) l i u n k = nested_follows it b (unbox_code M bare b) (code_like bare b (nested_ends bare b l) i.1 u.1 n k)
@@ -348,7 +348,7 @@ module _ (g : Program) (A : Solution) (M : Procedures) where
       act_like false read l i u n k = silent read tt
       act_like false (write a) l i u n k = silent (write a) tt
 
-      code_like : (bare : Bool) (b : Code) → CodeEnds bare b → EachCode Inlined Free Free Free b → EachCode Free NoNodeTarget NoNodeVar BindsNothing b → Once (code_vars b) → CodeClosed A M b
+      code_like : (bare : Bool) (b : Code) → CodeEnds bare b → EachCode inlined_kind b → EachCode vectorised_kind b → Once (code_vars b) → CodeClosed A M b
           → CodeFollows it R (EndGives bare) b (unbox_code M bare b)
       code_like bare (end o) l i u n k = end_follows it o (unbox_act M bare o) (act_like bare o (end_ends bare o l) i u n k)
       code_like bare (store cs b) l i u n k = store_like cs b (unbox_code M bare b) (code_like bare b (store_ends bare cs b l) i.1 u.1 (once_right (cell_vars cs) (code_vars b) n) k)
@@ -357,7 +357,7 @@ module _ (g : Program) (A : Solution) (M : Procedures) where
           (λ q e. act_like q o e i.1 u.1 (once_left (act_vars o) (code_vars b) (once_right (target_vars t) (act_vars o ++ code_vars b) n)) k.1)
           (code_like bare b (bind_ends bare t o b l) i.2 u.2 (once_right (act_vars o) (code_vars b) (once_right (target_vars t) (act_vars o ++ code_vars b) n)) k.2)
 
-      arms_like : (bare : Bool) (as' : Arms) → ArmsEnd bare as' → EachArms Inlined Free Free Free as' → EachArms Free NoNodeTarget NoNodeVar BindsNothing as' → Once (arms_vars as') → ArmsClosed A M as'
+      arms_like : (bare : Bool) (as' : Arms) → ArmsEnd bare as' → EachArms inlined_kind as' → EachArms vectorised_kind as' → Once (arms_vars as') → ArmsClosed A M as'
           → ArmsFollow it (On R) (EndGives bare) as' (unbox_arms M bare as')
       arms_like bare no_arm l i u n k = no_arm_follows it no_arm
       arms_like bare (arm s b as') l i u n k = arm_like s b (unbox_code M bare b) as' (unbox_arms M bare as')
@@ -376,7 +376,7 @@ module _ (g : Program) (A : Solution) (M : Procedures) where
         go true c = let m : M f ≡ true = k.member c in cc
         go false c = c
 
-    bodies_like : (f : ℕ) (qs : List Procedure) → AllOf (λ q. EachCode Inlined Free Free Free q.body) qs → AllOf (λ q. EachCode Free NoNodeTarget NoNodeVar BindsNothing q.body) qs → Once (procs_vars qs) → ProceduresClosed A M f qs
+    bodies_like : (f : ℕ) (qs : List Procedure) → EachBody inlined_kind qs → EachBody vectorised_kind qs → Once (procs_vars qs) → ProceduresClosed A M f qs
         → BodiesFollow it f qs (unboxed_from M f qs)
     bodies_like f [] i u n k = no_more
     bodies_like f (q ∷ qs) i u n k = one_more {f = f} {q = q} {r = unboxed_procedure M f q} (record {
@@ -387,7 +387,7 @@ module _ (g : Program) (A : Solution) (M : Procedures) where
       given = given_too g (M f);
     }) (bodies_like (suc f) qs i.1 u.1 (once_right (numbers_of q.params ++ code_vars q.body) (procs_vars qs) n) k.1)
 
-  module _ (formed : Formed g) (never : NeverMissed g) (solves : Solves (tables g) (system g) A) (closed : Closed A g M) (inlined : AllOf (λ q. EachCode Inlined Free Free Free q.body) g.procs) (vectors : AllOf (λ q. EachCode Free NoNodeTarget NoNodeVar BindsNothing q.body) g.procs) where
+  module _ (formed : Formed g) (never : NeverMissed g) (solves : Solves (tables g) (system g) A) (closed : Closed A g M) (inlined : EachBody inlined_kind g.procs) (vectors : EachBody vectorised_kind g.procs) where
     all_lie : (i : List ℕ) (n : ℕ) → Every (Lies g A) (world_of (look g i n)).seen
     all_lie i n = subst (λ a. Every (Lies g A) (world_of a).seen) (sym (look_agrees g i n (never i n))) ((covers g A (formed_is_started g formed) solves).passed i n)
 

@@ -1,5 +1,5 @@
 -- What holds of the text of a program.
-use Rattle.std.proofs.Common.{◌≡◌, ℕ, suc, ◌≤◌, Bool, true, false, ◌||◌, List, [], ◌∷◌, ◌++◌, length, refl, sym, ◌∙◌, arith}
+use Rattle.std.proofs.Common.{◌≡◌, ℕ, suc, ◌≤◌, Bool, true, false, List, [], ◌∷◌, ◌++◌, length, refl, sym, ◌∙◌, arith}
 use Rattle.grin_syntax.specs.declared.program.VarId.{VarId}
 use Rattle.grin_syntax.specs.declared.program.Val.{Val}
 use Rattle.grin_syntax.specs.declared.program.Val.TheVariants.{NodeVar, Node, Vector, One}
@@ -7,47 +7,47 @@ use Rattle.grin_syntax.specs.declared.program.Word.{Word}
 use Rattle.grin_syntax.specs.declared.program.Target.{Target}
 use Rattle.grin_syntax.specs.declared.program.Target.TheVariants as to
 use Rattle.grin_syntax.specs.Tree.{Code, end, store, bind, Act, unit, fetch, fetch_word, update, eval, apply, call, prim, read, write, case, nested, fail, Arms, no_arm, arm, Procedure}
-use Rattle.grin_syntax.specs.Binders.{target_vars}
 use Rattle.grin_syntax.specs.Formed.{AllOf}
-use Rattle.grin_meaning.specs.Ready.{EachAct, EachCode, EachArms, Any, Inlined, ByWords, NoNodeTarget, NoNodeVar, BindsNothing, val_width, NarrowAct, NarrowCode, NarrowArms}
+use Rattle.grin_meaning.specs.Ready.{EachAct, EachCode, EachArms, val_width, NarrowAct, NarrowCode, NarrowArms, Kind, EachBody, inlined_kind, by_words_kind, vectorised_kind, narrow_kind}
 use Rattle.flow_system.specs.Solution.{Solution}
-use Rattle.unbox.specs.Ends.{Procedures, act_calls, code_calls, arms_calls, IntAct, IntCode, IntArms}
+use Rattle.unbox.specs.Ends.{Procedures, act_calls, IntAct, IntCode, IntArms}
 use Rattle.unbox.specs.Members.{ActClosed, CodeClosed, ArmsClosed, ProcedureClosed, ProceduresClosed}
 use Rattle.unbox.specs.Unboxing.{given, boxed, bound, unbox_act, unbox_code, unbox_arms, unboxed_from}
-use Rattle.unbox.specs.Unboxed.{OneWordAct, OneWordCode, OneWordArms, BoundAct, BoundCode, BoundArms, OneWordFrom, act_updates, code_updates, arms_updates, updates_of}
+use Rattle.unbox.specs.Unboxed.{OneWordAct, OneWordCode, OneWordArms, BoundAct, BoundCode, BoundArms, OneWordFrom, updates_of}
+use Rattle.unbox.proofs.Stays.{act_stays, code_stays}
 
 module _ (M : Procedures) where
   -- ---- what is asked of each operation, target and value
 
   -- what is asked of an operation does not look into its blocks or at what a unit gives, and what is asked of a target of
   -- two variables or more is met by the two in its place
-  record Blind (OpOk : Act → Type 0) (TargetOk : Target → Type 0) (ValOk : Val → Type 0) : Type 0 where
-    cases : (v : Val) (as' bs' : Arms) → OpOk (case v as') → OpOk (case v bs')
-    blocks : (b b' : Code) → OpOk (nested b) → OpOk (nested b')
-    units : (v : Val) → OpOk (unit v)
-    ones : (a : Word) → ValOk (One a)
-    vectors : (ws : List Word) → ValOk (Vector ws)
-    second : (x y : VarId) (zs : List VarId) → TargetOk (to.Vector (x ∷ y ∷ zs)) → TargetOk (to.One y)
-    others : (x y : VarId) (zs : List VarId) → TargetOk (to.Vector (x ∷ y ∷ zs)) → TargetOk (to.Vector (x ∷ zs))
+  record Blind (K : Kind) : Type 0 where
+    cases : (v : Val) (as' bs' : Arms) → K.operation (case v as') → K.operation (case v bs')
+    blocks : (b b' : Code) → K.operation (nested b) → K.operation (nested b')
+    units : (v : Val) → K.operation (unit v)
+    ones : (a : Word) → K.value (One a)
+    vectors : (ws : List Word) → K.value (Vector ws)
+    second : (x y : VarId) (zs : List VarId) → K.target (to.Vector (x ∷ y ∷ zs)) → K.target (to.One y)
+    others : (x y : VarId) (zs : List VarId) → K.target (to.Vector (x ∷ y ∷ zs)) → K.target (to.Vector (x ∷ zs))
 
-  module _ (OpOk : Act → Type 0) (TargetOk : Target → Type 0) (ValOk : Val → Type 0) (ShapeOk : List ℕ → Type 0) (blind : Blind OpOk TargetOk ValOk) where
+  module _ (K : Kind) (blind : Blind K) where
     abbrev Acts : Act → Type 0
-    Acts = EachAct OpOk TargetOk ValOk ShapeOk
+    Acts = EachAct K
 
     abbrev Codes : Code → Type 0
-    Codes = EachCode OpOk TargetOk ValOk ShapeOk
+    Codes = EachCode K
 
     abbrev AllArms : Arms → Type 0
-    AllArms = EachArms OpOk TargetOk ValOk ShapeOk
+    AllArms = EachArms K
 
-    given_each : (bare : Bool) (v : Val) → ValOk v → ValOk (given bare v)
+    given_each : (bare : Bool) (v : Val) → K.value v → K.value (given bare v)
     given_each true (NodeVar x) h = blind.ones _
     given_each true (Node t ws) h = blind.ones _
     given_each true (Vector ws) h = blind.ones _
     given_each true (One a) h = blind.ones _
     given_each false v h = h
 
-    boxed_each : (t : Target) (o : Act) (b : Code) → TargetOk t → Acts o → Codes b → Codes (boxed t o b)
+    boxed_each : (t : Target) (o : Act) (b : Code) → K.target t → Acts o → Codes b → Codes (boxed t o b)
     unfolding EachAct
     boxed_each to.Nothing o b h ho hb = (h, ho, hb)
     boxed_each (to.Node x) o b h ho hb = (h, ho, hb)
@@ -56,7 +56,7 @@ module _ (M : Procedures) where
     boxed_each (to.Vector (x ∷ [])) o b h ho hb = (h, ho, hb)
     boxed_each (to.Vector (x ∷ y ∷ zs)) o b h ho hb = (blind.second x y zs h, ho, (blind.others x y zs h, (blind.units _, blind.vectors _), hb))
 
-    bound_each : (q : Bool) (t : Target) (o : Act) (b : Code) → TargetOk t → Acts o → Codes b → Codes (bound q t o b)
+    bound_each : (q : Bool) (t : Target) (o : Act) (b : Code) → K.target t → Acts o → Codes b → Codes (bound q t o b)
     unfolding EachAct
     bound_each true t o b h ho hb = boxed_each t o b h ho hb
     bound_each false t o b h ho hb = (h, ho, hb)
@@ -92,17 +92,17 @@ module _ (M : Procedures) where
     procs_each f [] h = tt
     procs_each f (q ∷ qs) h = (code_each (M f) q.body h.0, procs_each (suc f) qs h.1)
 
-  pub procs_inlined : (qs : List Procedure) → AllOf (λ q. EachCode Inlined Any Any Any q.body) qs → AllOf (λ q. EachCode Inlined Any Any Any q.body) (unboxed_from M 0 qs)
-  procs_inlined = procs_each Inlined Any Any Any (record { cases = λ v as' bs' h. tt; blocks = λ b b' h. tt; units = λ v. tt; ones = λ a. tt; vectors = λ ws. tt; second = λ x y zs h. tt; others = λ x y zs h. tt }) 0
+  pub procs_inlined : (qs : List Procedure) → EachBody inlined_kind qs → EachBody inlined_kind (unboxed_from M 0 qs)
+  procs_inlined = procs_each inlined_kind (record { cases = λ v as' bs' h. tt; blocks = λ b b' h. tt; units = λ v. tt; ones = λ a. tt; vectors = λ ws. tt; second = λ x y zs h. tt; others = λ x y zs h. tt }) 0
 
-  pub procs_by_words : (qs : List Procedure) → AllOf (λ q. EachCode ByWords Any Any Any q.body) qs → AllOf (λ q. EachCode ByWords Any Any Any q.body) (unboxed_from M 0 qs)
-  procs_by_words = procs_each ByWords Any Any Any (record { cases = λ v as' bs' h. tt; blocks = λ b b' h. tt; units = λ v. tt; ones = λ a. tt; vectors = λ ws. tt; second = λ x y zs h. tt; others = λ x y zs h. tt }) 0
+  pub procs_by_words : (qs : List Procedure) → EachBody by_words_kind qs → EachBody by_words_kind (unboxed_from M 0 qs)
+  procs_by_words = procs_each by_words_kind (record { cases = λ v as' bs' h. tt; blocks = λ b b' h. tt; units = λ v. tt; ones = λ a. tt; vectors = λ ws. tt; second = λ x y zs h. tt; others = λ x y zs h. tt }) 0
 
-  pub procs_vectorised : (qs : List Procedure) → AllOf (λ q. EachCode Any NoNodeTarget NoNodeVar BindsNothing q.body) qs → AllOf (λ q. EachCode Any NoNodeTarget NoNodeVar BindsNothing q.body) (unboxed_from M 0 qs)
-  procs_vectorised = procs_each Any NoNodeTarget NoNodeVar BindsNothing (record { cases = λ v as' bs' h. tt; blocks = λ b b' h. tt; units = λ v. tt; ones = λ a. tt; vectors = λ ws. tt; second = λ x y zs h. tt; others = λ x y zs h. tt }) 0
+  pub procs_vectorised : (qs : List Procedure) → EachBody vectorised_kind qs → EachBody vectorised_kind (unboxed_from M 0 qs)
+  procs_vectorised = procs_each vectorised_kind (record { cases = λ v as' bs' h. tt; blocks = λ b b' h. tt; units = λ v. tt; ones = λ a. tt; vectors = λ ws. tt; second = λ x y zs h. tt; others = λ x y zs h. tt }) 0
 
-  pub procs_narrow : (most : ℕ) (qs : List Procedure) → AllOf (λ q. EachCode Any (λ t. length (target_vars t) ≤ most) Any Any q.body) qs → AllOf (λ q. EachCode Any (λ t. length (target_vars t) ≤ most) Any Any q.body) (unboxed_from M 0 qs)
-  procs_narrow most = procs_each Any (λ t. length (target_vars t) ≤ most) Any Any
+  pub procs_narrow : (most : ℕ) (qs : List Procedure) → EachBody (narrow_kind most) qs → EachBody (narrow_kind most) (unboxed_from M 0 qs)
+  procs_narrow most = procs_each (narrow_kind most)
       (record { cases = λ v as' bs' h. tt; blocks = λ b b' h. tt; units = λ v. tt; ones = λ a. tt; vectors = λ ws. tt; second = λ x y zs h. omega (arith, h); others = λ x y zs h. omega (arith, h) }) 0
 
   -- ---- results
@@ -162,86 +162,11 @@ module _ (M : Procedures) where
 
   -- ---- updates
 
-  bound_updates : (q : Bool) (t : Target) (o : Act) (b : Code) → code_updates (bound q t o b) ≡ act_updates o ++ code_updates b
-  unfolding act_updates
-  bound_updates false t o b = refl
-  bound_updates true to.Nothing o b = refl
-  bound_updates true (to.Node x) o b = refl
-  bound_updates true (to.One x) o b = refl
-  bound_updates true (to.Vector []) o b = refl
-  bound_updates true (to.Vector (x ∷ [])) o b = refl
-  bound_updates true (to.Vector (x ∷ y ∷ zs)) o b = refl
-
-  mutual
-    unfolding unbox_act act_updates
-
-    act_updates_stay : (bare : Bool) (o : Act) → act_updates (unbox_act M bare o) ≡ act_updates o
-    act_updates_stay bare (case v as') = arms_updates_stay bare as'
-    act_updates_stay bare (nested b) = code_updates_stay bare b
-    act_updates_stay bare (update a v) = refl
-    act_updates_stay bare (unit v) = refl
-    act_updates_stay bare (fetch a) = refl
-    act_updates_stay bare (fetch_word a i) = refl
-    act_updates_stay bare (eval a) = refl
-    act_updates_stay bare (apply v a) = refl
-    act_updates_stay bare (call f ws) = refl
-    act_updates_stay bare (prim f a b) = refl
-    act_updates_stay bare read = refl
-    act_updates_stay bare (write a) = refl
-    act_updates_stay bare fail = refl
-
-    code_updates_stay : (bare : Bool) (b : Code) → code_updates (unbox_code M bare b) ≡ code_updates b
-    code_updates_stay bare (end o) = act_updates_stay bare o
-    code_updates_stay bare (store cs b) = code_updates_stay bare b
-    code_updates_stay bare (bind t o b) = bound_updates (act_calls M o) t (unbox_act M (act_calls M o) o) (unbox_code M bare b) ∙ (λ i. act_updates_stay (act_calls M o) o i ++ code_updates_stay bare b i)
-
-    arms_updates_stay : (bare : Bool) (as' : Arms) → arms_updates (unbox_arms M bare as') ≡ arms_updates as'
-    arms_updates_stay bare no_arm = refl
-    arms_updates_stay bare (arm s b as') = λ i. code_updates_stay bare b i ++ arms_updates_stay bare as' i
-
   pub updates_stay : (f : ℕ) (qs : List Procedure) → updates_of (unboxed_from M f qs) ≡ updates_of qs
   updates_stay f [] = refl
-  updates_stay f (q ∷ qs) = λ i. code_updates_stay (M f) q.body i ++ updates_stay (suc f) qs i
+  updates_stay f (q ∷ qs) = λ i. (code_stays M (M f) q.body).updates i ++ updates_stay (suc f) qs i
 
   -- ---- one word
-
-  bound_calls : (q : Bool) (t : Target) (o : Act) (b : Code) → code_calls M (bound q t o b) ≡ code_calls M b
-  unfolding act_calls
-  bound_calls false t o b = refl
-  bound_calls true to.Nothing o b = refl
-  bound_calls true (to.Node x) o b = refl
-  bound_calls true (to.One x) o b = refl
-  bound_calls true (to.Vector []) o b = refl
-  bound_calls true (to.Vector (x ∷ [])) o b = refl
-  bound_calls true (to.Vector (x ∷ y ∷ zs)) o b = refl
-
-  mutual
-    unfolding unbox_act act_calls
-
-    -- the calls among the ends stay there
-    act_calls_stay : (bare : Bool) (o : Act) → act_calls M (unbox_act M bare o) ≡ act_calls M o
-    act_calls_stay bare (case v as') = arms_calls_stay bare as'
-    act_calls_stay bare (nested b) = code_calls_stay bare b
-    act_calls_stay bare (update a v) = refl
-    act_calls_stay bare (unit v) = refl
-    act_calls_stay bare (fetch a) = refl
-    act_calls_stay bare (fetch_word a i) = refl
-    act_calls_stay bare (eval a) = refl
-    act_calls_stay bare (apply v a) = refl
-    act_calls_stay bare (call f ws) = refl
-    act_calls_stay bare (prim f a b) = refl
-    act_calls_stay bare read = refl
-    act_calls_stay bare (write a) = refl
-    act_calls_stay bare fail = refl
-
-    code_calls_stay : (bare : Bool) (b : Code) → code_calls M (unbox_code M bare b) ≡ code_calls M b
-    code_calls_stay bare (end o) = act_calls_stay bare o
-    code_calls_stay bare (store cs b) = code_calls_stay bare b
-    code_calls_stay bare (bind t o b) = bound_calls (act_calls M o) t (unbox_act M (act_calls M o) o) (unbox_code M bare b) ∙ code_calls_stay bare b
-
-    arms_calls_stay : (bare : Bool) (as' : Arms) → arms_calls M (unbox_arms M bare as') ≡ arms_calls M as'
-    arms_calls_stay bare no_arm = refl
-    arms_calls_stay bare (arm s b as') = λ i. code_calls_stay bare b i || arms_calls_stay bare as' i
 
   module _ (A : Solution) where
     bound_one_word : (q : Bool) (t : Target) (o : Act) (b : Code) → OneWordCode M b → OneWordCode M (bound q t o b)
@@ -283,7 +208,7 @@ module _ (M : Procedures) where
 
     one_word_if : (o : Act) (q : Bool) → act_calls M o ≡ q → (act_calls M o ≡ true → IntAct M A o) → act_calls M (unbox_act M q o) ≡ true → OneWordAct M (unbox_act M q o)
     one_word_if o true e h k = act_one_word o (h e)
-    one_word_if o false e h k = let m : act_calls M o ≡ true = sym (act_calls_stay false o) ∙ k in cc
+    one_word_if o false e h k = let m : act_calls M o ≡ true = sym (act_stays M false o).calls ∙ k in cc
 
     bound_bound : (q : Bool) (t : Target) (o : Act) (b : Code) → (act_calls M o ≡ true → OneWordAct M o) → BoundAct M o → BoundCode M b → BoundCode M (bound q t o b)
     unfolding BoundAct act_calls

@@ -1,5 +1,5 @@
 -- A program stays well formed.
-use Rattle.std.proofs.Common.{◌≡◌, ℕ, zero, suc, ◌+◌, ◌<◌, ◌≤◌, Bool, true, false, List, [], ◌∷◌, ◌++◌, map, length, Some, slice_get, refl, sym, ap, ◌∙◌, subst, arith}
+use Rattle.std.proofs.Common.{◌≡◌, ℕ, zero, suc, ◌+◌, ◌<◌, ◌≤◌, Bool, true, false, List, [], ◌∷◌, ◌++◌, length, Some, slice_get, refl, sym, ap, ◌∙◌, subst, arith}
 use Rattle.grin_syntax.specs.declared.program.VarId.{VarId}
 use Rattle.grin_syntax.specs.declared.program.Tag.{Tag}
 use Rattle.grin_syntax.specs.declared.program.Val.{Val}
@@ -8,12 +8,13 @@ use Rattle.grin_syntax.specs.declared.program.Word.{Word}
 use Rattle.grin_syntax.specs.declared.program.Target.{Target}
 use Rattle.grin_syntax.specs.declared.program.Target.TheVariants as to
 use Rattle.grin_syntax.specs.Tree.{Code, end, store, bind, Act, unit, fetch, fetch_word, update, eval, apply, call, prim, read, write, case, nested, fail, Arms, no_arm, arm, Procedure, Program}
-use Rattle.grin_syntax.specs.Binders.{times, numbers_of, target_vars, shape_vars, cell_vars, act_vars, code_vars, arms_vars, procs_vars, act_sites, code_sites, arms_sites, procs_sites}
+use Rattle.grin_syntax.specs.Binders.{times, numbers_of, target_vars, shape_vars, cell_vars, act_vars, code_vars, arms_vars, procs_vars, procs_sites}
 use Rattle.grin_syntax.specs.Formed.{AllOf, Scope, with_words, with_target, params_scope, WordFormed, ValFormed, Formed, ActFormed, CodeFormed, ArmsFormed, ProcedureFormed}
 use Rattle.grin_syntax.specs.SameOutside.{names_of, SameOutside}
 use Rattle.grin_syntax.proofs.Counted.{times_append}
 use Rattle.grin_syntax.proofs.Scopes.{Fewer, Within, within_self, words_within, target_within, word_stays, words_stay, val_stays, cells_stay, shape_stays, with_procs, known_again, same_sites, formed_with}
 use Rattle.unbox.specs.Ends.{Procedures, act_calls}
+use Rattle.unbox.proofs.Stays.{code_stays}
 use Rattle.unbox.specs.Unboxing.{word_or_zero, given, zeros, boxed, bound, unbox_act, unbox_code, unbox_arms, unboxed_procedure, unboxed_from, unboxed}
 
 -- ---- variables stay, in another order
@@ -92,50 +93,9 @@ module _ (M : Procedures) (x : ℕ) where
 module _ (M : Procedures) where
   -- ---- sites stay
 
-  boxed_sites : (t : Target) (o : Act) (b : Code) → code_sites (boxed t o b) ≡ act_sites o ++ code_sites b
-  unfolding act_sites
-  boxed_sites to.Nothing o b = refl
-  boxed_sites (to.Node y) o b = refl
-  boxed_sites (to.One y) o b = refl
-  boxed_sites (to.Vector []) o b = refl
-  boxed_sites (to.Vector (a ∷ [])) o b = refl
-  boxed_sites (to.Vector (a ∷ c ∷ zs)) o b = refl
-
-  bound_sites : (q : Bool) (t : Target) (o : Act) (b : Code) → code_sites (bound q t o b) ≡ act_sites o ++ code_sites b
-  unfolding act_sites
-  bound_sites true t o b = boxed_sites t o b
-  bound_sites false t o b = refl
-
-  mutual
-    unfolding unbox_act act_sites
-
-    act_sites_stay : (bare : Bool) (o : Act) → act_sites (unbox_act M bare o) ≡ act_sites o
-    act_sites_stay bare (case v as') = arms_sites_stay bare as'
-    act_sites_stay bare (nested b) = code_sites_stay bare b
-    act_sites_stay bare (update a v) = refl
-    act_sites_stay bare (unit v) = refl
-    act_sites_stay bare (fetch a) = refl
-    act_sites_stay bare (fetch_word a i) = refl
-    act_sites_stay bare (eval a) = refl
-    act_sites_stay bare (apply v a) = refl
-    act_sites_stay bare (call f ws) = refl
-    act_sites_stay bare (prim f a b) = refl
-    act_sites_stay bare read = refl
-    act_sites_stay bare (write a) = refl
-    act_sites_stay bare fail = refl
-
-    code_sites_stay : (bare : Bool) (b : Code) → code_sites (unbox_code M bare b) ≡ code_sites b
-    code_sites_stay bare (end o) = act_sites_stay bare o
-    code_sites_stay bare (store cs b) = ap (λ t. map (λ c. c.site.0) cs ++ t) (code_sites_stay bare b)
-    code_sites_stay bare (bind t o b) = bound_sites (act_calls M o) t (unbox_act M (act_calls M o) o) (unbox_code M bare b) ∙ (λ i. act_sites_stay (act_calls M o) o i ++ code_sites_stay bare b i)
-
-    arms_sites_stay : (bare : Bool) (as' : Arms) → arms_sites (unbox_arms M bare as') ≡ arms_sites as'
-    arms_sites_stay bare no_arm = refl
-    arms_sites_stay bare (arm s b as') = λ i. code_sites_stay bare b i ++ arms_sites_stay bare as' i
-
   sites_stay : (f : ℕ) (qs : List Procedure) → procs_sites (unboxed_from M f qs) ≡ procs_sites qs
   sites_stay f [] = refl
-  sites_stay f (q ∷ qs) = λ i. code_sites_stay (M f) q.body i ++ sites_stay (suc f) qs i
+  sites_stay f (q ∷ qs) = λ i. (code_stays M (M f) q.body).sites i ++ sites_stay (suc f) qs i
 
   names_stay : (f : ℕ) (qs : List Procedure) → names_of (unboxed_from M f qs) ≡ names_of qs
   names_stay f [] = refl

@@ -201,7 +201,8 @@ fn put_bound(
     put(target, op, out)
 }
 
-// Puts a statement that binds a number without its tag, and one that puts the tag and zeros beside it.
+// Puts a statement that binds a number without its tag, and one that puts the tag and zeros beside
+// it.
 fn put_boxed(alloc: Global, target: Target, op: Op, out: &mut Seq<Stmt>) -> Result<(), AllocError>
     ensures { OnOk result ((c : Code) → all_before (map before_of out.new) c
         ≡ all_before (map before_of out.old) (boxed target (act_of op) c)) }

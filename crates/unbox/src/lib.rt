@@ -1,5 +1,5 @@
-//! A pass: procedures that give numbers alone give them without their tag, and where such a number is bound, the tag is put
-//! beside it.
+//! A pass: procedures that give numbers alone give them without their tag, and where such a number
+//! is bound, the tag is put beside it.
 #![tactic(auto)]
 
 mod blocks;

@@ -71,7 +71,8 @@ impl Members {
         changed
     }
 
-    // Heeds each tie, the last one first, so that chains of ends that call each other take few rounds.
+    // Heeds each tie, the last one first, so that chains of ends that call each other take few
+    // rounds.
     fn back(&mut self, ties: &[Tie])
         ensures sound { (T : Procedures) → AllOf (Heeds T) ties.now → Within T self.old.inside
             → Within T self.new.inside }
@@ -108,7 +109,8 @@ fn all_inside(alloc: Global, count: usize) -> Result<Members, AllocError>
     Ok(Members { inside })
 }
 
-/// The members among so many procedures with these ties: procedures are taken out until a round takes out none.
+/// The members among so many procedures with these ties: procedures are taken out until a round
+/// takes out none.
 pub(crate) fn members(alloc: Global, count: usize, ties: &[Tie]) -> Result<Members, AllocError>
     ensures { IfOk result (λ m. IsGreatest count ties.now (is_member m.inside)) }
 {

@@ -21,9 +21,9 @@ use points_to::Flow;
 use seq::Seq;
 use std::alloc::{AllocError, Global};
 
-/// A procedure whose results have exactly the tag CInt, by the least solution of the program's own flow system, gives the
-/// number alone, where its ends and those of its callers allow it. Where such a result is bound, the tag and the zeros of
-/// its vector are put beside the number.
+/// A procedure whose results have exactly the tag CInt, by the least solution of the program's own
+/// flow system, gives the number alone, where its ends and those of its callers allow it. Where
+/// such a result is bound, the tag and the zeros of its vector are put beside the number.
 pub struct Unbox;
 
 impl Pass for Unbox {

@@ -247,8 +247,8 @@ fn body_tie(alloc: Global, flow: &Flow, f: ProcId, proc: &Proc) -> Result<Tie, A
     })
 }
 
-/// A tie for the ends of each procedure's body and of each bound operation. More procedures than can be numbered are want of
-/// memory.
+/// A tie for the ends of each procedure's body and of each bound operation. More procedures than
+/// can be numbered are want of memory.
 pub(crate) fn ties(alloc: Global, flow: &Flow, procs: &[Proc]) -> Result<Seq<Tie>, AllocError>
     ensures { IfOk result (λ ts. ts ≡ ties_from (found flow.now) 0 (map procedure_of procs.now)) }
 {

@@ -6,15 +6,13 @@ use Rattle.grin_syntax.specs.declared.program.VarId.{VarId}
 use Rattle.grin_syntax.specs.declared.program.Val.{Val}
 use Rattle.grin_syntax.specs.declared.program.Val.TheVariants.{NodeVar, Node, Vector, One}
 use Rattle.grin_syntax.specs.declared.program.Word.{Word}
-use Rattle.grin_syntax.specs.declared.program.Target.{Target}
 use Rattle.grin_syntax.specs.Tree.{Code, end, store, bind, Act, unit, fetch, fetch_word, update, eval, apply, call, prim, read, write, case, nested, fail, Arms, no_arm, arm, Procedure}
-use Rattle.grin_syntax.specs.Binders.{target_vars}
 use Rattle.grin_syntax.specs.Formed.{AllOf}
 use Rattle.grin_meaning.specs.Rewritten.{rewritten_procedure}
-use Rattle.grin_meaning.specs.Ready.{EachAct, EachCode, EachArms, Any, Inlined, ByWords, NoNodeTarget, NoNodeVar, BindsNothing, NarrowAct, NarrowCode, NarrowArms}
+use Rattle.grin_meaning.specs.Ready.{EachAct, EachCode, EachArms, NoNodeVar, NarrowAct, NarrowCode, NarrowArms, Kind, EachBody, inlined_kind, by_words_kind, vectorised_kind, narrow_kind}
 use Rattle.pass_ground.specs.OpenUpdates.{tag_variable, act_sum, code_sum, arms_sum, procs_sum, one_if_some}
 use Rattle.update_special.specs.Updates.{most_tags, tagged, update_arms, specialised, update_act, update_code, update_all}
-use Rattle.update_special.specs.Updated.{LiteralOrMany, one_if_wide}
+use Rattle.update_special.specs.Updated.{one_if_wide, literal_kind}
 
 no_variable : (v : Val) (t : ℕ) → tag_variable (tagged t v) ≡ None
 no_variable (NodeVar x) t = refl
@@ -27,29 +25,29 @@ module _ (T : ℕ → List ℕ) where
   -- ---- what is asked of each operation and each value stays so
 
   -- what is asked of an operation does not look into its blocks, and what is asked of an update stays so with a literal tag
-  record Blind (OpOk : Act → Type 0) (ValOk : Val → Type 0) : Type 0 where
-    cases : (v v' : Val) (as' bs' : Arms) → OpOk (case v as') → OpOk (case v' bs')
-    blocks : (b b' : Code) → OpOk (nested b) → OpOk (nested b')
-    new_case : (a : Word) (v : Val) (as' : Arms) → OpOk (update a v) → OpOk (case v as')
-    with_tag : (a : Word) (v : Val) (t : ℕ) → OpOk (update a v) → OpOk (update a (tagged t v))
-    values : (v : Val) (t : ℕ) → ValOk v → ValOk (tagged t v)
+  record Blind (K : Kind) : Type 0 where
+    cases : (v v' : Val) (as' bs' : Arms) → K.operation (case v as') → K.operation (case v' bs')
+    blocks : (b b' : Code) → K.operation (nested b) → K.operation (nested b')
+    new_case : (a : Word) (v : Val) (as' : Arms) → K.operation (update a v) → K.operation (case v as')
+    with_tag : (a : Word) (v : Val) (t : ℕ) → K.operation (update a v) → K.operation (update a (tagged t v))
+    values : (v : Val) (t : ℕ) → K.value v → K.value (tagged t v)
 
-  module _ (OpOk : Act → Type 0) (TargetOk : Target → Type 0) (ValOk : Val → Type 0) (ShapeOk : List ℕ → Type 0) (blind : Blind OpOk ValOk) (none_ok : ShapeOk []) where
+  module _ (K : Kind) (blind : Blind K) (none_ok : K.pattern []) where
     abbrev Acts : Act → Type 0
-    Acts = EachAct OpOk TargetOk ValOk ShapeOk
+    Acts = EachAct K
 
     abbrev Codes : Code → Type 0
-    Codes = EachCode OpOk TargetOk ValOk ShapeOk
+    Codes = EachCode K
 
     abbrev All_arms : Arms → Type 0
-    All_arms = EachArms OpOk TargetOk ValOk ShapeOk
+    All_arms = EachArms K
 
-    cases_each : (a : Word) (v : Val) (ts : List ℕ) → OpOk (update a v) → ValOk v → All_arms (update_arms a v ts)
+    cases_each : (a : Word) (v : Val) (ts : List ℕ) → K.operation (update a v) → K.value v → All_arms (update_arms a v ts)
     unfolding EachAct
     cases_each a v [] ho hv = tt
     cases_each a v (t ∷ ts) ho hv = (none_ok, (blind.with_tag a v t ho, blind.values v t hv), cases_each a v ts ho hv)
 
-    special_each : (a : Word) (v : Val) (o : Option VarId) → OpOk (update a v) → ValOk v → Acts (specialised T a v o)
+    special_each : (a : Word) (v : Val) (o : Option VarId) → K.operation (update a v) → K.value v → Acts (specialised T a v o)
     unfolding EachAct
     special_each a v None ho hv = (ho, hv)
     special_each a v (Some x) ho hv = go (nat_le (length (T x.0)) most_tags)
@@ -95,17 +93,17 @@ module _ (T : ℕ → List ℕ) where
   still_no_variable (Vector ws) t h = tt
   still_no_variable (One a) t h = tt
 
-  pub procs_inlined : (qs : List Procedure) → AllOf (λ q. EachCode Inlined Any Any Any q.body) qs → AllOf (λ q. EachCode Inlined Any Any Any q.body) (map (rewritten_procedure (update_code T)) qs)
-  procs_inlined = procs_each Inlined Any Any Any (record { cases = λ v v' as' bs' h. tt; blocks = λ b b' h. tt; new_case = λ a v as' h. tt; with_tag = λ a v t h. tt; values = λ v t h. tt }) tt
+  pub procs_inlined : (qs : List Procedure) → EachBody inlined_kind qs → EachBody inlined_kind (map (rewritten_procedure (update_code T)) qs)
+  procs_inlined = procs_each inlined_kind (record { cases = λ v v' as' bs' h. tt; blocks = λ b b' h. tt; new_case = λ a v as' h. tt; with_tag = λ a v t h. tt; values = λ v t h. tt }) tt
 
-  pub procs_by_words : (qs : List Procedure) → AllOf (λ q. EachCode ByWords Any Any Any q.body) qs → AllOf (λ q. EachCode ByWords Any Any Any q.body) (map (rewritten_procedure (update_code T)) qs)
-  procs_by_words = procs_each ByWords Any Any Any (record { cases = λ v v' as' bs' h. tt; blocks = λ b b' h. tt; new_case = λ a v as' h. tt; with_tag = λ a v t h. tt; values = λ v t h. tt }) tt
+  pub procs_by_words : (qs : List Procedure) → EachBody by_words_kind qs → EachBody by_words_kind (map (rewritten_procedure (update_code T)) qs)
+  procs_by_words = procs_each by_words_kind (record { cases = λ v v' as' bs' h. tt; blocks = λ b b' h. tt; new_case = λ a v as' h. tt; with_tag = λ a v t h. tt; values = λ v t h. tt }) tt
 
-  pub procs_vectorised : (qs : List Procedure) → AllOf (λ q. EachCode Any NoNodeTarget NoNodeVar BindsNothing q.body) qs → AllOf (λ q. EachCode Any NoNodeTarget NoNodeVar BindsNothing q.body) (map (rewritten_procedure (update_code T)) qs)
-  procs_vectorised = procs_each Any NoNodeTarget NoNodeVar BindsNothing (record { cases = λ v v' as' bs' h. tt; blocks = λ b b' h. tt; new_case = λ a v as' h. tt; with_tag = λ a v t h. tt; values = still_no_variable }) refl
+  pub procs_vectorised : (qs : List Procedure) → EachBody vectorised_kind qs → EachBody vectorised_kind (map (rewritten_procedure (update_code T)) qs)
+  procs_vectorised = procs_each vectorised_kind (record { cases = λ v v' as' bs' h. tt; blocks = λ b b' h. tt; new_case = λ a v as' h. tt; with_tag = λ a v t h. tt; values = still_no_variable }) refl
 
-  pub procs_narrow : (most : ℕ) (qs : List Procedure) → AllOf (λ q. EachCode Any (λ t. length (target_vars t) ≤ most) Any Any q.body) qs → AllOf (λ q. EachCode Any (λ t. length (target_vars t) ≤ most) Any Any q.body) (map (rewritten_procedure (update_code T)) qs)
-  procs_narrow most = procs_each Any (λ t. length (target_vars t) ≤ most) Any Any (record { cases = λ v v' as' bs' h. tt; blocks = λ b b' h. tt; new_case = λ a v as' h. tt; with_tag = λ a v t h. tt; values = λ v t h. tt }) tt
+  pub procs_narrow : (most : ℕ) (qs : List Procedure) → EachBody (narrow_kind most) qs → EachBody (narrow_kind most) (map (rewritten_procedure (update_code T)) qs)
+  procs_narrow most = procs_each (narrow_kind most) (record { cases = λ v v' as' bs' h. tt; blocks = λ b b' h. tt; new_case = λ a v as' h. tt; with_tag = λ a v t h. tt; values = λ v t h. tt }) tt
 
   -- ---- results
 
@@ -162,9 +160,9 @@ module _ (T : ℕ → List ℕ) where
   -- ---- literal tags
 
   abbrev Literal : Act → Type 0
-  Literal = EachAct (LiteralOrMany T) Any Any Any
+  Literal = EachAct (literal_kind T)
 
-  literal_cases : (a : Word) (v : Val) (ts : List ℕ) → EachArms (LiteralOrMany T) Any Any Any (update_arms a v ts)
+  literal_cases : (a : Word) (v : Val) (ts : List ℕ) → EachArms (literal_kind T) (update_arms a v ts)
   unfolding EachAct
   literal_cases a v [] = tt
   literal_cases a v (t ∷ ts) = (tt, (subst (λ o. IfSome o (λ x. most_tags < length (T x.0))) (sym (no_variable v t)) tt, tt), literal_cases a v ts)
@@ -196,7 +194,7 @@ module _ (T : ℕ → List ℕ) where
     act_literal (write a) = tt
     act_literal fail = tt
 
-    code_literal : (b : Code) → EachCode (LiteralOrMany T) Any Any Any (update_code T b)
+    code_literal : (b : Code) → EachCode (literal_kind T) (update_code T b)
     code_literal (end o) = act_literal o
     code_literal (store cs b) = (all_any cs, code_literal b)
       where
@@ -205,11 +203,11 @@ module _ (T : ℕ → List ℕ) where
         all_any (x ∷ xs) = (tt, all_any xs)
     code_literal (bind t o b) = (tt, act_literal o, code_literal b)
 
-    arms_literal : (as' : Arms) → EachArms (LiteralOrMany T) Any Any Any (update_all T as')
+    arms_literal : (as' : Arms) → EachArms (literal_kind T) (update_all T as')
     arms_literal no_arm = tt
     arms_literal (arm s b as') = (tt, code_literal b, arms_literal as')
 
-  pub procs_literal : (qs : List Procedure) → AllOf (λ q. EachCode (LiteralOrMany T) Any Any Any q.body) (map (rewritten_procedure (update_code T)) qs)
+  pub procs_literal : (qs : List Procedure) → EachBody (literal_kind T) (map (rewritten_procedure (update_code T)) qs)
   procs_literal [] = tt
   procs_literal (q ∷ qs) = (code_literal q.body, procs_literal qs)
 

@@ -21,95 +21,54 @@ use Rattle.update_special.proofs.Listed.{those_below}
 module _ (T : ℕ → List ℕ) where
   -- ---- no variable and no site is new
 
-  arms_bind_nothing : (a : Word) (v : Val) (ts : List ℕ) → arms_vars (update_arms a v ts) ≡ []
-  unfolding act_vars
-  arms_bind_nothing a v [] = refl
-  arms_bind_nothing a v (t ∷ ts) = arms_bind_nothing a v ts
+  arms_add_nothing : (a : Word) (v : Val) (ts : List ℕ) → (arms_vars (update_arms a v ts) ≡ []) × (arms_sites (update_arms a v ts) ≡ [])
+  unfolding act_vars act_sites
+  arms_add_nothing a v [] = (refl, refl)
+  arms_add_nothing a v (t ∷ ts) = arms_add_nothing a v ts
 
-  special_vars : (a : Word) (v : Val) (o : Option VarId) → act_vars (specialised T a v o) ≡ []
-  unfolding act_vars
-  special_vars a v None = refl
-  special_vars a v (Some x) = go (nat_le (length (T x.0)) most_tags)
+  special_adds_nothing : (a : Word) (v : Val) (o : Option VarId) → (act_vars (specialised T a v o) ≡ []) × (act_sites (specialised T a v o) ≡ [])
+  unfolding act_vars act_sites
+  special_adds_nothing a v None = (refl, refl)
+  special_adds_nothing a v (Some x) = go (nat_le (length (T x.0)) most_tags)
     where
-      go : (b : Bool) → act_vars (cond b (case v (update_arms a v (T x.0))) (update a v)) ≡ []
-      go true = arms_bind_nothing a v (T x.0)
-      go false = refl
-
-  arms_make_nothing : (a : Word) (v : Val) (ts : List ℕ) → arms_sites (update_arms a v ts) ≡ []
-  unfolding act_sites
-  arms_make_nothing a v [] = refl
-  arms_make_nothing a v (t ∷ ts) = arms_make_nothing a v ts
-
-  special_sites : (a : Word) (v : Val) (o : Option VarId) → act_sites (specialised T a v o) ≡ []
-  unfolding act_sites
-  special_sites a v None = refl
-  special_sites a v (Some x) = go (nat_le (length (T x.0)) most_tags)
-    where
-      go : (b : Bool) → act_sites (cond b (case v (update_arms a v (T x.0))) (update a v)) ≡ []
-      go true = arms_make_nothing a v (T x.0)
-      go false = refl
+      go : (b : Bool) → (act_vars (cond b (case v (update_arms a v (T x.0))) (update a v)) ≡ []) × (act_sites (cond b (case v (update_arms a v (T x.0))) (update a v)) ≡ [])
+      go true = arms_add_nothing a v (T x.0)
+      go false = (refl, refl)
 
   mutual
-    unfolding update_act act_vars
+    unfolding update_act act_vars act_sites
 
-    act_vars_stay : (o : Act) → act_vars (update_act T o) ≡ act_vars o
-    act_vars_stay (case v as') = arms_vars_stay as'
-    act_vars_stay (nested b) = code_vars_stay b
-    act_vars_stay (update a v) = special_vars a v (tag_variable v)
-    act_vars_stay (unit v) = refl
-    act_vars_stay (fetch a) = refl
-    act_vars_stay (fetch_word a i) = refl
-    act_vars_stay (eval a) = refl
-    act_vars_stay (apply v a) = refl
-    act_vars_stay (call f ws) = refl
-    act_vars_stay (prim f a b) = refl
-    act_vars_stay read = refl
-    act_vars_stay (write a) = refl
-    act_vars_stay fail = refl
+    act_stays : (o : Act) → (act_vars (update_act T o) ≡ act_vars o) × (act_sites (update_act T o) ≡ act_sites o)
+    act_stays (case v as') = arms_stay as'
+    act_stays (nested b) = code_stays b
+    act_stays (update a v) = special_adds_nothing a v (tag_variable v)
+    act_stays (unit v) = (refl, refl)
+    act_stays (fetch a) = (refl, refl)
+    act_stays (fetch_word a i) = (refl, refl)
+    act_stays (eval a) = (refl, refl)
+    act_stays (apply v a) = (refl, refl)
+    act_stays (call f ws) = (refl, refl)
+    act_stays (prim f a b) = (refl, refl)
+    act_stays read = (refl, refl)
+    act_stays (write a) = (refl, refl)
+    act_stays fail = (refl, refl)
 
-    code_vars_stay : (b : Code) → code_vars (update_code T b) ≡ code_vars b
-    code_vars_stay (end o) = act_vars_stay o
-    code_vars_stay (store cs b) = ap (λ t. cell_vars cs ++ t) (code_vars_stay b)
-    code_vars_stay (bind t o b) = λ i. target_vars t ++ (act_vars_stay o i ++ code_vars_stay b i)
+    code_stays : (b : Code) → (code_vars (update_code T b) ≡ code_vars b) × (code_sites (update_code T b) ≡ code_sites b)
+    code_stays (end o) = act_stays o
+    code_stays (store cs b) = (ap (λ t. cell_vars cs ++ t) (code_stays b).0, ap (λ t. map (λ c. c.site.0) cs ++ t) (code_stays b).1)
+    code_stays (bind t o b) = (λ i. target_vars t ++ ((act_stays o).0 i ++ (code_stays b).0 i), λ i. (act_stays o).1 i ++ (code_stays b).1 i)
 
-    arms_vars_stay : (as' : Arms) → arms_vars (update_all T as') ≡ arms_vars as'
-    arms_vars_stay no_arm = refl
-    arms_vars_stay (arm s b as') = λ i. shape_vars s ++ (code_vars_stay b i ++ arms_vars_stay as' i)
-
-  mutual
-    unfolding update_act act_sites
-
-    act_sites_stay : (o : Act) → act_sites (update_act T o) ≡ act_sites o
-    act_sites_stay (case v as') = arms_sites_stay as'
-    act_sites_stay (nested b) = code_sites_stay b
-    act_sites_stay (update a v) = special_sites a v (tag_variable v)
-    act_sites_stay (unit v) = refl
-    act_sites_stay (fetch a) = refl
-    act_sites_stay (fetch_word a i) = refl
-    act_sites_stay (eval a) = refl
-    act_sites_stay (apply v a) = refl
-    act_sites_stay (call f ws) = refl
-    act_sites_stay (prim f a b) = refl
-    act_sites_stay read = refl
-    act_sites_stay (write a) = refl
-    act_sites_stay fail = refl
-
-    code_sites_stay : (b : Code) → code_sites (update_code T b) ≡ code_sites b
-    code_sites_stay (end o) = act_sites_stay o
-    code_sites_stay (store cs b) = ap (λ t. map (λ c. c.site.0) cs ++ t) (code_sites_stay b)
-    code_sites_stay (bind t o b) = λ i. act_sites_stay o i ++ code_sites_stay b i
-
-    arms_sites_stay : (as' : Arms) → arms_sites (update_all T as') ≡ arms_sites as'
-    arms_sites_stay no_arm = refl
-    arms_sites_stay (arm s b as') = λ i. code_sites_stay b i ++ arms_sites_stay as' i
+    arms_stay : (as' : Arms) → (arms_vars (update_all T as') ≡ arms_vars as') × (arms_sites (update_all T as') ≡ arms_sites as')
+    arms_stay no_arm = (refl, refl)
+    arms_stay (arm s b as') = (λ i. shape_vars s ++ ((code_stays b).0 i ++ (arms_stay as').0 i), λ i. (code_stays b).1 i ++ (arms_stay as').1 i)
 
   vars_stay : (qs : List Procedure) → procs_vars (map (rewritten_procedure (update_code T)) qs) ≡ procs_vars qs
   vars_stay [] = refl
-  vars_stay (q ∷ qs) = λ i. (numbers_of q.params ++ code_vars_stay q.body i) ++ vars_stay qs i
+  vars_stay (q ∷ qs) = λ i. (numbers_of q.params ++ (code_stays q.body).0 i) ++ vars_stay qs i
 
   sites_stay : (qs : List Procedure) → procs_sites (map (rewritten_procedure (update_code T)) qs) ≡ procs_sites qs
   sites_stay [] = refl
-  sites_stay (q ∷ qs) = λ i. code_sites_stay q.body i ++ sites_stay qs i
+  sites_stay (q ∷ qs) = λ i. (code_stays q.body).1 i ++ sites_stay qs i
 
   names_stay : (qs : List Procedure) → names_of (map (rewritten_procedure (update_code T)) qs) ≡ names_of qs
   names_stay [] = refl

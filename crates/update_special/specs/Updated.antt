@@ -1,10 +1,8 @@
 -- What the pass makes of a program.
-use Rattle.std.specs.Prelude.{ℕ, ◌≡◌, ◌+◌, ◌<◌, ◌≤◌, cond, nat_le, List, [], ◌∷◌, length, Option, Some, None, IfSome}
+use Rattle.std.specs.Prelude.{ℕ, ◌≡◌, ◌<◌, ◌≤◌, cond, nat_le, List, length, Option, Some, None, IfSome}
 use Rattle.grin_syntax.specs.declared.program.VarId.{VarId}
-use Rattle.grin_syntax.specs.declared.program.Val.{Val}
-use Rattle.grin_syntax.specs.Tree.{Code, end, store, bind, Act, update, case, nested, Arms, no_arm, arm, Procedure, Program}
-use Rattle.grin_syntax.specs.Formed.{AllOf}
-use Rattle.grin_meaning.specs.Ready.{Any, EachCode}
+use Rattle.grin_syntax.specs.Tree.{Act, update, Program}
+use Rattle.grin_meaning.specs.Ready.{Kind, any_kind, EachBody}
 use Rattle.flow_system.specs.Tables.{tables}
 use Rattle.flow_system.specs.System.{system}
 use Rattle.flow_system.specs.Solution.{Solution, IsLeast}
@@ -19,6 +17,9 @@ use Rattle.update_special.specs.Updates.{most_tags, tags_of, updated}
 abbrev pub LiteralOrMany : (ℕ → List ℕ) → Act → Type 0
 LiteralOrMany T (update a v) = IfSome (tag_variable v) (λ x. most_tags < length (T x.0))
 LiteralOrMany T _ = Unit {0}
+
+abbrev pub literal_kind : (ℕ → List ℕ) → Kind
+literal_kind T = record any_kind { operation = LiteralOrMany T }
 
 -- ---- how many updates are left without a literal tag
 
@@ -39,7 +40,7 @@ wide_updates A p =
 pub record ByTags (A : Solution) (g h : Program) : Type 0 where
   pub literal :
       let T : ℕ → List ℕ = tags_of (length g.tags) A in
-      AllOf (λ q. EachCode (LiteralOrMany T) Any Any Any q.body) h.procs
+      EachBody (literal_kind T) h.procs
   pub left : open_updates h ≡ wide_updates A g
   pub no_more : open_updates h ≤ open_updates g
 

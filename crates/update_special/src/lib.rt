@@ -1,4 +1,5 @@
-//! A pass: an update whose tag word is a variable becomes a case over the tags that the variable may stand for.
+//! A pass: an update whose tag word is a variable becomes a case over the tags that the variable
+//! may stand for.
 #![tactic(auto)]
 
 mod blocks;

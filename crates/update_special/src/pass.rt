@@ -16,9 +16,10 @@ use points_to::Flow;
 use seq::Seq;
 use std::alloc::{AllocError, Global};
 
-/// An update that puts a vector into a cell whose tag is a variable becomes a case over the tags that the least solution of
-/// the program's own flow system has for this variable, in each of whose alternatives the update has a literal tag. Where
-/// there are more than eight such tags, the update stays, so that the program grows by a fixed factor at most.
+/// An update that puts a vector into a cell whose tag is a variable becomes a case over the tags
+/// that the least solution of the program's own flow system has for this variable, in each of whose
+/// alternatives the update has a literal tag. Where there are more than eight such tags, the update
+/// stays, so that the program grows by a fixed factor at most.
 pub struct Updates;
 
 impl Pass for Updates {

@@ -14,7 +14,7 @@ use Rattle.grin_syntax.specs.Formed.{AllOf}
 use Rattle.grin_syntax.specs.Fresh.{variables}
 use Rattle.grin_syntax.specs.SameOutside.{names_of}
 use Rattle.grin_meaning.specs.Checks.{is_fetch}
-use Rattle.grin_meaning.specs.Ready.{Any, Inlined, NoNodeTarget, NoNodeVar, BindsNothing, EachAct, EachCode, EachArms, val_width, NarrowAct, NarrowCode, NarrowArms}
+use Rattle.grin_meaning.specs.Ready.{NoNodeTarget, NoNodeVar, EachAct, EachCode, EachArms, val_width, NarrowAct, NarrowCode, NarrowArms, any_kind, EachBody, inlined_kind, vectorised_kind}
 use Rattle.grin_meaning.specs.Rewritten.{rewritten_procedure}
 use Rattle.grin_meaning.specs.Slim.{val_weight, target_weight, cells_weight, act_weight, code_weight, arms_weight, procs_weight, act_calls, code_calls, arms_calls, procs_calls, node_words, end_words, inner_words, code_words, arms_words}
 use Rattle.vectorise.specs.Known.{Layout, Table, vector_start, room, room_of, as_words, vector_words}
@@ -62,7 +62,7 @@ module _ (l : Layout) (k : Table) where
   mutual
     unfolding wide_act EachAct
 
-    act_gone : (o : Act) → EachAct Any NoNodeTarget NoNodeVar BindsNothing (wide_act l k o)
+    act_gone : (o : Act) → EachAct vectorised_kind (wide_act l k o)
     act_gone (case v as') = (tt, val_gone v, arms_gone as')
     act_gone (nested b) = (tt, code_gone b)
     act_gone (unit v) = (tt, given_gone v)
@@ -77,32 +77,32 @@ module _ (l : Layout) (k : Table) where
     act_gone (write a) = tt
     act_gone fail = tt
 
-    code_gone : (b : Code) → EachCode Any NoNodeTarget NoNodeVar BindsNothing (wide_code l k b)
+    code_gone : (b : Code) → EachCode vectorised_kind (wide_code l k b)
     code_gone (end o) = act_gone o
     code_gone (store cs b) = (cells_gone cs, code_gone b)
     code_gone (bind t o b) = (target_gone (is_fetch o) t, act_gone o, code_gone b)
 
-    arms_gone : (as' : Arms) → EachArms Any NoNodeTarget NoNodeVar BindsNothing (wide_arms l k as')
+    arms_gone : (as' : Arms) → EachArms vectorised_kind (wide_arms l k as')
     arms_gone no_arm = tt
     arms_gone (arm s b as') = (bare_vars s, code_gone b, arms_gone as')
 
-  pub procs_gone : (qs : List Procedure) → AllOf (λ q. EachCode Any NoNodeTarget NoNodeVar BindsNothing q.body) (map (rewritten_procedure (wide_code l k)) qs)
+  pub procs_gone : (qs : List Procedure) → EachBody vectorised_kind (map (rewritten_procedure (wide_code l k)) qs)
   procs_gone [] = tt
   procs_gone (q ∷ qs) = (code_gone q.body, procs_gone qs)
 
   -- ---- no eval and no apply
 
-  any_val : (v : V.Val) → Any v
+  any_val : (v : V.Val) → any_kind.value v
   any_val v = tt
 
-  any_cells : (cs : List Cell) → AllOf (λ c. Any c.val) (wide_cells l k cs)
+  any_cells : (cs : List Cell) → AllOf (λ c. any_kind.value c.val) (wide_cells l k cs)
   any_cells [] = tt
   any_cells (c ∷ cs) = (tt, any_cells cs)
 
   mutual
     unfolding wide_act EachAct
 
-    act_inlined : (o : Act) → EachAct Inlined Any Any Any o → EachAct Inlined Any Any Any (wide_act l k o)
+    act_inlined : (o : Act) → EachAct inlined_kind o → EachAct inlined_kind (wide_act l k o)
     act_inlined (case v as') h = (tt, tt, arms_inlined as' h.2)
     act_inlined (nested b) h = (tt, code_inlined b h.1)
     act_inlined (unit v) h = (tt, tt)
@@ -117,16 +117,16 @@ module _ (l : Layout) (k : Table) where
     act_inlined (write a) h = tt
     act_inlined fail h = tt
 
-    code_inlined : (b : Code) → EachCode Inlined Any Any Any b → EachCode Inlined Any Any Any (wide_code l k b)
+    code_inlined : (b : Code) → EachCode inlined_kind b → EachCode inlined_kind (wide_code l k b)
     code_inlined (end o) h = act_inlined o h
     code_inlined (store cs b) h = (any_cells cs, code_inlined b h.1)
     code_inlined (bind t o b) h = (tt, act_inlined o h.1, code_inlined b h.2)
 
-    arms_inlined : (as' : Arms) → EachArms Inlined Any Any Any as' → EachArms Inlined Any Any Any (wide_arms l k as')
+    arms_inlined : (as' : Arms) → EachArms inlined_kind as' → EachArms inlined_kind (wide_arms l k as')
     arms_inlined no_arm h = tt
     arms_inlined (arm s b as') h = (tt, code_inlined b h.1, arms_inlined as' h.2)
 
-  pub procs_inlined : (qs : List Procedure) → AllOf (λ q. EachCode Inlined Any Any Any q.body) qs → AllOf (λ q. EachCode Inlined Any Any Any q.body) (map (rewritten_procedure (wide_code l k)) qs)
+  pub procs_inlined : (qs : List Procedure) → EachBody inlined_kind qs → EachBody inlined_kind (map (rewritten_procedure (wide_code l k)) qs)
   procs_inlined [] h = tt
   procs_inlined (q ∷ qs) h = (code_inlined q.body h.0, procs_inlined qs h.1)
 

@@ -17,7 +17,7 @@ use Rattle.grin_syntax.proofs.Scopes.{all_get}
 use Rattle.grin_meaning.specs.Values.{Datum, Node, Value, node, words, Env, HeapCell, and_then, Binding, with_vars, one_each, as_node, word_of, value_of, bindings_of}
 use Rattle.grin_meaning.specs.Run.{Calls, places, cells_of, place_of, is_fun_kind, is_some_and}
 use Rattle.grin_meaning.specs.Checks.{has_block, is_fetch, is_node_target, is_delayed, not_delayed, is_given, fills, all_fill, is_bound_well}
-use Rattle.grin_meaning.specs.Ready.{value_fields, most_fields, most_value_fields, Any, Inlined, EachAct, EachCode, EachArms}
+use Rattle.grin_meaning.specs.Ready.{value_fields, most_fields, most_value_fields, EachAct, EachCode, EachArms, EachBody, inlined_kind}
 use Rattle.grin_meaning.specs.Rewritten.{rewritten_procedure}
 use Rattle.grin_meaning.specs.Keeps.{Keeps}
 use Rattle.grin_meaning.specs.Looking.{look, NeverMissed}
@@ -32,7 +32,7 @@ use Rattle.grin_meaning.proofs.Procedures.{nothing, BodyFollows, BodiesFollow, n
 use Rattle.grin_meaning.proofs.KeptBy.{likewise_kept, looking_kept}
 use Rattle.vectorise.specs.Known.{Layout, layout_of, Table, table_of, room, as_word, as_words, field_words}
 use Rattle.vectorise.specs.Vectors.{wide_val, given_val, wide_target, bare, wide_cells, wide_act, wide_code, wide_arms, vectorised}
-use Rattle.vectorise.specs.Whole.{NoVector, NoVectorTarget, GivesNodes, IsWhole}
+use Rattle.vectorise.specs.Whole.{NoVector, NoVectorTarget, IsWhole, whole_kind}
 use Rattle.vectorise.proofs.Noted.{in_left, Once, IsPlain, TargetKnown, ActKnown, CodeKnown, ArmsKnown, ProcedureKnown, all_known, once_words, once_target, once_two, once_third}
 use Rattle.vectorise.proofs.Scoped.{WordIn, params_carry, all_counts, most_value_most, target_carries, target_below, cells_carry, cells_below, fields_carry, fields_below, fields_formed}
 use Rattle.vectorise.proofs.Standing.{Stand, Held, reorder, places_stand, params_stand}
@@ -79,7 +79,7 @@ once_middle scope xs os bs once y =
 target_new : (scope : Scope) (xs ys : List ℕ) → Once scope (xs ++ ys) → (y : ℕ) → InScope xs y → times y scope.nodes + times y scope.words ≡ 0
 target_new scope xs ys once y i = let o : times y scope.nodes + times y scope.words + times y (xs ++ ys) ≤ 1 = once y in let e : times y (xs ++ ys) ≡ times y xs + times y ys = times_append y xs ys in omega (arith, o, e, i)
 
-module _ (g : Program) (formed : Formed g) (never : NeverMissed g) (inlined : AllOf (λ q. EachCode Inlined Any Any Any q.body) g.procs) (whole : IsWhole g) where
+module _ (g : Program) (formed : Formed g) (never : NeverMissed g) (inlined : EachBody inlined_kind g.procs) (whole : IsWhole g) where
   abbrev l : Layout
   l = layout_of g
 
@@ -214,8 +214,8 @@ module _ (g : Program) (formed : Formed g) (never : NeverMissed g) (inlined : Al
     record GoodAct (scope : Scope) (scope' : List ℕ) (o : Act) : Type 0 where
       held : Holds scope scope'
       formed_act : ActFormed g scope o
-      inlined_act : EachAct Inlined Any Any Any o
-      whole_act : EachAct GivesNodes NoVectorTarget NoVector Any o
+      inlined_act : EachAct inlined_kind o
+      whole_act : EachAct whole_kind o
       known_act : ActKnown l K o
       once_act : Once scope (act_vars o)
       past : past_act o ≤ l.base
@@ -223,8 +223,8 @@ module _ (g : Program) (formed : Formed g) (never : NeverMissed g) (inlined : Al
     record GoodCode (scope : Scope) (scope' : List ℕ) (b : Code) : Type 0 where
       held : Holds scope scope'
       formed_code : CodeFormed g scope b
-      inlined_code : EachCode Inlined Any Any Any b
-      whole_code : EachCode GivesNodes NoVectorTarget NoVector Any b
+      inlined_code : EachCode inlined_kind b
+      whole_code : EachCode whole_kind b
       known_code : CodeKnown l K b
       once_code : Once scope (code_vars b)
       past : past_code b ≤ l.base
@@ -233,8 +233,8 @@ module _ (g : Program) (formed : Formed g) (never : NeverMissed g) (inlined : Al
       held : Holds scope scope'
       formed_words : AllOf (WordIn l K g procs same_count scope') ws
       formed_arms : ArmsFormed g scope as'
-      inlined_arms : EachArms Inlined Any Any Any as'
-      whole_arms : EachArms GivesNodes NoVectorTarget NoVector Any as'
+      inlined_arms : EachArms inlined_kind as'
+      whole_arms : EachArms whole_kind as'
       known_arms : ArmsKnown l K ws as'
       once_arms : Once scope (arms_vars as')
       past : past_arms as' ≤ l.base
@@ -415,7 +415,7 @@ module _ (g : Program) (formed : Formed g) (never : NeverMissed g) (inlined : Al
           (params_stand l K g procs same_count q.params xs bs none [] nothing nothing past plain once e none_held nothing_stands),
     )
 
-    body_goes : (f : ℕ) (q : Procedure) → ProcedureFormed g q → EachCode Inlined Any Any Any q.body → EachCode GivesNodes NoVectorTarget NoVector Any q.body → ProcedureKnown l K g q → Once none (numbers_of q.params ++ code_vars q.body) → past_vars q.params ≤ l.base → past_code q.body ≤ l.base
+    body_goes : (f : ℕ) (q : Procedure) → ProcedureFormed g q → EachCode inlined_kind q.body → EachCode whole_kind q.body → ProcedureKnown l K g q → Once none (numbers_of q.params ++ code_vars q.body) → past_vars q.params ≤ l.base → past_code q.body ≤ l.base
         → BodyFollows it f q (rewritten_procedure (wide_code l K) q)
     body_goes f q fq iq wq kq once pq pb = record {
       R = St (params_scope q);
@@ -433,7 +433,7 @@ module _ (g : Program) (formed : Formed g) (never : NeverMissed g) (inlined : Al
       given = λ v v' u seen. (λ e. given_too g l.most_value some_value u (seen e), u);
     }
 
-    bodies_go : (f : ℕ) (qs : List Procedure) → AllOf (ProcedureFormed g) qs → AllOf (λ q. EachCode Inlined Any Any Any q.body) qs → AllOf (λ q. EachCode GivesNodes NoVectorTarget NoVector Any q.body) qs → AllOf (ProcedureKnown l K g) qs
+    bodies_go : (f : ℕ) (qs : List Procedure) → AllOf (ProcedureFormed g) qs → EachBody inlined_kind qs → EachBody whole_kind qs → AllOf (ProcedureKnown l K g) qs
         → ((y : ℕ) → times y (procs_vars qs) ≤ 1) → past_procs qs ≤ l.base → BodiesFollow it f qs (map (rewritten_procedure (wide_code l K)) qs)
     bodies_go f [] fq iq wq kq once past = no_more
     bodies_go f (q ∷ qs) fq iq wq kq once past = one_more {f = f} {q = q} {r = rewritten_procedure (wide_code l K) q} (body_goes f q fq.0 iq.0 wq.0 kq.0 here (omega (arith, past)) (omega (arith, past)))

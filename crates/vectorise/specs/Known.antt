@@ -1,5 +1,6 @@
--- What is known of the variables of a program that is vectorised. The vector of a node variable x is a run of new variables, so many
--- as the longest node has words; the node is in the first of them.
+-- What is known of the variables of a program that is vectorised. The vector of a node variable x
+-- is a run of new variables, so many as the longest node has words; the node is in the first of
+-- them.
 use Rattle.std.specs.Prelude.{ℕ, suc, ◌+◌, ◌*◌, pos, Bool, true, false, cond, List, [], ◌∷◌, map, replicate, Option, Some, None, slice_get, slice_set}
 use Rattle.grin_syntax.specs.declared.program.VarId.{VarId}
 use Rattle.grin_syntax.specs.declared.program.Word as W
@@ -19,7 +20,11 @@ use Rattle.vectorise.specs.declared.known.Known as known
 use Rattle.vectorise.specs.declared.known.Known.TheVariants.{Plain, Fetched, Field}
 
 abbrev pub layout_of : Program → Layout
-layout_of g = record { base = past_procs g.procs; most = most_fields g.tags; most_value = most_value_fields g.tags }
+layout_of g = record {
+  base = past_procs g.procs;
+  most = most_fields g.tags;
+  most_value = most_value_fields g.tags;
+}
 
 abbrev pub Table : Type 0
 Table = List known.Known

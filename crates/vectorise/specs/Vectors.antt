@@ -27,7 +27,8 @@ given_val l k v = wide_val l k v
 
 -- the target of a fetch, or of another operation
 abbrev pub wide_target : Layout → (fetched : Bool) → Target → Target
-wide_target l fetched (to.Node x) = to.Vector (variables (vector_start l x.0) (suc (room l fetched)))
+wide_target l fetched (to.Node x) =
+    to.Vector (variables (vector_start l x.0) (suc (room l fetched)))
 wide_target l fetched t = t
 
 -- patterns bind nothing

@@ -1,11 +1,11 @@
--- Programs in which no part of a node stands by itself: there is no vector, and no unit or fetch gives a word.
+-- Programs in which no part of a node stands by itself: there is no vector, and no unit or fetch
+-- gives a word.
 use Rattle.grin_syntax.specs.declared.program.Val.{Val}
 use Rattle.grin_syntax.specs.declared.program.Val.TheVariants.{Vector, One}
 use Rattle.grin_syntax.specs.declared.program.Target.{Target}
 use Rattle.grin_syntax.specs.declared.program.Target.TheVariants as to
 use Rattle.grin_syntax.specs.Tree.{Act, unit, fetch_word, Program}
-use Rattle.grin_syntax.specs.Formed.{AllOf}
-use Rattle.grin_meaning.specs.Ready.{EachCode, Any}
+use Rattle.grin_meaning.specs.Ready.{Kind, any_kind, EachBody}
 
 abbrev pub NoVector : Val → Type 0
 NoVector (Vector ws) = ⊥
@@ -24,5 +24,12 @@ GivesNodes (unit v) = NoWord v
 GivesNodes (fetch_word a i) = ⊥
 GivesNodes _ = Unit {0}
 
+abbrev pub whole_kind : Kind
+whole_kind = record any_kind {
+  operation = GivesNodes;
+  target = NoVectorTarget;
+  value = NoVector;
+}
+
 abbrev pub IsWhole : Program → Type 0
-IsWhole g = AllOf (λ q. EachCode GivesNodes NoVectorTarget NoVector Any q.body) g.procs
+IsWhole g = EachBody whole_kind g.procs

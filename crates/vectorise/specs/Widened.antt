@@ -14,7 +14,8 @@ use Rattle.grin_meaning.specs.Slim.{procs_weight, procs_calls, procedure_words}
 module _ (most most_value : ℕ) where
   -- a vector with a tag and these fields stands in the place of a node variable; other targets stay
   abbrev pub Width : Bool → Target → Target → Type 0
-  Width fetched (to.Node x) t = (xs : List VarId) × (t ≡ to.Vector xs) × (length xs ≡ suc (cond fetched most most_value))
+  Width fetched (to.Node x) t =
+      (xs : List VarId) × (t ≡ to.Vector xs) × (length xs ≡ suc (cond fetched most most_value))
   Width fetched t t' = t' ≡ t
 
   unfoldable mutual
@@ -30,7 +31,8 @@ module _ (most most_value : ℕ) where
     pub CodeWidths : Code → Code → Type 0
     CodeWidths (end o) (end o') = ActWidths o o'
     CodeWidths (store cs b) (store cs' b') = CodeWidths b b'
-    CodeWidths (bind t o b) (bind t' o' b') = Width (is_fetch o) t t' × ActWidths o o' × CodeWidths b b'
+    CodeWidths (bind t o b) (bind t' o' b') =
+        Width (is_fetch o) t t' × ActWidths o o' × CodeWidths b b'
     CodeWidths _ _ = ⊥
 
     pub ArmsWidths : Arms → Arms → Type 0
@@ -49,8 +51,9 @@ FewWords [] [] = Unit {0}
 FewWords (q ∷ qs) (r ∷ rs) = (procedure_words r ≤ procedure_words q) × FewWords qs rs
 FewWords _ _ = ⊥
 
--- what vectorising makes of g: no node variable is left, and each is a vector of the width that its place asks for; what comes after
--- takes it; and neither its weight, nor its calls, nor the words of a procedure are more
+-- what vectorising makes of g: no node variable is left, and each is a vector of the width that its
+-- place asks for; what comes after takes it; and neither its weight, nor its calls, nor the words
+-- of a procedure are more
 pub record Widened (g h : Program) : Type 0 where
   pub formed : Formed h
   pub ready : Ready h

@@ -13,7 +13,8 @@ use grin_syntax::{Alt, Block, Grin, Op, Shape, Stmt, Target, VarId, Word};
 use seq::Seq;
 use std::alloc::{AllocError, Global};
 
-/// What becomes of a variable: a node variable becomes its vector, a word variable stays or, where a pattern binds it, is a word.
+/// What becomes of a variable: a node variable becomes its vector, a word variable stays or, where
+/// a pattern binds it, is a word.
 #[derive(Clone, Copy, Debug)]
 pub(crate) enum Known {
     /// A word variable that stays, or a node variable that no fetch fills.
@@ -76,17 +77,9 @@ fn note_op(
             note_block(alloc, layout, known, block)?;
             Ok(())
         }
-        Op::Unit(_) => Ok(()),
-        Op::Fetch(_) => Ok(()),
-        Op::FetchWord(_, _) => Ok(()),
-        Op::Update(_, _) => Ok(()),
-        Op::Eval(_) => Ok(()),
-        Op::Apply(_, _) => Ok(()),
-        Op::Call(_, _) => Ok(()),
-        Op::Prim(_, _, _) => Ok(()),
-        Op::Read => Ok(()),
-        Op::Write(_) => Ok(()),
-        Op::Fail => Ok(()),
+        Op::Unit(_) | Op::Fetch(_) | Op::FetchWord(_, _) | Op::Update(_, _) => Ok(()),
+        Op::Eval(_) | Op::Apply(_, _) | Op::Call(_, _) | Op::Prim(_, _, _) => Ok(()),
+        Op::Read | Op::Write(_) | Op::Fail => Ok(()),
     }
 }
 

@@ -10,7 +10,8 @@ use grin_syntax::fresh::Fresh;
 use grin_syntax::{Grin, Tag, TagKind, VarId};
 use std::alloc::AllocError;
 
-/// The first new variable, the fields of the longest node, and those of the longest node that is a value.
+/// The first new variable, the fields of the longest node, and those of the longest node that is a
+/// value.
 #[derive(Clone, Copy, Debug)]
 pub(crate) struct Layout {
     pub base: u32,
@@ -19,8 +20,8 @@ pub(crate) struct Layout {
 }
 
 impl Layout {
-    /// The layout for a program. Where new variables would be past the numbers of 32 bits there is none, which counts as want
-    /// of memory.
+    /// The layout for a program. Where new variables would be past the numbers of 32 bits there is
+    /// none, which counts as want of memory.
     pub(crate) fn of(g: &Grin) -> Result<Layout, AllocError>
         ensures { IfOk result (λ l. l ≡ layout_of (program_of g.now)) }
     {

@@ -17,9 +17,10 @@ use grin_syntax::{Grin, Proc};
 use seq::Seq;
 use std::alloc::{AllocError, Global};
 
-/// Each node variable becomes a vector of words: its tag, its fields, and zeros, as many as the longest node has words where a
-/// fetch fills it, and elsewhere as many as the longest node that is a value. Patterns bind no variables; a field is a word of
-/// its vector. It takes well-formed programs without eval and apply in which no part of a node stands by itself.
+/// Each node variable becomes a vector of words: its tag, its fields, and zeros, as many as the
+/// longest node has words where a fetch fills it, and elsewhere as many as the longest node that is
+/// a value. Patterns bind no variables; a field is a word of its vector. It takes well-formed
+/// programs without eval and apply in which no part of a node stands by itself.
 pub struct Vectorise;
 
 impl Pass for Vectorise {

@@ -10,7 +10,9 @@ use Rattle.apply_inline.specs.Inlining.{inlined}
 use Rattle.grin_translate.specs.Translation.{tr}
 use Rattle.vectorise.specs.Whole.{IsWhole}
 
--- a translated program whose evaluations and applications are inlined is well formed, ready, and gives whole nodes
+-- a translated program whose evaluations and applications are inlined is well formed, ready, and
+-- gives whole nodes
 abbrev pub VectoriseTakesInlined : Type 0
-VectoriseTakesInlined = (p : core.Program) → IsValid p → (A : Solution) → Solves (tables (tr p)) (system (tr p)) A
+VectoriseTakesInlined =
+    (p : core.Program) → IsValid p → (A : Solution) → Solves (tables (tr p)) (system (tr p)) A
     → Formed (inlined A (tr p)) × Ready (inlined A (tr p)) × IsWhole (inlined A (tr p))

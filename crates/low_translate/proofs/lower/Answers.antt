@@ -1,6 +1,6 @@
 use Rattle.low_translate.proofs.Endings.{ends_of}
 use Rattle.low_translate.proofs.Lowering.{lowered_lowers}
-use Rattle.low_translate.proofs.Whole.{lowered_formed, lowered_small}
+use Rattle.low_translate.proofs.LoweredFormed.{lowered_formed, lowered_small}
 use Rattle.low_translate.proofs.lower.Goals as goal
 
 pub translated-requires-clause-ends : goal.translated-requires-clause-ends

@@ -4,7 +4,7 @@ use Rattle.std.proofs.lemmas.List.{take_all}
 use Rattle.points_to.specs.Held.{In}
 use Rattle.points_to.specs.Rows.{row_items}
 use Rattle.points_to.proofs.Rows.{not_yet, in_rows}
-use Rattle.points_to.proofs.Member.{none_in}
+use Rattle.seq.proofs.Member.{none_in}
 use Rattle.points_to.proofs.items.has_in.Goals as goal
 
 pub loop-row-init : goal.loop-row-init

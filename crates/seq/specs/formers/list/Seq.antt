@@ -34,22 +34,30 @@ the_empty = []
 abbrev pub the_items : (Item : Type 0) → List Item → List Item
 the_items Item items = items
 
-pub the_items_listed : (Item : Type 0) (items : List Item) → listed _ (children (the_former this) Item items) ≡ the_items Item items
+pub the_items_listed : (Item : Type 0) (items : List Item)
+    → listed _ (children (the_former this) Item items) ≡ the_items Item items
 the_items_listed Item items = list-listed Item items
 
 -- the fields hold the items as a `Vec` holds them
 abbrev fields : Former {0}
-fields = via (vec.the_former this Global) Inside (λ Item s. s.items) (λ Item v. record { items = v }) (λ Item s. refl) (λ Item v. refl)
+fields = via (vec.the_former this Global) Inside (λ Item s. s.items)
+    (λ Item v. record { items = v }) (λ Item s. refl) (λ Item v. refl)
 
 module _ (Old New : RattleType) (h : Old.Denot → New.Denot) where
   -- a list of items of the old type lies in memory as its image does
-  pub the_places : Alike Old New h → Alike (seq.the_row Old) (seq.the_row New) ((the_former this).map Old.Denot New.Denot h)
-  the_places same = view_places fields (list this) view (λ X Y k u. refl) (λ X u. refl) Old.Denot New.Denot h
+  pub the_places : Alike Old New h
+      → Alike (seq.the_row Old) (seq.the_row New) ((the_former this).map Old.Denot New.Denot h)
+  the_places same =
+      view_places fields (list this) view (λ X Y k u. refl) (λ X u. refl) Old.Denot New.Denot h
       (seq.the_row Old).coded (seq.the_row New).coded (invariant Old.Denot) (invariant New.Denot)
-      (λ u p q. refl) (λ u p q. refl) (λ u e. tt) (λ u e. tt) (over (inside.the_row Old)) (over (inside.the_row New))
-      (struct_places (inside.the_type Old) (inside.the_type New) (vec.mapped h, tt) _ (λ d. refl) refl
+      (λ u p q. refl) (λ u p q. refl) (λ u e. tt) (λ u e. tt)
+      (over (inside.the_row Old)) (over (inside.the_row New))
+      (struct_places (inside.the_type Old) (inside.the_type New)
+      (vec.mapped h, tt) _ (λ d. refl) refl
       (laid _ _ _ (vec.the_places global.the_row ghosts Old New h same), tt))
 
   -- and has the code of its image
-  pub the_codes_placed : Recodes Old New h → Recodes (seq.the_row Old) (seq.the_row New) ((the_former this).map Old.Denot New.Denot h)
-  the_codes_placed same items = sym (code_map Old.coded.code New.coded.code h (λ item. sym (same item)) items)
+  pub the_codes_placed : Recodes Old New h
+      → Recodes (seq.the_row Old) (seq.the_row New) ((the_former this).map Old.Denot New.Denot h)
+  the_codes_placed same items =
+      sym (code_map Old.coded.code New.coded.code h (λ item. sym (same item)) items)

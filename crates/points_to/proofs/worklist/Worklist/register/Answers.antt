@@ -1,15 +1,14 @@
-use Rattle.points_to.specs.Worklist.{IsReader}
-use Rattle.points_to.proofs.Waiting.{taken_next}
+use Rattle.std.proofs.Common.{[], ◌∷◌, take, get_or, sym, subst}
+use Rattle.std.proofs.lemmas.List.{take_all, take_more}
+use Rattle.points_to.specs.Worklist.{RegistersAt}
+use Rattle.points_to.proofs.Registered.{registers_none, registers_more}
 use Rattle.points_to.proofs.worklist.Worklist.register.Goals as goal
 
+pub loop-place-init : goal.loop-place-init
+loop-place-init c = registers_none c.args.n c.args.self.now
+
 pub loop-place-preserved : goal.loop-place-preserved
-loop-place-preserved c =
-    let now = c.loop-place.self in
-    let new = record now { readers = c.register.new.self } in
-    let r = c.in_ok-register.ensures in
-    record {
-      same_facts = c.loop-place.invariant.same_facts;
-      same_pending = c.loop-place.invariant.same_pending;
-      kept = λ q m h. r.kept q m (c.loop-place.invariant.kept q m h);
-      put = taken_next (λ q. IsReader new q c.args.n) c.args.places.now c.loop-place.place-index _ c.loop-place-test.true (λ q h. r.kept q c.args.n (c.loop-place.invariant.put q h)) r.put;
-    }
+loop-place-preserved c = subst (RegistersAt _ _ c.args.n) (sym (take_more c.args.places.now c.loop-place.place-index _ c.loop-place-test.true)) (registers_more c.args.n _ _ _ _ _ c.loop-place.invariant c.in_ok-register_at.ensures)
+
+pub returns : goal.returns
+returns c = subst (RegistersAt _ _ c.args.n) (take_all c.loop-place.place-index c.args.places.now c.loop-place-test.false) c.loop-place.invariant

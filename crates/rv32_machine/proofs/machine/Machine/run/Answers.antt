@@ -5,7 +5,7 @@ use Rattle.rv32_machine.specs.declared.machine.Stop.TheVariants.{Steps, Exit as 
 use Rattle.rv32_machine.specs.Steps.{state_of}
 use Rattle.rv32_machine.specs.Runs.{run, Stays}
 use Rattle.rv32_machine.specs.Plain.{Advances}
-use Rattle.rv32_machine.proofs.Turns.{read_piece_is, exit_piece_is, trap_piece_is, wrote, write_runs, read_stays, write_stays, exit_stays, trap_stays}
+use Rattle.rv32_machine.proofs.OneStep.{read_piece_is, exit_piece_is, trap_piece_is, wrote, write_runs, read_stays, write_stays, exit_stays, trap_stays}
 use Rattle.rv32_machine.proofs.Advanced.{begins, all_plain, ends_all, goes_further, fails}
 use Rattle.rv32_machine.proofs.machine.Machine.run.Goals.{in-Read+in_ok-take_byte-in-Read, in-Write+in_ok-put_bytes-in-Write}
 use Rattle.rv32_machine.proofs.machine.Machine.run.Goals as goal

@@ -1,8 +1,0 @@
-use Rattle.std.proofs.Common.{take}
-use Rattle.std.specs.List.{flat_map}
-use Rattle.points_to.specs.Bits.{block_numbers}
-use Rattle.points_to.specs.Rows.{numbers_in, SameMembers}
-use Rattle.points_to.proofs.bits.Bits.of.Given as goal
-
-abbrev pub invariant-loop-block : goal.invariant-loop-block
-invariant-loop-block l = SameMembers (numbers_in l.set) (flat_map block_numbers (take l.block-index l.blocks))
