@@ -1,5 +1,7 @@
 -- A case over the functions that an application meets does what the application does.
 use Rattle.std.proofs.Common.{◌≡◌, ℕ, zero, suc, ◌<◌, ◌≤◌, ◌+◌, Bool, true, false, cond, not, nat_eq, ◌&&◌, List, [], ◌∷◌, ◌++◌, map, length, Option, Some, None, slice_get, refl, sym, ap, ◌∙◌, subst, ⊎_elim, arith}
+use Rattle.seq.proofs.Truth.{and_right, and_from}
+use Rattle.seq.proofs.Order.{eq_from, differs_from}
 use Rattle.grin_syntax.specs.declared.program.ProcId.{ProcId}
 use Rattle.grin_syntax.specs.declared.program.Tag.{Tag}
 use Rattle.grin_syntax.specs.declared.program.Val.{Val}
@@ -18,18 +20,14 @@ use Rattle.flow_system.specs.Solution.{Solution}
 use Rattle.flow_system.specs.Covers.{Lies}
 use Rattle.eval_inline.specs.Inlining.{those}
 use Rattle.apply_inline.specs.Inlining.{value_has, is_part_tag, apply_body, part_body, apply_arms, part_tags_of, others_of, else_fail}
-use Rattle.eval_inline.proofs.Known.{Among, those_have, nat_eq-true}
-use Rattle.eval_inline.proofs.Inlining.{it, named, names_stand, fields_fit_named, nat_eq-false, agree_named}
-use Rattle.apply_inline.proofs.ValueTags.{Had, value_had, and_true}
+use Rattle.eval_inline.proofs.Known.{Among, those_have}
+use Rattle.eval_inline.proofs.Inlining.{it, named, names_stand, fields_fit_named, agree_named}
+use Rattle.apply_inline.proofs.ValueTags.{Had, value_had}
 
 -- each of a list
 abbrev pub Each : (ℕ → Type 0) → List ℕ → Type 0
 Each P [] = Unit {0}
 Each P (x ∷ xs) = P x × Each P xs
-
-and_right : (x y : Bool) → (x && y) ≡ true → y ≡ true
-and_right true y e = e
-and_right false y e = cc
 
 pub those_parts : (p : Program) (A : Solution) (test : ℕ → Bool) (i k : ℕ) → Each (λ t. is_part_tag p A t ≡ true) (those (λ t. test t && is_part_tag p A t) i k)
 those_parts p A test i zero = tt
@@ -99,10 +97,10 @@ module _ (K : Depths) (g : Program) (A : Solution) (x0 : ℕ) (procs : List Proc
       try (λ z le r. part_sim a v n x t last env env' d d' w ss e ok ag at is_n is full dd de ks z le r) (nat_eq n.tag k) refl (slice_get g.tags k) refl
     where
       same_tag : nat_eq n.tag k ≡ true → slice_get g.tags k ≡ Some t
-      same_tag p = ap (slice_get g.tags) (sym (nat_eq-true n.tag k p)) ∙ is
+      same_tag p = ap (slice_get g.tags) (sym (eq_from n.tag k p)) ∙ is
 
       later : nat_eq n.tag k ≡ false → Among n.tag ks
-      later p = ⊎_elim (λ q. absurd (nat_eq-false n.tag k p q)) (λ r. r) among
+      later p = ⊎_elim (λ q. absurd (differs_from n.tag k p q)) (λ r. r) among
 
       env'' : Env
       env'' = with_vars (named y n.fields) env'
@@ -130,7 +128,7 @@ module _ (K : Depths) (g : Program) (A : Solution) (x0 : ℕ) (procs : List Proc
 
       try : ((z : ℕ) → Sim P K (stops no_alternative w) (arms h c' env' d' v (apply_arms g A a z ks (else_fail g A others)) (other w ss e))) → (b : Bool) → nat_eq n.tag k ≡ b → (o : Option Tag) → slice_get g.tags k ≡ o
           → Sim P K (stops no_alternative w) (arms h c' env' d' v (apply_arms g A a y (k ∷ ks) (else_fail g A others)) (other w ss e))
-      try next true p o q = let m : is_part_tag g A n.tag ≡ true = subst (λ t. is_part_tag g A t ≡ true) (sym (nat_eq-true n.tag k p)) all.0 in absurd (not_both (sym m ∙ non))
+      try next true p o q = let m : is_part_tag g A n.tag ≡ true = subst (λ t. is_part_tag g A t ≡ true) (sym (eq_from n.tag k p)) all.0 in absurd (not_both (sym m ∙ non))
       try next false p None q = rw q (next (y + 0))
       try next false p (Some u) q = rw (q, is_n, p) (next (y + u.fields))
 
@@ -153,9 +151,9 @@ module _ (K : Depths) (g : Program) (A : Solution) (x0 : ℕ) (procs : List Proc
 
           on : (b : Bool) → is_part_kind t.kind ≡ b → Sim P K (cond b (need t.proc w (λ f. apply_part g c d n x f.0 t.missing w)) (stops no_alternative w)) (arms h c' env' d' val (apply_arms g A a y (part_tags_of g A v) (else_fail g A (others_of g A v))) (other w ss e))
           on true k = part_sim a val n x t (else_fail g A (others_of g A v)) env env' d d' w ss e ok ag at is_n q full dd de (part_tags_of g A v) y fresh
-              (those_have (λ t. value_has g A v t && is_part_tag g A t) n.tag (and_true _ _ had.has (kind_is n t true q k)) 0 (length g.tags) (omega arith) (omega (arith, lt)))
+              (those_have (λ t. value_has g A v t && is_part_tag g A t) n.tag (and_from _ _ had.has (kind_is n t true q k)) 0 (length g.tags) (omega arith) (omega (arith, lt)))
           on false k = else_sim a val n env' d' w ss e is_n (kind_is n t false q k) de (others_of g A v)
-              (those_have (λ t. value_has g A v t && not (is_part_tag g A t)) n.tag (and_true _ _ had.has (ap not (kind_is n t false q k))) 0 (length g.tags) (omega arith) (omega (arith, lt)))
+              (those_have (λ t. value_has g A v t && not (is_part_tag g A t)) n.tag (and_from _ _ had.has (ap not (kind_is n t false q k))) 0 (length g.tags) (omega arith) (omega (arith, lt)))
               (part_tags_of g A v) y (those_parts g A (value_has g A v) 0 (length g.tags))
 
   pub apply_sim : (y : ℕ) (v : Val) (a : Word) → x0 ≤ y → ValOk Ok v → WordOk Ok a → ActLike (it K g A x0 procs c c' cb cf) (apply v a) (case v (apply_arms g A a y (part_tags_of g A v) (else_fail g A (others_of g A v))))

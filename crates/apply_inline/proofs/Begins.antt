@@ -1,7 +1,8 @@
 -- Where the tags of procedures that lack arguments begin, and the first such tag.
-use Rattle.std.proofs.Common.{◌≡◌, ◌≢◌, ℕ, zero, suc, ◌<◌, ◌≤◌, Bool, true, false, cond, nat_eq, ◌&&◌, List, [], ◌∷◌, drop, length, get_or, Some, None, slice_get, slice_set, refl, sym, ap, ◌∙◌, subst, arith}
+use Rattle.std.proofs.Common.{◌≡◌, ◌≢◌, ℕ, zero, suc, ◌<◌, ◌≤◌, Bool, true, false, cond, nat_eq, ◌&&◌, List, [], ◌∷◌, drop, length, Some, None, slice_get, slice_set, refl, sym, ap, ◌∙◌, subst, arith}
 use Rattle.std.proofs.lemmas.Bool.Decides.{nat_tests}
 use Rattle.std.proofs.lemmas.Option.{slice_get_within}
+use Rattle.seq.proofs.Truth.{true_not_false}
 use Rattle.grin_syntax.specs.declared.program.Tag.{Tag}
 use Rattle.grin_syntax.specs.Tags.{is_part, is_part_kind, is_proc, part_from}
 use Rattle.apply_inline.specs.Parts.{SearchStarts}
@@ -43,9 +44,6 @@ set_there (x ∷ starts) zero at (suc f) ne = refl
 set_there (x ∷ starts) (suc g) at zero ne = refl
 set_there (x ∷ starts) (suc g) at (suc f) ne = set_there starts g at f (λ e. ne (ap suc e))
 
-not_both : true ≡ false → ⊥
-not_both w = cc
-
 pub noted : (ts : List Tag) (starts : List ℕ) (at g : ℕ) (t : Tag) → slice_get ts at ≡ Some t → ((f r : ℕ) → f ≢ g → is_part f r t ≡ false) → SearchStarts ts starts (suc at) → SearchStarts ts (slice_set starts g at) at
 noted ts starts at g t e other b f r s h = go (nat_eq f g) refl
   where
@@ -55,7 +53,7 @@ noted ts starts at g t e other b f r s h = go (nat_eq f g) refl
         let here : s ≡ at = set_here starts g at s (subst (λ k. slice_get (slice_set starts g at) k ≡ Some s) same h) in
         ap (λ k. part_from k (drop k ts) f r) (sym here)
     go false q =
-        let ne : f ≢ g = λ w. let z : nat_eq f g ≡ true = grind (arith, nat_tests) in absurd (not_both (sym z ∙ q)) in
+        let ne : f ≢ g = λ w. let z : nat_eq f g ≡ true = grind (arith, nat_tests) in absurd (true_not_false (sym z ∙ q)) in
         part_later ts at f r t e (other f r ne) ∙ b f r s (sym (set_there starts g at f ne) ∙ h)
 
 pub passed : (ts : List Tag) (starts : List ℕ) (at : ℕ) (t : Tag) → slice_get ts at ≡ Some t → ((f r : ℕ) → f < length starts → is_part f r t ≡ false) → SearchStarts ts starts (suc at) → SearchStarts ts starts at
@@ -63,8 +61,3 @@ passed ts starts at t e other b f r s h = part_later ts at f r t e (other f r (s
 
 pub unnoted : (ts : List Tag) (starts : List ℕ) (n : ℕ) → ((f s : ℕ) → slice_get starts f ≡ Some s → s ≡ n) → SearchStarts ts starts n
 unnoted ts starts n all f r s h = ap (λ k. part_from k (drop k ts) f r) (sym (all f s h))
-
-pub got : {X : Type 0} (xs : List X) (i : ℕ) (x : X) → i < length xs → x ≡ get_or xs i x → slice_get xs i ≡ Some x
-got [] i x lt e = absurd (omega arith)
-got (y ∷ xs) zero x lt e = ap (λ z. Some z) (sym e)
-got (y ∷ xs) (suc i) x lt e = got xs i x (omega arith) e

@@ -17,8 +17,8 @@ use Rattle.flow_system.specs.Solution.{Solution, among, At}
 use Rattle.apply_inline.specs.Inlining.{word_has}
 use Rattle.points_to.specs.Held.{In, here}
 use Rattle.seq.proofs.Member.{none_in}
+use Rattle.seq.proofs.Truth.{and_left}
 use Rattle.apply_inline.specs.Applied.{Candidates}
-use Rattle.apply_inline.proofs.Filtered.{and_left}
 
 same : (t t' : ℕ) → nat_eq t t' ≡ true → In t (t' ∷ [])
 same t t' e = let s : t ≡ t' = grind (arith, nat_tests) in subst (λ u. In u (t' ∷ [])) (sym s) here

@@ -13,6 +13,7 @@ use Rattle.eval_inline.specs.Inlining.{those}
 use Rattle.apply_inline.specs.Inlining.{value_has, is_part_tag, part_tags_of, others_of}
 use Rattle.points_to.specs.Held.{In, here, there}
 use Rattle.seq.proofs.Member.{none_in}
+use Rattle.seq.proofs.Truth.{true_not_false, and_left}
 use Rattle.apply_inline.specs.Applied.{fits, meets_part, meets_other, Candidates}
 
 -- ascending from a number on
@@ -36,9 +37,6 @@ weaken i j (x ∷ ts) le a = (omega (arith, a.0), a.1)
 filter_none : (g : ℕ → Bool) (ts : List ℕ) → ((t : ℕ) → In t ts → g t ≡ false) → filter g ts ≡ []
 filter_none g [] h = refl
 filter_none g (t ∷ ts) h = rw (h t here) (filter_none g ts (λ s m. h s (there m)))
-
-not_both : true ≡ false → ⊥
-not_both e = cc
 
 -- the numbers for which a test holds are those of a list that has them all and is ascending
 pub those_filtered : (test g : ℕ → Bool) (n i k : ℕ) (ts : List ℕ) → n ≡ i + k → Ascends i ts → ((t : ℕ) → t < n → test t ≡ true → i ≤ t → In t ts) → ((t : ℕ) → In t ts → t < n → g t ≡ test t) → ((t : ℕ) → In t ts → n ≤ t → g t ≡ false)
@@ -66,7 +64,7 @@ those_filtered test g n i (suc k) (x ∷ ts) e a all agree past =
     at : (b : Bool) → nat_eq i x ≡ b → (i ≡ x → those test (suc i) k ≡ filter g ts) → (i ≢ x → those test (suc i) k ≡ filter g (x ∷ ts)) → cond (test i) (i ∷ those test (suc i) k) (those test (suc i) k) ≡ filter g (x ∷ ts)
     at true q same next = let s : i ≡ x = grind (arith, nat_tests) in first (test i) refl s (same s)
     at false q same next =
-        let ne : i ≢ x = λ s. let z : nat_eq i x ≡ true = grind (arith, nat_tests) in not_both (sym z ∙ q) in
+        let ne : i ≢ x = λ s. let z : nat_eq i x ≡ true = grind (arith, nat_tests) in true_not_false (sym z ∙ q) in
         after (test i) refl ne (next ne)
 
 increasing_tail : (x : ℕ) (ts : List ℕ) → IsStrictlyIncreasing (x ∷ ts) → IsStrictlyIncreasing ts
@@ -90,10 +88,6 @@ within : (ts : List Tag) (t : ℕ) → t < length ts → (i : Tag) × (slice_get
 within [] t lt = absurd (omega arith)
 within (x ∷ ts) zero lt = (x, refl)
 within (x ∷ ts) (suc t) lt = within ts t (omega arith)
-
-pub and_left : (a b : Bool) → (a && b) ≡ true → a ≡ true
-and_left true b e = refl
-and_left false b e = cc
 
 module _ (p : Program) (A : Solution) (v : Val) (ts : List ℕ) (c : Candidates p A v ts) where
   part_same : (t : ℕ) → In t ts → t < length p.tags → meets_part p A v t ≡ (value_has p A v t && is_part_tag p A t)

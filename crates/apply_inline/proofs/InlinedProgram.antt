@@ -1,11 +1,11 @@
 -- What inlining of applications makes of a whole program.
 use Rattle.std.proofs.Common.{◌≡◌, ℕ, ◌+◌, List, [], ◌∷◌, ◌++◌, map, refl, sym, ap, ◌∙◌, subst, arith}
+use Rattle.seq.proofs.Lists.{map_push}
 use Rattle.grin_syntax.specs.declared.program.Proc.{Proc}
 use Rattle.grin_syntax.specs.declared.program.Block.{Block}
 use Rattle.grin_syntax.specs.declared.program.Grin.{Grin}
 use Rattle.grin_syntax.specs.Tree.{Procedure, Program, code_of, procedure_of, program_of}
 use Rattle.grin_syntax.specs.Fresh.{past_procs}
-use Rattle.grin_syntax.proofs.Pieces.{map_push}
 use Rattle.grin_meaning.specs.Keeps.{Keeps}
 use Rattle.flow_system.specs.Solution.{Solution}
 use Rattle.apply_inline.specs.Inlining.{apply_act, apply_act_room, apply_code, apply_code_room, apply_procs, apply_inlined}

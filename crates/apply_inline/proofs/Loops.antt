@@ -7,6 +7,7 @@ use Rattle.std.specs.List.{filter}
 use Rattle.std.proofs.Math.Seq.{take-suc}
 use Rattle.std.proofs.lemmas.List.{append-nil}
 use Rattle.std.proofs.lemmas.List.Elements.{filter-append}
+use Rattle.seq.proofs.Lists.{map_push}
 use Rattle.grin_syntax.specs.declared.program.Stmt.{Stmt}
 use Rattle.grin_syntax.specs.declared.program.Stmt.TheVariants.{Store, Bind}
 use Rattle.grin_syntax.specs.declared.program.Alt.{Alt}
@@ -25,7 +26,7 @@ use Rattle.grin_syntax.specs.declared.program.Word.{Word}
 use Rattle.grin_syntax.specs.declared.program.Val.{Val}
 use Rattle.grin_syntax.specs.Tree.{Code, Act, end, bind, apply, case, nested, fail, Arms, no_arm, arm, act_of, before_of, arm_of, code_of, all_before, arms_of, Procedure, Program, act_step, stmt_step, alt_step, block_step}
 use Rattle.grin_syntax.proofs.TreeOf.{code_of-parts, arm_of-parts, act_of-Case, before_of-Store, before_of-Bind}
-use Rattle.grin_syntax.proofs.Pieces.{all_before_push, map_push}
+use Rattle.grin_syntax.proofs.Pieces.{all_before_push}
 use Rattle.flow_system.specs.Solution.{Solution}
 use Rattle.eval_inline.specs.Inlining.{fields_at}
 use Rattle.apply_inline.specs.Inlining.{apply_arm, apply_arms, part_tags_of, others_of, else_fail, parts_room, apply_act, apply_code, apply_all, apply_procs, apply_act_room, apply_code_room, apply_arms_room}

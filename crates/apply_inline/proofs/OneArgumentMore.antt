@@ -1,13 +1,13 @@
 -- In a well-formed program each function that lacks two or more arguments has a tag for one argument more.
 use Rattle.std.proofs.Common.{◌≡◌, ℕ, suc, Bool, true, false, cond, List, [], ◌∷◌, Some, refl, subst}
 use Rattle.std.specs.List.{filter}
+use Rattle.seq.proofs.Lists.{all_get}
 use Rattle.grin_syntax.specs.declared.program.Tag.{Tag}
 use Rattle.grin_syntax.specs.declared.program.TagKind.{TagKind}
 use Rattle.grin_syntax.specs.declared.program.TagKind.TheVariants as kind
 use Rattle.grin_syntax.specs.Tree.{Program}
 use Rattle.grin_syntax.specs.Formed.{Formed, KindFormed, TagFormed, HasNext}
 use Rattle.grin_syntax.specs.Tags.{is_part, is_part_kind, part_from}
-use Rattle.grin_syntax.proofs.Scopes.{all_get}
 use Rattle.apply_inline.specs.Parts.{there_is, HaveNext}
 
 some_part : (i : ℕ) (ts : List Tag) (f r : ℕ) (u : Tag) (us : List Tag) → filter (is_part f r) ts ≡ u ∷ us → there_is (part_from i ts f r) ≡ true

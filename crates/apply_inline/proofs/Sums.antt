@@ -1,6 +1,7 @@
 -- What the loops that add sizes have added so far.
 use Rattle.std.proofs.Common.{◌≡◌, ℕ, zero, suc, ◌+◌, ◌-◌, ◌^◌, ◌<◌, ◌≤◌, Bool, true, false, cond, List, [], ◌∷◌, ◌++◌, map, take, length, get_or, Some, slice_get, sym, ap, ◌∙◌, subst, arith}
 use Rattle.std.proofs.lemmas.List.{take_all}
+use Rattle.seq.proofs.Lists.{take_next, map_push}
 use Rattle.grin_syntax.specs.declared.program.Stmt.{Stmt}
 use Rattle.grin_syntax.specs.declared.program.Stmt.TheVariants.{Store, Bind}
 use Rattle.grin_syntax.specs.declared.program.Alt.{Alt}
@@ -14,7 +15,7 @@ use Rattle.grin_syntax.specs.declared.program.Word.{Word}
 use Rattle.grin_syntax.specs.declared.program.Val.{Val}
 use Rattle.grin_syntax.specs.Tree.{Code, end, Arms, no_arm, arm, act_of, before_of, arm_of, code_of, all_before, arms_of, Procedure, Program}
 use Rattle.grin_syntax.proofs.TreeOf.{act_of-Apply, code_of-parts, arm_of-parts, before_of-Store, before_of-Bind}
-use Rattle.grin_syntax.proofs.Pieces.{take_next, all_before_push, map_push}
+use Rattle.grin_syntax.proofs.Pieces.{all_before_push}
 use Rattle.flow_system.specs.Solution.{Solution, among}
 use Rattle.apply_inline.specs.Size.{val_size, target_size, shape_size, cells_size, total}
 use Rattle.flow_system.specs.declared.fact.Element.TheVariants.{Tag as tag}

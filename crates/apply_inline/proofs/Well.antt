@@ -1,6 +1,7 @@
 -- Inlining of applications leaves a program well formed.
 use Rattle.std.proofs.Common.{◌≡◌, ℕ, zero, suc, ◌+◌, ◌<◌, Bool, true, false, cond, List, [], ◌∷◌, ◌++◌, map, length, Option, Some, None, slice_get, refl, ap, ◌∙◌, subst, arith}
 use Rattle.std.proofs.lemmas.Option.{slice_get_within}
+use Rattle.seq.proofs.Lists.{all_push, all_get}
 use Rattle.grin_syntax.specs.declared.program.ProcId.{ProcId}
 use Rattle.grin_syntax.specs.declared.program.Tag.{Tag}
 use Rattle.grin_syntax.specs.declared.program.TagKind.{TagKind}
@@ -11,7 +12,7 @@ use Rattle.grin_syntax.specs.Tree.{Code, end, store, bind, Act, unit, fetch, fet
 use Rattle.grin_syntax.specs.Binders.{numbers_of, shape_vars, cell_vars}
 use Rattle.grin_syntax.specs.Formed.{AllOf, Scope, with_words, with_target, params_scope, KnownIfAny, HasProcedure, KindFormed, TagFormed, WordFormed, ActFormed, CodeFormed, ArmsFormed, ProcedureFormed, Formed, argument_words}
 use Rattle.grin_syntax.specs.Tags.{is_part}
-use Rattle.grin_syntax.proofs.Scopes.{fewer_left, Within, within_words, all_get, with_procs, known_again, word_stays, vars_formed, same_sites, formed_with}
+use Rattle.grin_syntax.proofs.Scopes.{fewer_left, Within, within_words, with_procs, known_again, word_stays, vars_formed, same_sites, formed_with}
 use Rattle.grin_syntax.specs.Fresh.{variables, past_procs}
 use Rattle.grin_meaning.specs.Run.{part_from}
 use Rattle.flow_system.specs.Solution.{Solution}
@@ -26,10 +27,6 @@ part_below i (y ∷ ts) f r t e = go (is_part f r y) e (part_below (suc i) ts f 
     go : (b : Bool) → cond b (Some i) (part_from (suc i) ts f r) ≡ Some t → (part_from (suc i) ts f r ≡ Some t → t < suc i + length ts) → t < i + length (y ∷ ts)
     go true e rest = let s : i ≡ t = cc in omega arith
     go false e rest = let h : t < suc i + length ts = rest e in omega arith
-
-all_and : {X : Type 0} (P : X → Type 0) (xs : List X) (x : X) → AllOf P xs → P x → AllOf P (xs ++ x ∷ [])
-all_and P [] x h k = (k, tt)
-all_and P (y ∷ xs) x h k = (h.0, all_and P xs x h.1 k)
 
 module _ (p : Program) (A : Solution) (procs : List Procedure) (same_count : length procs ≡ length p.procs) (tags_formed : AllOf (TagFormed p) p.tags) where
   abbrev there : Program
@@ -68,7 +65,7 @@ module _ (p : Program) (A : Solution) (procs : List Procedure) (same_count : len
       let w : Within scope more = within_words fields scope in (
         slice_get_within p.tags t i e,
         part_formed more x a i i.proc (kind_knows i.kind i i.proc refl (all_get (TagFormed p) p.tags t i tags_formed e))
-            (all_and (WordFormed there more) (map Var (variables x i.fields)) a (vars_formed p procs same_count (variables x i.fields) more (fewer_left fields scope.words)) (word_stays there procs refl scope more w a h)),
+            (all_push (WordFormed there more) (map Var (variables x i.fields)) a (vars_formed p procs same_count (variables x i.fields) more (fewer_left fields scope.words)) (word_stays there procs refl scope more w a h)),
         k,
       )
 

@@ -1,11 +1,12 @@
 -- A program that breaks no rule has a normal form: by induction on its parts.
-use Rattle.std.proofs.Common.{◌≡◌, ℕ, ℤ, zero, suc, ◌+◌, ◌<◌, Bool, true, false, List, [], ◌∷◌, ◌++◌, length, get_or, refl, sym, ap, ◌∙◌, subst, arith, Option, Some, None, ◌⊎◌, inl, inr}
-use Rattle.std.specs.Prelude.{◌==◌, nat_lt, not, if◌then◌else◌}
+use Rattle.std.proofs.Common.{◌≡◌, ℕ, ℤ, zero, suc, ◌+◌, ◌<◌, Bool, true, false, List, [], ◌∷◌, ◌++◌, length, get_or, refl, sym, ap, ◌∙◌, subst, arith, Option, Some, None, inl, inr}
+use Rattle.std.specs.Prelude.{◌==◌, not, if◌then◌else◌}
 use Rattle.std.specs.List.{All, range_with_len}
-use Rattle.std.proofs.lemmas.Bool.{eqb-true, ltb-true}
-use Rattle.std.proofs.lemmas.Grind.{common_steps}
+use Rattle.std.proofs.lemmas.Bool.{eqb-true}
 use Rattle.std.proofs.lemmas.List.{length-map}
 use Rattle.std.proofs.lemmas.List.FromFn.{length-range_with_len}
+use Rattle.seq.proofs.Order.{compared}
+use Rattle.seq.proofs.Truth.{two_ways}
 use Rattle.core_reader.specs.declared.syntax.Binder.{Binder}
 use Rattle.core_reader.specs.declared.syntax.Pattern.{Pattern}
 use Rattle.core_reader.specs.declared.syntax.Pattern.TheVariants as pattern
@@ -18,7 +19,7 @@ use Rattle.arity_check.specs.declared.normal.Flat.{Flat}
 use Rattle.arity_check.specs.declared.normal.Flat.TheVariants as flat
 use Rattle.arity_check.specs.declared.normal.Bound.{Bound}
 use Rattle.arity_check.specs.Scope as scope
-use Rattle.arity_check.specs.Scope.{Scope, Meaning, means, con_number, is_named, binds, binds_all}
+use Rattle.arity_check.specs.Scope.{Scope, Meaning, means, con_number, binds, binds_all}
 use Rattle.arity_check.specs.Known.{Known, is_nameless, all_entered}
 use Rattle.core_reader.specs.Readable.{ReadableData, ReadableFunction}
 use Rattle.arity_check.specs.declared.normal.Con as constructors
@@ -32,19 +33,13 @@ use Rattle.arity_check.specs.Program as normal
 use Rattle.arity_check.specs.Normal as form
 use Rattle.arity_check.specs.Normal.{Pairwise, IsConstructor, IsFunction, IsNormalForm, append, HasTerm, itself, bound, IsFlat, IsNamed, IsApplied, AreArgs, IsArg, IsGroup, IsNormal, AreBranches}
 use Rattle.arity_check.proofs.NoFaults.{no_front, no_back, inner_head, inner_args}
-use Rattle.arity_check.proofs.Names.{two_ways, meaning_means, nameless_named}
+use Rattle.arity_check.proofs.Names.{meaning_means, nameless_named}
 use Rattle.arity_check.proofs.Scopes.{expr_behind, members_behind, all_named_binds, named_binds}
 use Rattle.arity_check.proofs.Steps.{fields_of_table, number_of_table}
 use Rattle.arity_check.proofs.Counted.{Alike, Same, alike_all}
 use Rattle.arity_check.proofs.Unique.{group_locals, group_length}
 use Rattle.arity_check.proofs.Normals.{names_are}
 use Rattle.arity_check.proofs.Finish.{functions_sound, main_there, main_is}
-
-order : (m n : ℕ) → (m < n) ⊎ ((m ≡ n) ⊎ (n < m))
-order m n = elim (two_ways (m == n)) [
-  | inl e ↦ inr (inl (eqb-true m n e))
-  | inr e ↦ elim (two_ways (nat_lt m n)) [ inl f ↦ inl (ltb-true m n f) | inr f ↦ inr (inr (grind (arith, common_steps, e, f))) ]
-]
 
 two_vars : (xs : List Var) → length xs ≡ 2 → (x : Var) × ((y : Var) × (xs ≡ x ∷ y ∷ []))
 two_vars [] e = absurd (omega (arith, e))
@@ -144,7 +139,7 @@ module _ (p : Program) where
     some_named n (scope.Function g zero) at args e h = let a = some_args args h n in record { news = a.news; made = flat.Apply (var.Global g) a.xs; is = form.OfGlobal a.are }
     some_named n (scope.Function g (suc j)) at args e h =
         let a = some_args args h n in
-        elim (order (count args) (suc j)) [
+        elim (compared (count args) (suc j)) [
           | inl l ↦ record { news = a.news; made = flat.Part g a.xs; is = form.Partial (omega (arith, l, a.size)) a.are }
           | inr r ↦ elim r [
             | inl q ↦ record { news = a.news; made = flat.Call g a.xs; is = form.Called (a.size ∙ q) a.are }

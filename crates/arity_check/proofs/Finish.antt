@@ -19,6 +19,7 @@ use Rattle.arity_check.specs.Accepted.{IsUnbroken, IsFirstBroken}
 use Rattle.arity_check.specs.First.{IsCause}
 use Rattle.arity_check.specs.Normal.{Pairwise}
 use Rattle.seq.specs.Lists.{In, here}
+use Rattle.seq.proofs.Lists.{get_within}
 use Rattle.arity_check.proofs.Names.{main_named}
 use Rattle.arity_check.proofs.NoFaults.{no_front, no_back}
 use Rattle.arity_check.proofs.Soundness.{sound}
@@ -35,14 +36,9 @@ all_at P f [] i x h l is = absurd (omega (arith, l))
 all_at P f (y ∷ ys) zero x h l is = subst (λ z. P (f z)) (sym is) (h 0 (f y) (omega arith))
 all_at P f (y ∷ ys) (suc i) x h l is = all_at P f ys i x (λ k d m. h (suc k) d (omega (arith, m))) (omega (arith, l)) is
 
-some_within : {X : Type 0} (xs : List X) (i : ℕ) (x : X) → slice_get xs i ≡ Some x → i < length xs
-some_within [] i x e = absurd cc
-some_within (y ∷ ys) zero x e = omega arith
-some_within (y ∷ ys) (suc i) x e = omega (arith, some_within ys i x e)
-
 -- the number of a name is a place among the names
 pub text_within : (names : List (List ℕ)) (Kind : List ℕ → Type 0) (n : ℕ) → IsTextAt names Kind n → n < length names
-text_within names Kind n w = some_within names n w.0 w.1
+text_within names Kind n w = get_within names n w.0 w.1
 
 -- ---- where no rule is broken
 

@@ -1,7 +1,6 @@
 -- The earliest of some refusals.
 use Rattle.std.proofs.Common.{◌≡◌, ℕ, ◌<◌, true, false, List, [], ◌∷◌, refl, sym, ap, ◌∙◌, subst, arith, Option, Some, None, ◌⊎◌, inl, inr}
-use Rattle.std.specs.Prelude.{if◌then◌else◌, nat_lt}
-use Rattle.std.proofs.lemmas.Bool.{ltb-true}
+use Rattle.std.specs.Prelude.{if◌then◌else◌}
 use Rattle.std.proofs.lemmas.Grind.{common_steps}
 use Rattle.core_reader.specs.Tree.{Program}
 use Rattle.arity_check.specs.declared.refusal.CheckRefusal.{CheckRefusal}
@@ -10,27 +9,22 @@ use Rattle.arity_check.specs.First.{IsFirstRefusal}
 use Rattle.arity_check.specs.Refusal.{rule, rank_of, before, is_before, earlier, least}
 use Rattle.arity_check.specs.Whole.{whole_faults}
 use Rattle.seq.specs.Lists.{In, here, there}
-use Rattle.arity_check.proofs.Names.{two_ways}
+use Rattle.seq.proofs.Order.{compared}
+use Rattle.seq.proofs.Truth.{two_ways}
 use Rattle.arity_check.proofs.Soundness.{sound, complete, Listed}
-
-order : (m n : ℕ) → (m < n) ⊎ ((m ≡ n) ⊎ (n < m))
-order m n = elim (two_ways (nat_lt m n)) [
-  | inl e ↦ inl (ltb-true m n e)
-  | inr e ↦ elim (two_ways (nat_lt n m)) [ inl f ↦ inr (inr (ltb-true n m f)) | inr f ↦ inr (inl (grind (arith, common_steps, e, f))) ]
-]
 
 -- one comes before the other
 abbrev IsEarlier : ℕ × ℕ × ℕ → ℕ × ℕ × ℕ → Type 0
 IsEarlier a b = (a.0 < b.0) ⊎ ((a.0 ≡ b.0) × ((a.1 < b.1) ⊎ ((a.1 ≡ b.1) × (a.2 < b.2))))
 
 either : (a b : ℕ × ℕ × ℕ) → IsBefore a b ⊎ IsEarlier b a
-either a b = elim (order a.0 b.0) [
+either a b = elim (compared a.0 b.0) [
   | inl l ↦ inl (inl l)
   | inr n ↦ elim n [
-    | inl s ↦ elim (order a.1 b.1) [
+    | inl s ↦ elim (compared a.1 b.1) [
       | inl l ↦ inl (inr (s, inl l))
       | inr m ↦ elim m [
-        | inl t ↦ elim (order a.2 b.2) [
+        | inl t ↦ elim (compared a.2 b.2) [
           | inl l ↦ inl (inr (s, inr (t, omega (arith, l))))
           | inr w ↦ elim w [ inl u ↦ inl (inr (s, inr (t, omega (arith, u)))) | inr g ↦ inr (inr (sym s, inr (sym t, g))) ]
         ]

@@ -1,6 +1,5 @@
 -- The normal forms of the code's expressions.
-use Rattle.std.proofs.Common.{◌≡◌, ℕ, zero, suc, ◌+◌, ◌<◌, true, false, List, [], ◌∷◌, ◌++◌, map, length, get_or, refl, sym, ap, ◌∙◌, subst, arith, Some, None}
-use Rattle.std.specs.Prelude.{slice_get}
+use Rattle.std.proofs.Common.{◌≡◌, ℕ, zero, suc, ◌+◌, true, false, List, [], ◌∷◌, ◌++◌, map, length, refl, sym, ap, ◌∙◌, subst, arith, Some, None}
 use Rattle.std.specs.List.{range_with_len}
 use Rattle.core_reader.specs.declared.syntax.Binder.{Binder}
 use Rattle.core_reader.specs.Tree as tree
@@ -118,11 +117,6 @@ range_suc a (suc n) =
 
 pub range_more : (a n j : ℕ) → j ≡ a + n → range_with_len a (n + 1) ≡ range_with_len a n ++ j ∷ []
 range_more a n j e = let s : n + 1 ≡ suc n = omega arith in ap (range_with_len a) s ∙ range_suc a n ∙ ap (λ k. range_with_len a n ++ k ∷ []) (sym e)
-
-pub at_some : {T : Type 0} (xs : List T) (i : ℕ) (x : T) → i < length xs → x ≡ get_or xs i x → slice_get xs i ≡ Some x
-at_some [] i x l is = absurd (omega (arith, l))
-at_some (y ∷ ys) zero x l is = ap Some (sym is)
-at_some (y ∷ ys) (suc i) x l is = at_some ys i x (omega (arith, l)) is
 
 -- a branch of the code's alternative
 pub branch_along : (p : Program) (s : Scope) (n m : ℕ) (a : Alt) (pat : Pattern) (rest : Alts) (b b' : normal.Branches) → a.pattern ≡ pat → b ≡ b' → AreBranches p s n (AndAlt pat (expr a.body) rest) b' m → AreBranches p s n (alternative a rest) b m

@@ -12,7 +12,7 @@ use Rattle.arity_check.specs.declared.globals.Kind.{Kind}
 use Rattle.arity_check.specs.declared.refusal.CheckRefusal.{CheckRefusal}
 use Rattle.arity_check.specs.declared.refusal.CheckRefusal.TheVariants as refusal
 use Rattle.arity_check.specs.Scope as scope
-use Rattle.arity_check.specs.Scope.{Scope, Meaning, Local, Primitive, Unbound, means, is_named, primitives}
+use Rattle.arity_check.specs.Scope.{Scope, Meaning, Local, Primitive, Unbound, means, is_named}
 use Rattle.arity_check.specs.Refusal.{rule, place}
 use Rattle.arity_check.specs.Broken as broken
 use Rattle.arity_check.specs.Standing.{count}
@@ -24,35 +24,21 @@ use Rattle.arity_check.specs.Known.{Known, is_nameless, is_reserved, meaning, al
 use Rattle.arity_check.specs.Faults.{noted, meaning_faults, arity_faults, mixed, no_patterns, app_faults, binder_faults, binders_faults, pattern_faults, patterns_faults, expr_faults}
 use Rattle.arity_check.specs.Whole.{known_of, main_kind, int_kind, nil_kind, cons_kind, con_faults, cons_faults, header_faults, body_faults, functions_faults, has_main, has_fields, has_nil, has_cons, lacks_faults, whole_faults}
 use Rattle.seq.specs.Lists.{In, here}
+use Rattle.seq.proofs.Truth.{true_not_false, not_true, and_parts, and_from, two_ways}
 use Rattle.arity_check.proofs.Noted.{in_left, in_right, in_cases, from_one, from_noted, to_noted, walked, from_walked, to_walked, to_walked_again}
-use Rattle.arity_check.proofs.Names.{two_ways, nameless_named, main_named, int_named, nil_named, cons_named, meaning_means, entered_within, fields_some, fields_none, from_reserved, to_reserved, first_place, first_with}
+use Rattle.arity_check.proofs.Names.{nameless_named, main_named, int_named, nil_named, cons_named, meaning_means, entered_within, fields_some, fields_none, from_reserved, to_reserved, first_place, first_with}
 use Rattle.arity_check.proofs.Apps.{atom_faults, app_from, to_app, to_contains}
 use Rattle.arity_check.proofs.Exprs.{piece_faults, bound_faults, expr_from, to_expr, to_bound, bound_from}
 use Rattle.arity_check.proofs.Patterns.{state, last_at, patterns_from, to_patterns, last_from, to_last, con_from, to_con, int_from, to_int, kind_of_pattern, kind_from, to_kind}
 
 -- ---- tests
 
-true_false : {A : Type 0} → true ≡ false → A
-true_false e = absurd cc
-
-not_true : (b : Bool) → not b ≡ true → b ≡ false
-not_true true e = cc
-not_true false e = refl
-
 true_not : (b : Bool) → b ≡ false → not b ≡ true
 true_not true e = cc
 true_not false e = refl
 
-both : (a b : Bool) → (a && b) ≡ true → (a ≡ true) × (b ≡ true)
-both true b e = (refl, e)
-both false b e = absurd cc
-
-and_true : (a b : Bool) → a ≡ true → b ≡ true → (a && b) ≡ true
-and_true true b e f = f
-and_true false b e f = absurd cc
-
 differ : (n m : ℕ) → not (n == m) ≡ true → n ≢ m
-differ n m e h = true_false (sym (eq-eqb n m h) ∙ not_true (n == m) e)
+differ n m e h = true_not_false (sym (eq-eqb n m h) ∙ not_true (n == m) e)
 
 to_differ : (n m : ℕ) → n ≢ m → not (n == m) ≡ true
 to_differ n m h = elim (two_ways (n == m)) [ inl e ↦ absurd (h (eqb-true n m e)) | inr e ↦ true_not (n == m) e ]
@@ -60,8 +46,8 @@ to_differ n m h = elim (two_ways (n == m)) [ inl e ↦ absurd (h (eqb-true n m e
 differs : (q r : Pattern) (b : Bool) → kind_of_pattern q ≡ Some b → kind_of_pattern r ≡ Some (not b) → Differs q r
 differs (pattern.Con c xs) (pattern.Int n at) b e f = tt
 differs (pattern.Int n at) (pattern.Con c xs) b e f = tt
-differs (pattern.Con c xs) (pattern.Con d ys) b e f = let s : true ≡ b = cc in let t : true ≡ not b = cc in absurd (true_false (t ∙ ap not (sym s)))
-differs (pattern.Int n at) (pattern.Int m at') b e f = let s : false ≡ b = cc in let t : false ≡ not b = cc in absurd (true_false (ap not s ∙ sym t))
+differs (pattern.Con c xs) (pattern.Con d ys) b e f = let s : true ≡ b = cc in let t : true ≡ not b = cc in absurd (true_not_false (t ∙ ap not (sym s)))
+differs (pattern.Int n at) (pattern.Int m at') b e f = let s : false ≡ b = cc in let t : false ≡ not b = cc in absurd (true_not_false (ap not s ∙ sym t))
 differs (pattern.Default x) r b e f = absurd cc
 differs (pattern.Con c xs) (pattern.Default x) b e f = absurd cc
 differs (pattern.Int n at) (pattern.Default x) b e f = absurd cc
@@ -99,9 +85,9 @@ module _ (p : Program) where
             retag (refusal.ReservedName x.at) r n.is (broken.ReservedBinder w.i v.0 bl w.is v.1.1 v.1.2)
         | inr b ↦
             let n = from_noted (not (is_nameless k x.name.0) && w.again) (refusal.DuplicateName x.at) r b in
-            let h = both (not (is_nameless k x.name.0)) w.again n.holds in
+            let h = and_parts (not (is_nameless k x.name.0)) w.again n.holds in
             elim (w.before h.1) [
-              | inl e ↦ true_false (sym e)
+              | inl e ↦ true_not_false (sym e)
               | inr o ↦ retag (refusal.DuplicateName x.at) r n.is (broken.DuplicateName bl (record {
                 i = o.0;
                 j = w.i;
@@ -122,7 +108,7 @@ module _ (p : Program) where
       let y : Binder = w.second in
       let named : not (is_nameless k y.name.0) ≡ true = true_not (is_nameless k y.name.0) (nameless_named p y.name.0 ∙ w.named) in
       let here : In (refusal.DuplicateName y.at) (binder_step w.j true y) =
-      in_right (noted (is_reserved k y.name.0) (refusal.ReservedName y.at)) (to_noted (not (is_nameless k y.name.0) && true) (refusal.DuplicateName y.at) (and_true (not (is_nameless k y.name.0)) true named refl)) in
+      in_right (noted (is_reserved k y.name.0) (refusal.ReservedName y.at)) (to_noted (not (is_nameless k y.name.0) && true) (refusal.DuplicateName y.at) (and_from (not (is_nameless k y.name.0)) true named refl)) in
       let all : In (refusal.DuplicateName y.at) (binders_faults k none xs) = subst (In (refusal.DuplicateName y.at)) (sym (binders_walked 0 none xs))
       (to_walked_again (λ (x : Binder). x.name.0) binder_step (refusal.DuplicateName y.at) 0 none xs w.i w.j w.first y w.before w.is_first w.is_second w.same here) in
       subst (λ n. In (refusal.DuplicateName n) (binders_faults k none xs)) w.here all
@@ -215,7 +201,7 @@ module _ (p : Program) where
           | inl a ↦
               let n = from_noted (s.cons c.name.0) (refusal.DuplicateAlternative c.at) r a in
               elim (con_from no_patterns alts i c.name.0 n.holds) [
-                | inl e ↦ true_false (sym e)
+                | inl e ↦ true_not_false (sym e)
                 | inr w ↦ retag (refusal.DuplicateAlternative c.at) r n.is (broken.DuplicateCon w.j i f w.before w.is is (sym w.same))
               ]
           | inr a ↦
@@ -229,7 +215,7 @@ module _ (p : Program) where
         | inl a ↦
             let n = from_noted (s.ints m) (refusal.DuplicateAlternative at) r a in
             elim (int_from no_patterns alts i m n.holds) [
-              | inl e ↦ true_false (sym e)
+              | inl e ↦ true_not_false (sym e)
               | inr w ↦ retag (refusal.DuplicateAlternative at) r n.is (broken.DuplicateInt w.j i f w.before w.is is)
             ]
         | inr a ↦
@@ -280,7 +266,7 @@ module _ (p : Program) where
           | inl a ↦
               let n = from_noted w.again (refusal.DuplicateConstructor d.at) r a in
               elim (w.before n.holds) [
-                | inl e ↦ true_false (sym e)
+                | inl e ↦ true_not_false (sym e)
                 | inr o ↦ retag (refusal.DuplicateConstructor d.at) r n.is (broken.DuplicateConstructor o.1.1 o.1.2 w.is o.1.3)
               ]
           | inr c ↦ elim (in_cases r (noted (nat_lt 12 d.fields) (refusal.TooManyFields d.at)) _ c) [
@@ -313,7 +299,7 @@ module _ (p : Program) where
             | inl a ↦
                 let n = from_noted w.again (refusal.DuplicateFunction f.at) r a in
                 elim (w.before n.holds) [
-                  | inl e ↦ true_false (sym e)
+                  | inl e ↦ true_not_false (sym e)
                   | inr o ↦ retag (refusal.DuplicateFunction f.at) r n.is (broken.DuplicateFunction o.1.1 o.1.2 w.is o.1.3)
                 ]
             | inr c ↦ elim (in_cases r (noted (nat_lt 12 (length f.params)) (refusal.TooManyParameters f.at)) _ c) [
@@ -325,7 +311,7 @@ module _ (p : Program) where
                     retag (refusal.ReservedName f.at) r n.is (broken.ReservedFunction w.i v.0 w.is v.1.1 v.1.2)
                 | inr a ↦
                     let n = from_noted (main_kind (k.kind f.name) && nat_lt 1 (length f.params)) (refusal.MainHasParameters f.at) r a in
-                    let h = both (main_kind (k.kind f.name)) (nat_lt 1 (length f.params)) n.holds in
+                    let h = and_parts (main_kind (k.kind f.name)) (nat_lt 1 (length f.params)) n.holds in
                     retag (refusal.MainHasParameters f.at) r n.is (broken.MainHasParameters w.i w.is (sym (main_named p f.name) ∙ h.0) (ltb-true 1 (length f.params) h.1))
               ]
             ]
@@ -367,7 +353,7 @@ module _ (p : Program) where
 
   no_main : has_main k p.functions ≡ false → (i : ℕ) (f : Function) → slice_get p.functions i ≡ Some f → is_named p (codes "main") f.name ≡ false
   no_main e i f is = elim (two_ways (is_named p (codes "main") f.name)) [
-    | inl h ↦ true_false (sym (any_at main_test p.functions i f is (main_named p f.name ∙ h)) ∙ e)
+    | inl h ↦ true_not_false (sym (any_at main_test p.functions i f is (main_named p f.name ∙ h)) ∙ e)
     | inr h ↦ h
   ]
 
@@ -378,12 +364,12 @@ module _ (p : Program) where
       let d : Data = w.0 in
       let at = first_place d.name p.constructors d w.1 in
       let fields : has_fields (k.fields d.name) n ≡ true = ap (λ o. has_fields o n) (fields_some p d.name p.constructors d w.1) ∙ eq-eqb d.fields n w.3 in
-      any_at (λ (d : Data). test (k.kind d.name) && has_fields (k.fields d.name) n) p.constructors at.0 d at.1 (and_true (test (k.kind d.name)) (has_fields (k.fields d.name) n) (same d.name ∙ w.2) fields)
+      any_at (λ (d : Data). test (k.kind d.name) && has_fields (k.fields d.name) n) p.constructors at.0 d at.1 (and_from (test (k.kind d.name)) (has_fields (k.fields d.name) n) (same d.name ∙ w.2) fields)
 
   by_declares : (test : Kind → Bool) (name : List ℕ) → ((x : ℕ) → test (k.kind x) ≡ is_named p name x) → (n : ℕ) → list_any (λ (d : Data). test (k.kind d.name) && has_fields (k.fields d.name) n) p.constructors ≡ true → Declares p name n
   by_declares test name same n e =
       let w = from_any (λ (d : Data). test (k.kind d.name) && has_fields (k.fields d.name) n) p.constructors e in
-      let h = both (test (k.kind w.item.name)) (has_fields (k.fields w.item.name) n) w.passes in
+      let h = and_parts (test (k.kind w.item.name)) (has_fields (k.fields w.item.name) n) w.passes in
       let first = first_with w.item.name n p.constructors h.1 in
       let d : Data = first.0 in
       let own : first_named d.name p.constructors ≡ Some d = ap (λ c. first_named c p.constructors) first.2 ∙ first.1 in
@@ -407,8 +393,8 @@ module _ (p : Program) where
         | inl a ↦ let n = from_noted (not (has_main k p.functions)) refusal.NoMain r a in retag refusal.NoMain r n.is (broken.NoMain (no_main (not_true (has_main k p.functions) n.holds)))
         | inr a ↦
             let n = from_noted (not (has_nil k p.constructors && has_cons k p.constructors)) refusal.NoListConstructors r a in
-            retag refusal.NoListConstructors r n.is (broken.NoListConstructors (λ w. true_false (
-            sym (and_true (has_nil k p.constructors) (has_cons k p.constructors) (declares_nil w.0) (declares_cons w.1)) ∙ not_true (has_nil k p.constructors && has_cons k p.constructors) n.holds)))
+            retag refusal.NoListConstructors r n.is (broken.NoListConstructors (λ w. true_not_false (
+            sym (and_from (has_nil k p.constructors) (has_cons k p.constructors) (declares_nil w.0) (declares_cons w.1)) ∙ not_true (has_nil k p.constructors && has_cons k p.constructors) n.holds)))
       ]
 
   abbrev too_large : List CheckRefusal
@@ -537,18 +523,18 @@ module _ (p : Program) where
       (subst (λ m. In (refusal.PrimitiveArity at) (meaning_faults m at n)) (sym (meaning_means p t x ∙ e)) (to_noted (not (n == 2)) (refusal.PrimitiveArity at) (to_differ n 2 h))))
   complete (broken.NoMain h) =
       listed refusal.NoMain (met_lack refusal.NoMain (in_left _ (to_noted (not (has_main k p.functions)) refusal.NoMain (elim (two_ways (has_main k p.functions)) [
-        | inl e ↦ (let w = from_any main_test p.functions e in true_false (sym w.passes ∙ main_named p w.item.name ∙ h w.i w.item w.is))
+        | inl e ↦ (let w = from_any main_test p.functions e in true_not_false (sym w.passes ∙ main_named p w.item.name ∙ h w.i w.item w.is))
         | inr e ↦ true_not (has_main k p.functions) e
       ]))))
   complete (broken.MainHasParameters {f = f} i e s l) =
       listed (refusal.MainHasParameters f.at) (met_fun (refusal.MainHasParameters f.at) (to_walked (λ (f : Function). f.name) fun_step (refusal.MainHasParameters f.at) 0 none p.functions i f e (λ b.
       in_left (body_faults k [] f) (in_right (noted (0 + i == 4096) (refusal.TooManyFunctions f.at)) (in_right (noted b (refusal.DuplicateFunction f.at)) (in_right (noted (nat_lt 12 (length f.params)) (refusal.TooManyParameters f.at))
       (in_right (noted (is_reserved k f.name) (refusal.ReservedName f.at)) (to_noted (main_kind (k.kind f.name) && nat_lt 1 (length f.params)) (refusal.MainHasParameters f.at)
-      (and_true (main_kind (k.kind f.name)) (nat_lt 1 (length f.params)) (main_named p f.name ∙ s) (lt-ltb 1 (length f.params) l))))))))))
+      (and_from (main_kind (k.kind f.name)) (nat_lt 1 (length f.params)) (main_named p f.name ∙ s) (lt-ltb 1 (length f.params) l))))))))))
   complete (broken.NoListConstructors h) =
       listed refusal.NoListConstructors (met_lack refusal.NoListConstructors (in_right (noted (not (has_main k p.functions)) refusal.NoMain)
       (to_noted (not (has_nil k p.constructors && has_cons k p.constructors)) refusal.NoListConstructors (elim (two_ways (has_nil k p.constructors && has_cons k p.constructors)) [
-        | inl e ↦ (let w = both (has_nil k p.constructors) (has_cons k p.constructors) e in absurd (h (nil_declares w.0, cons_declares w.1)))
+        | inl e ↦ (let w = and_parts (has_nil k p.constructors) (has_cons k p.constructors) e in absurd (h (nil_declares w.0, cons_declares w.1)))
         | inr e ↦ true_not (has_nil k p.constructors && has_cons k p.constructors) e
       ]))))
   complete (broken.TooManyFunctions {f = f} e) =

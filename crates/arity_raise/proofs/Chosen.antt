@@ -1,11 +1,11 @@
 -- What is decided of a parameter, of those of a procedure, and of all.
 use Rattle.std.proofs.Common.{◌≡◌, ℕ, zero, suc, ◌+◌, ◌<◌, ◌≤◌, List, [], ◌∷◌, ◌++◌, map, take, length, get_or, Option, Some, None, refl, sym, ap, ◌∙◌, subst, append_assoc, arith}
 use Rattle.std.proofs.lemmas.List.{take_more, take_all, append-nil}
+use Rattle.seq.proofs.Lists.{take_next, map_push}
 use Rattle.grin_syntax.specs.declared.program.VarId.{VarId}
 use Rattle.grin_syntax.specs.declared.program.Proc.{Proc}
 use Rattle.grin_syntax.specs.Fresh.{variable, variables, past_procs}
 use Rattle.grin_syntax.specs.Tree.{Procedure, Program, procedure_of}
-use Rattle.grin_syntax.proofs.Pieces.{take_next, map_push}
 use Rattle.flow_system.specs.Solution.{Solution}
 use Rattle.arity_raise.specs.Raisable.{Raisable}
 use Rattle.arity_raise.specs.Raising.{Raising, Decisions, fields_of}

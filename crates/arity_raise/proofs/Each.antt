@@ -1,9 +1,9 @@
 -- What holds of each number in a list.
 use Rattle.std.proofs.Common.{◌≡◌, ℕ, zero, suc, ◌+◌, ◌<◌, ◌≤◌, List, [], ◌∷◌, ◌++◌, map, take, length, get_or, sym, ap, ◌∙◌, subst, ⊎_elim, arith}
 use Rattle.std.proofs.lemmas.List.{take_more, take_all}
-use Rattle.grin_syntax.proofs.Pieces.{map_push}
 use Rattle.points_to.specs.Held.{In, here, there}
 use Rattle.seq.proofs.Member.{none_in, one_in, in_split}
+use Rattle.seq.proofs.Lists.{map_push}
 
 pub record Each (P : ℕ → Type 0) (ns : List ℕ) : Type 0 where
   pub by : (n : ℕ) → In n ns → P n

@@ -1,5 +1,6 @@
 -- Where a procedure begins: the parameters, and those that stand in their place, take related arguments.
 use Rattle.std.proofs.Common.{◌≡◌, ℕ, suc, ◌+◌, ◌<◌, ◌≤◌, Bool, true, false, cond, nat_eq, List, [], ◌∷◌, ◌++◌, length, Option, Some, None, refl, sym, ap, ◌∙◌, subst, arith}
+use Rattle.seq.proofs.Order.{eq_from, eq_self, eq_false}
 use Rattle.grin_syntax.specs.declared.program.VarId.{VarId}
 use Rattle.grin_syntax.specs.Binders.{times, numbers_of}
 use Rattle.grin_syntax.specs.Formed.{InScope}
@@ -8,7 +9,7 @@ use Rattle.grin_syntax.proofs.Counted.{counts, one_at, fresh}
 use Rattle.grin_meaning.specs.Values.{Datum, Value, words, Env, HeapCell, and_then, Binding, with_vars, one_each}
 use Rattle.arity_raise.specs.Raising.{Raising, Decisions, fields_of, raised_params, decided}
 use Rattle.arity_raise.specs.Decided.{new_params}
-use Rattle.pass_ground.proofs.Tests.{equal_so, equal_self, equal_not, never_both, times_vars}
+use Rattle.pass_ground.proofs.Tests.{never_both, times_vars}
 use Rattle.pass_ground.proofs.Bound.{names_of, vars_out, vars_in, vars_append, one_each_names}
 use Rattle.arity_raise.proofs.Facts.{fresh_in}
 use Rattle.arity_raise.proofs.Related.{EachIs, each_same, Held, ArgsFor, FieldsOf}
@@ -23,13 +24,13 @@ pub row_out : (k : ℕ) (ds : List Datum) (env : Env) (y : ℕ) → y < k → wi
 row_out k [] env y lt = refl
 row_out k (d ∷ ds) env y lt =
     row_out (suc k) ds (λ z. cond (nat_eq z k) (Some (words (d ∷ []))) (env z)) y (omega arith)
-    ∙ ap (λ b. cond b (Some (words (d ∷ []))) (env y)) (equal_not y k (λ q. (let no : ⊥ = omega arith in no)))
+    ∙ ap (λ b. cond b (Some (words (d ∷ []))) (env y)) (eq_false y k (λ q. (let no : ⊥ = omega arith in no)))
 
 pub row_each : (k : ℕ) (ds : List Datum) (env : Env) → EachIs (with_vars (in_a_row k ds) env) k ds
 row_each k [] env = tt
 row_each k (d ∷ ds) env =
     let env1 : Env = λ z. cond (nat_eq z k) (Some (words (d ∷ []))) (env z) in
-    (row_out (suc k) ds env1 k (omega arith) ∙ ap (λ b. cond b (Some (words (d ∷ []))) (env k)) (equal_self k), row_each (suc k) ds env1)
+    (row_out (suc k) ds env1 k (omega arith) ∙ ap (λ b. cond b (Some (words (d ∷ []))) (env k)) (eq_self k), row_each (suc k) ds env1)
 
 row_more : (k : ℕ) (ds rest : List Datum) (ys : List VarId) (cs : List Binding) → one_each ys rest ≡ Some cs → one_each (variables k (length ds) ++ ys) (ds ++ rest) ≡ Some (in_a_row k ds ++ cs)
 row_more k [] rest ys cs e = e
@@ -79,7 +80,7 @@ module _ (F : List HeapCell) where
   in_others x xs y e i = go (nat_eq y x.0) refl i
     where
       go : (b : Bool) → nat_eq y x.0 ≡ b → 0 < counts b + times y (numbers_of xs) → InScope (numbers_of xs) y
-      go true q k = never_both (ap (λ z. nat_eq z y) (sym (equal_so y x.0 q)) ∙ equal_self y) e
+      go true q k = never_both (ap (λ z. nat_eq z y) (sym (eq_from y x.0 q)) ∙ eq_self y) e
       go false q k = omega (arith, k)
 
   -- nothing is decided: the arguments are the same
@@ -124,11 +125,11 @@ module _ (F : List HeapCell) where
           ap (times x.0) (one_each_names (raised_params ds xs) rest k.bs' k.binds) ∙ m
 
       own : (cs : List Binding) (env : Env) → times x.0 (names_of cs) ≡ 0 → with_vars cs (plus x.0 d env) x.0 ≡ Some (words (d ∷ []))
-      own cs env z = vars_out cs (plus x.0 d env) x.0 z ∙ ap (λ b. cond b (Some (words (d ∷ []))) (env x.0)) (equal_self x.0)
+      own cs env z = vars_out cs (plus x.0 d env) x.0 z ∙ ap (λ b. cond b (Some (words (d ∷ []))) (env x.0)) (eq_self x.0)
 
       same : (env env' : Env) (y : ℕ) (v : Value) → InScope (numbers_of (x ∷ xs)) y → (b : Bool) → nat_eq x.0 y ≡ b → cond b None (decided ds xs y) ≡ None → with_vars cs (plus x.0 d env) y ≡ Some v → with_vars k.bs' (plus x.0 d env') y ≡ Some v
       same env env' y v i true e n h =
-          let is : x.0 ≡ y = equal_so x.0 y e in
+          let is : x.0 ≡ y = eq_from x.0 y e in
           let val : Some (words (d ∷ [])) ≡ Some v = sym (own cs env not_later) ∙ ap (with_vars cs (plus x.0 d env)) is ∙ h in
           ap (with_vars k.bs' (plus x.0 d env')) (sym is) ∙ own k.bs' env' not_later' ∙ val
       same env env' y v i false e n h = k.same (plus x.0 d env) (plus x.0 d env') y v (in_others x xs y e i) n h
@@ -161,7 +162,7 @@ module _ (F : List HeapCell) where
           ap (times x.0) (one_each_names xs es cs others) ∙ m
 
       own : (env : Env) → with_vars cs (plus x.0 d env) x.0 ≡ Some (words (d ∷ []))
-      own env = vars_out cs (plus x.0 d env) x.0 not_later ∙ ap (λ b. cond b (Some (words (d ∷ []))) (env x.0)) (equal_self x.0)
+      own env = vars_out cs (plus x.0 d env) x.0 not_later ∙ ap (λ b. cond b (Some (words (d ∷ []))) (env x.0)) (eq_self x.0)
 
       -- the fields aren't bound again
       apart : (j : ℕ) → r.first.0 ≤ j → j < r.first.0 + length fs → times j (names_of k.bs') ≡ 0
@@ -183,7 +184,7 @@ module _ (F : List HeapCell) where
 
       fields : (env env' : Env) (y : ℕ) (s : Raising) (v : Value) (b : Bool) → nat_eq x.0 y ≡ b → cond b (Some r) (decided ds xs y) ≡ Some s → with_vars cs (plus x.0 d env) y ≡ Some v → FieldsOf F s v (with_vars (row ++ k.bs') env')
       fields env env' y s v true e n h =
-          let is : x.0 ≡ y = equal_so x.0 y e in
+          let is : x.0 ≡ y = eq_from x.0 y e in
           let r_is : r ≡ s = cc in
           let val : Some (words (d ∷ [])) ≡ Some v = sym (own env) ∙ ap (with_vars cs (plus x.0 d env)) is ∙ h in
           let v_is : v ≡ words (d ∷ []) = cc in

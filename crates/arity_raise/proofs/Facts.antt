@@ -1,20 +1,16 @@
 -- Small facts: of tests, of lists, and of the variables that are bound.
-use Rattle.std.proofs.Common.{◌≡◌, ◌≢◌, ℕ, zero, suc, ◌+◌, ◌<◌, ◌≤◌, Bool, true, false, cond, ◌||◌, nat_eq, List, [], ◌∷◌, ◌++◌, map, length, Option, Some, None, refl, sym, ap, ◌∙◌, subst, arith}
-use Rattle.std.proofs.lemmas.Bool.Decides.{nat_tests}
+use Rattle.std.proofs.Common.{◌≡◌, ◌≢◌, ℕ, zero, suc, ◌+◌, ◌<◌, ◌≤◌, Bool, true, false, cond, nat_eq, List, [], ◌∷◌, Option, Some, None, refl, sym, ap, ◌∙◌, subst, arith}
+use Rattle.seq.proofs.Order.{differs_from}
 use Rattle.grin_syntax.specs.declared.program.VarId.{VarId}
-use Rattle.grin_syntax.specs.declared.program.Cell.{Cell}
 use Rattle.grin_syntax.specs.declared.program.Shape.{Shape}
 use Rattle.grin_syntax.specs.declared.program.Shape.TheVariants as shape
-use Rattle.grin_syntax.specs.declared.program.Target.{Target}
 use Rattle.grin_syntax.specs.declared.program.Target.TheVariants as to
-use Rattle.grin_syntax.specs.Binders.{times, numbers_of, target_vars, shape_vars, cell_vars}
+use Rattle.grin_syntax.specs.Binders.{numbers_of, shape_vars}
 use Rattle.grin_syntax.specs.Formed.{AllOf, InScope}
 use Rattle.grin_syntax.specs.Tree.{Program}
 use Rattle.grin_syntax.proofs.Counted.{counts, none_at, one_at, fresh}
-use Rattle.grin_meaning.specs.Values.{Datum, number, tag, cell, Node, Value, node, words, Env, and_then, padded, Binding, with_vars, one_each, fits, fits_not, fits_if, fields_fit, node_fit, number_fit, int_fit, fit_of, as_node, bindings_of}
-use Rattle.grin_meaning.specs.Run.{places}
+use Rattle.grin_meaning.specs.Values.{Datum, number, tag, cell, Node, Value, Binding, one_each, fits, fits_not, fits_if, fields_fit, node_fit, number_fit, int_fit, fit_of, as_node}
 use Rattle.numbers.specs.Numbers.{same_number}
-use Rattle.pass_ground.proofs.Tests.{differ_so}
 use Rattle.pass_ground.proofs.Bound.{names_of, one_each_names}
 
 -- where it holds of each number that stands in the list
@@ -36,7 +32,7 @@ fresh_in x y (suc k) le lt = go (nat_eq x y) refl (fresh_in x (suc y) k)
     go : (b : Bool) → nat_eq x y ≡ b → (suc y ≤ x → x < suc y + k → 1 ≤ fresh x (suc y) k) → 1 ≤ counts b + fresh x (suc y) k
     go true e f = omega arith
     go false e f =
-        let ne : x ≢ y = differ_so x y e in
+        let ne : x ≢ y = differs_from x y e in
         let r : 1 ≤ fresh x (suc y) k = f (omega (arith, ne, le)) (omega (arith, lt)) in
         omega (arith, r)
 

@@ -1,6 +1,7 @@
 -- The fields that a call fetches, and its arguments.
 use Rattle.std.proofs.Common.{◌≡◌, ℕ, zero, suc, ◌+◌, ◌<◌, ◌≤◌, cond, nat_eq, Bool, true, false, List, [], ◌∷◌, ◌++◌, map, drop, length, get_or, Option, None, refl, sym, ap, ◌∙◌, append_assoc, arith}
 use Rattle.std.proofs.lemmas.List.{drop_more, drop_all, append-nil}
+use Rattle.seq.proofs.Lists.{map_push}
 use Rattle.grin_syntax.specs.declared.program.VarId.{VarId}
 use Rattle.grin_syntax.specs.declared.program.Word as W
 use Rattle.grin_syntax.specs.declared.program.Word.TheVariants.{Var}
@@ -11,7 +12,7 @@ use Rattle.grin_syntax.specs.declared.program.Op.TheVariants.{FetchWord}
 use Rattle.grin_syntax.specs.Tree.{Code, bind, fetch_word, before_of, all_before}
 use Rattle.grin_syntax.specs.Fresh.{variable, variables}
 use Rattle.grin_syntax.proofs.TreeOf.{before_of-Bind, act_of-FetchWord}
-use Rattle.grin_syntax.proofs.Pieces.{all_before_push, map_push}
+use Rattle.grin_syntax.proofs.Pieces.{all_before_push}
 use Rattle.grin_syntax.proofs.Past.{variables_push}
 use Rattle.arity_raise.specs.Raising.{Raising, Decisions, decided, raised_param, raised_params, field_fetches, fetches_for, argument_for, arguments_for, new_of, new_for}
 use Rattle.arity_raise.specs.Decision.{decision_at}

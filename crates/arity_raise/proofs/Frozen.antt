@@ -1,9 +1,10 @@
 -- Cells that no update reaches keep their nodes from each state of a run to its end.
 use Rattle.std.proofs.Common.{◌≡◌, ℕ, zero, suc, Bool, true, false, cond, nat_eq, List, [], ◌∷◌, ◌++◌, length, Option, Some, None, slice_get, slice_set, refl, sym, ap, ◌∙◌, subst}
+use Rattle.seq.proofs.Order.{eq_from, differs_from}
+use Rattle.seq.proofs.Lists.{all_get}
 use Rattle.grin_syntax.specs.declared.program.Word.{Word}
 use Rattle.grin_syntax.specs.Tree.{Code, end, store, bind, Act, unit, fetch, fetch_word, update, eval, apply, call, prim, read, write, case, nested, fail, Arms, no_arm, arm, Procedure, Program}
 use Rattle.grin_syntax.specs.Formed.{AllOf}
-use Rattle.grin_syntax.proofs.Scopes.{all_get}
 use Rattle.grin_meaning.specs.Values.{Datum, number, words, Node, Value, Env, HeapCell, State, World, Answer, gives, stops, missing, then_do, need, and_then, Binding, with_vars, one_each, Fit, fits, fits_not, unclear, fit_of, word_of, words_of, value_of, node_of, bindings_of}
 use Rattle.grin_meaning.specs.Run.{Calls, act_by, code_by, arms_by, calls_by, run_by, looking, looking_at, choose, byte_or_end, after_read, spend, spent, passing, places, cells_of, with_cells, with_node, place_of, number_of, on_numbers, start_words, start_world}
 use Rattle.grin_meaning.specs.Checks.{is_given}
@@ -19,7 +20,7 @@ use Rattle.flow_system.specs.Covers.{site_at, Lies}
 use Rattle.flow_system.proofs.Lying.{from_some, place_lies}
 use Rattle.arity_raise.specs.UpdatedCells.{act_updated, code_updated, arms_updated, updated_of}
 use Rattle.arity_raise.specs.Raisable.{NeverUpdated}
-use Rattle.pass_ground.proofs.Tests.{equal_so, differ_so, all_front, all_back}
+use Rattle.pass_ground.proofs.Tests.{all_front, all_back}
 
 -- ---- places in heaps
 
@@ -68,11 +69,11 @@ module _ (g : Program) (A : Solution) where
     where
       go : (a : ℕ) (y : HeapCell) → slice_get c a ≡ Some y → NeverUpdated A g y.site → (b : Bool) → nat_eq a i ≡ b → slice_get (slice_set c i new) a ≡ Some y
       go a y e n true t =
-          let at : slice_get c a ≡ Some z = ap (slice_get c) (equal_so a i t) ∙ q in
+          let at : slice_get c a ≡ Some z = ap (slice_get c) (eq_from a i t) ∙ q in
           let both : Some y ≡ Some z = sym e ∙ at in
           let same : y ≡ z = cc in
           absurd (not (subst (λ x. NeverUpdated A g x.site) same n))
-      go a y e n false t = set_elsewhere c i a new y (differ_so a i t) e
+      go a y e n false t = set_elsewhere c i a new y (differs_from a i t) e
 
   -- each state so far is earlier than the heap now
   abbrev Good : World → Type 0

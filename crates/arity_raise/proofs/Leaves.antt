@@ -1,6 +1,6 @@
 -- Operations without blocks, stores, targets and patterns: the second program does as the first.
 use Rattle.std.proofs.Common.{◌≡◌, ℕ, zero, suc, pos, ◌+◌, ◌<◌, ◌≤◌, Bool, true, false, cond, nat_lt, List, [], ◌∷◌, ◌++◌, length, Option, Some, None, slice_get, slice_set, refl, sym, ap, ◌∙◌, subst, arith}
-use Rattle.std.proofs.lemmas.Bool.Decides.{nat_tests}
+use Rattle.seq.proofs.Order.{lt_from, le_from}
 use Rattle.grin_syntax.specs.declared.program.Cell.{Cell}
 use Rattle.grin_syntax.specs.declared.program.PrimOp.{PrimOp}
 use Rattle.grin_syntax.specs.declared.program.Shape.{Shape}
@@ -43,12 +43,6 @@ same_is same = refl
 
 is_same : {X : Type 0} {a b : X} → b ≡ a → Same a b
 is_same {a = a} e = subst (Same a) (sym e) same
-
-lt_so : (i k : ℕ) → nat_lt i k ≡ true → i < k
-lt_so i k e = grind (arith, nat_tests)
-
-lt_not : (i k : ℕ) → nat_lt i k ≡ false → k ≤ i
-lt_not i k e = grind (arith, nat_tests)
 
 each_nth : (env : Env) (k : ℕ) (ds : List Datum) (i : ℕ) → EachIs env k ds → i < length ds → env (k + i) ≡ Some (words (nth_or_zero ds i ∷ []))
 each_nth env k [] i h lt = absurd (omega (arith, lt))
@@ -194,8 +188,8 @@ module _ (g : Program) (A : Solution) (D : List Decisions) (top : ℕ) (F : List
       word_there env' r n (suc i) t m h = go (nat_lt i r.fields) refl
         where
           go : (b : Bool) → nat_lt i r.fields ≡ b → word_of after env' (cond b (Var (variable (r.first.0 + i))) (Lit (pos 0))) ≡ Some (nth_or_zero n.fields i)
-          go true e = ap (λ o. and_then o only_word) (each_nth env' r.first.0 n.fields i h (let l : i < r.fields = lt_so i r.fields e in omega (arith, l, m)))
-          go false e = ap Some (sym (nth_past n.fields i (let l : r.fields ≤ i = lt_not i r.fields e in omega (arith, l, m))))
+          go true e = ap (λ o. and_then o only_word) (each_nth env' r.first.0 n.fields i h (let l : i < r.fields = lt_from i r.fields e in omega (arith, l, m)))
+          go false e = ap Some (sym (nth_past n.fields i (let l : r.fields ≤ i = le_from i r.fields e in omega (arith, l, m))))
 
       fetched_word : (q : Procedure) (x : ℕ) (r : Raising) (i : ℕ) → N x ≡ Some r → Raisable A g q x r.tag.0 r.fields → (z : Here plan R) (k : ℕ) (y : HeapCell) → and_then (and_then (z.env x) only_word) place_of ≡ Some k → slice_get z.w.cells k ≡ Some y
           → word_of after z.env' (word_at r i) ≡ Some (node_word y.node i)

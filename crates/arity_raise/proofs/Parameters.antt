@@ -1,5 +1,6 @@
 -- What the decisions of the pass say of each procedure.
 use Rattle.std.proofs.Common.{◌≡◌, ℕ, zero, suc, ◌+◌, ◌-◌, ◌<◌, ◌≤◌, Bool, true, false, cond, nat_eq, List, [], ◌∷◌, ◌++◌, length, Some, None, slice_get, refl, sym, ap, ◌∙◌, subst, arith}
+use Rattle.seq.proofs.Order.{eq_from, eq_self, differs_from}
 use Rattle.grin_syntax.specs.declared.program.VarId.{VarId}
 use Rattle.grin_syntax.specs.Binders.{times, numbers_of}
 use Rattle.grin_syntax.specs.Fresh.{past_procs}
@@ -10,7 +11,7 @@ use Rattle.flow_system.specs.Solution.{Solution}
 use Rattle.arity_raise.specs.Raising.{Raising, Decisions, fields_of, decided}
 use Rattle.arity_raise.specs.Raisable.{Raisable}
 use Rattle.arity_raise.specs.Decided.{AllStay, Decided, ProcedureDecided, AllDecided, new_params, all_new_params, Numbered}
-use Rattle.pass_ground.proofs.Tests.{equal_so, equal_self, differ_so, times_vars}
+use Rattle.pass_ground.proofs.Tests.{times_vars}
 use Rattle.arity_raise.proofs.Facts.{fresh_in, fresh_past}
 use Rattle.arity_raise.proofs.Related.{ArgsFor, NewOnes}
 use Rattle.arity_raise.proofs.Arguments.{AllRaisable}
@@ -33,7 +34,7 @@ none_decided y (d ∷ ds) (x ∷ xs) h = go (nat_eq x.0 y) refl (none_decided y 
   where
     go : (b : Bool) → nat_eq x.0 y ≡ b → decided ds xs y ≡ None → cond b d (decided ds xs y) ≡ None
     go true e k =
-        let self : nat_eq y x.0 ≡ true = ap (λ z. nat_eq z x.0) (sym (equal_so x.0 y e)) ∙ equal_self x.0 in
+        let self : nat_eq y x.0 ≡ true = ap (λ z. nat_eq z x.0) (sym (eq_from x.0 y e)) ∙ eq_self x.0 in
         let one : counts (nat_eq y x.0) ≡ 1 = ap counts self in
         absurd (omega (arith, h, one))
     go false e k = k
@@ -143,8 +144,8 @@ module _ (g : Program) (A : Solution) where
   all_raisable f q ds h = go (nat_eq f g.start.0) refl
     where
       go : (b : Bool) → nat_eq f g.start.0 ≡ b → AllRaisable g A q q.params ds
-      go true e = stay_raisable q q.params ds (h.start (equal_so f g.start.0 e))
-      go false e = decided_raisable q (length q.params) q.params ds (h.other (differ_so f g.start.0 e))
+      go true e = stay_raisable q q.params ds (h.start (eq_from f g.start.0 e))
+      go false e = decided_raisable q (length q.params) q.params ds (h.other (differs_from f g.start.0 e))
 
   pub raisable_at : (q : Procedure) (y : ℕ) (r : Raising) (xs : List VarId) (ds : Decisions) → AllRaisable g A q xs ds → decided ds xs y ≡ Some r → Raisable A g q y r.tag.0 r.fields
   raisable_at q y r xs [] h e = cc
@@ -159,7 +160,7 @@ module _ (g : Program) (A : Solution) where
       go : (b : Bool) → nat_eq x.0 y ≡ b → cond b (Some s) (decided ds xs y) ≡ Some r → (decided ds xs y ≡ Some r → Raisable A g q y r.tag.0 r.fields) → Raisable A g q y r.tag.0 r.fields
       go true z k f =
           let same : s ≡ r = cc in
-          subst (λ t. Raisable A g q y t.tag.0 t.fields) same (subst (λ w. Raisable A g q w s.tag.0 s.fields) (equal_so x.0 y z) h.0)
+          subst (λ t. Raisable A g q y t.tag.0 t.fields) same (subst (λ w. Raisable A g q w s.tag.0 s.fields) (eq_from x.0 y z) h.0)
       go false z k f = f k
 
   -- a procedure with what is decided of it

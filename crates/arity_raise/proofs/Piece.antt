@@ -1,5 +1,7 @@
 -- What is known of a piece of a procedure, and so of its parts.
 use Rattle.std.proofs.Common.{◌≡◌, ℕ, Bool, false, ◌||◌, List, [], ◌∷◌, ◌++◌, Option, Some, None, refl}
+use Rattle.seq.proofs.Truth.{neither_left, neither_right}
+use Rattle.seq.proofs.Order.{eq_self}
 use Rattle.grin_syntax.specs.declared.program.Cell.{Cell}
 use Rattle.grin_syntax.specs.declared.program.Shape.{Shape}
 use Rattle.grin_syntax.specs.declared.program.Target.{Target}
@@ -19,7 +21,7 @@ use Rattle.flow_system.specs.Solution.{Solution, AllMet}
 use Rattle.flow_system.proofs.Heap.{met_front, met_back}
 use Rattle.pass_ground.specs.Uses.{word_is, words_use, val_uses, cells_use, act_takes, code_takes, arms_take, act_mentions}
 use Rattle.arity_raise.specs.Raising.{Raising}
-use Rattle.pass_ground.proofs.Tests.{no_left, no_right, equal_self, never_both, all_front, all_back}
+use Rattle.pass_ground.proofs.Tests.{never_both, all_front, all_back}
 use Rattle.arity_raise.proofs.Related.{Plain}
 
 module _ (N : ℕ → Option Raising) where
@@ -31,10 +33,10 @@ module _ (N : ℕ → Option Raising) where
   Stays y = N y ≡ None
 
   pub free_left : (u v : ℕ → Bool) → Free (λ y. u y || v y) → Free u
-  free_left u v f y r e = no_left (u y) (v y) (f y r e)
+  free_left u v f y r e = neither_left (u y) (v y) (f y r e)
 
   pub free_right : (u v : ℕ → Bool) → Free (λ y. u y || v y) → Free v
-  free_right u v f y r e = no_right (u y) (v y) (f y r e)
+  free_right u v f y r e = neither_right (u y) (v y) (f y r e)
 
   pub word_ok : (a : W.Word) → Free (λ y. word_is y a) → WordOk Stays a
   word_ok (Lit k) f = tt
@@ -44,7 +46,7 @@ module _ (N : ℕ → Option Raising) where
     where
       go : (o : Option Raising) → N x.0 ≡ o → N x.0 ≡ None
       go None e = e
-      go (Some r) e = never_both (equal_self x.0) (f x.0 r e)
+      go (Some r) e = never_both (eq_self x.0) (f x.0 r e)
 
   pub words_ok : (ws : List W.Word) → Free (λ y. words_use y ws) → WordsOk Stays ws
   words_ok [] f = tt

@@ -1,11 +1,11 @@
 -- How the variables and the arguments of the two programs are related: in place of a cell stand the fields that its node
 -- has at the end of the run.
 use Rattle.std.proofs.Common.{◌≡◌, ◌≢◌, ℕ, suc, ◌+◌, ◌<◌, ◌≤◌, Bool, true, false, cond, nat_eq, List, [], ◌∷◌, ◌++◌, length, Option, Some, None, slice_get, refl, sym, ap, ◌∙◌, subst, arith}
+use Rattle.seq.proofs.Order.{eq_from, eq_false}
 use Rattle.grin_syntax.specs.Formed.{AllOf}
 use Rattle.grin_meaning.specs.Values.{Datum, cell, Value, words, Env, HeapCell, Binding, with_vars}
 use Rattle.grin_meaning.proofs.Plain.{Has, vars_have}
 use Rattle.arity_raise.specs.Raising.{Raising, Decisions}
-use Rattle.pass_ground.proofs.Tests.{equal_so, equal_not}
 use Rattle.pass_ground.proofs.Bound.{names_of}
 
 -- variables in a row have these words
@@ -77,18 +77,18 @@ module _ (F : List HeapCell) where
     }
       where
         low : (y : ℕ) (v : Value) (t : Bool) → nat_eq y b.0 ≡ t → cond t (Some b.1) (env y) ≡ Some v → y < base
-        low y v true q e = subst (λ z. z < base) (sym (equal_so y b.0 q)) p.0
+        low y v true q e = subst (λ z. z < base) (sym (eq_from y b.0 q)) p.0
         low y v false q e = r.low y v e
 
         out : (k : Raising) (y : ℕ) → N y ≡ Some k → (j : ℕ) → k.first.0 ≤ j → j < k.first.0 + k.fields → cond (nat_eq j b.0) (Some b.1) (env' j) ≡ env' j
         out k y n j le lt =
             let in_new : base ≤ j × j < top = new y k n j le lt in
             let ne : j ≢ b.0 = λ q. (let l : b.0 < base = p.0 in let m : base ≤ j = in_new.0 in omega (arith, l, m, q)) in
-            ap (λ t. cond t (Some b.1) (env' j)) (equal_not j b.0 ne)
+            ap (λ t. cond t (Some b.1) (env' j)) (eq_false j b.0 ne)
 
         fields : (y : ℕ) (k : Raising) (v : Value) → N y ≡ Some k → (t : Bool) → nat_eq y b.0 ≡ t → cond t (Some b.1) (env y) ≡ Some v → FieldsOf k v (λ z. cond (nat_eq z b.0) (Some b.1) (env' z))
         fields y k v n true q e =
-            let none : N y ≡ None = ap N (equal_so y b.0 q) ∙ p.1 in
+            let none : N y ≡ None = ap N (eq_from y b.0 q) ∙ p.1 in
             let both : Some k ≡ None = sym n ∙ none in
             cc
         fields y k v n false q e =

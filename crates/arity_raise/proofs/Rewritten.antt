@@ -1,6 +1,7 @@
 -- What the loops over statements, alternatives and procedures have made so far.
 use Rattle.std.proofs.Common.{◌≡◌, ℕ, ◌+◌, ◌<◌, List, [], ◌∷◌, ◌++◌, map, drop, length, get_or, Option, refl, sym, ap, ◌∙◌, append_assoc, arith}
 use Rattle.std.proofs.lemmas.List.{drop_more, append-nil}
+use Rattle.seq.proofs.Lists.{map_push}
 use Rattle.grin_syntax.specs.declared.program.Stmt.{Stmt}
 use Rattle.grin_syntax.specs.declared.program.Stmt.TheVariants.{Store, Bind}
 use Rattle.grin_syntax.specs.declared.program.Alt.{Alt}
@@ -12,7 +13,7 @@ use Rattle.grin_syntax.specs.declared.program.Val.{Val}
 use Rattle.grin_syntax.specs.declared.program.Proc.{Proc}
 use Rattle.grin_syntax.specs.Tree.{Code, bind, case, Arms, no_arm, arm, act_of, before_of, arm_of, code_of, all_before, Procedure, procedure_of}
 use Rattle.grin_syntax.proofs.TreeOf.{act_of-Case, before_of-Store, before_of-Bind}
-use Rattle.grin_syntax.proofs.Pieces.{all_arms, all_arms_none, all_arms_push, all_before_push, map_push}
+use Rattle.grin_syntax.proofs.Pieces.{all_arms, all_arms_none, all_arms_push, all_before_push}
 use Rattle.arity_raise.specs.Raising.{Raising, Decisions, raised_procedure, raised_procs, fetches_before, new_before, new_act, new_code, new_arms, raised_act, raised_code, raised_arms}
 
 module _ (D : List Decisions) where

@@ -1,6 +1,9 @@
 -- What is in scope in a program with parameters raised.
 use Rattle.std.proofs.Common.{◌≡◌, ℕ, zero, suc, pos, ◌+◌, ◌<◌, Bool, true, false, cond, ◌||◌, nat_eq, nat_lt, List, [], ◌∷◌, ◌++◌, map, length, Option, Some, None, refl, sym, subst, arith}
 use Rattle.std.proofs.lemmas.Bool.Decides.{nat_tests}
+use Rattle.seq.proofs.Truth.{neither_left, neither_right}
+use Rattle.seq.proofs.Order.{eq_self}
+use Rattle.seq.proofs.Lists.{all_append}
 use Rattle.grin_syntax.specs.declared.program.VarId.{VarId}
 use Rattle.grin_syntax.specs.declared.program.Cell.{Cell}
 use Rattle.grin_syntax.specs.declared.program.Word as W
@@ -18,7 +21,6 @@ use Rattle.grin_syntax.proofs.Scopes.{Within, within_self, within_chain, within_
 use Rattle.grin_meaning.specs.Ready.{EachAct, EachCode, EachArms, by_words_kind}
 use Rattle.pass_ground.specs.Uses.{word_is, words_use, val_uses, cells_use, act_takes, code_takes, arms_take, act_mentions}
 use Rattle.arity_raise.specs.Raising.{Raising, Decisions, raised_param, raised_params, decided, word_at, fetched_of, fetched, new_of, field_fetches, fetches_for, argument_for, arguments_for, decisions_at, new_before, fetches_before, new_act, new_code, raised_act, raised_code, raised_arms}
-use Rattle.pass_ground.proofs.Tests.{no_left, no_right, equal_self, all_both}
 use Rattle.arity_raise.proofs.Counts.{numbers_append}
 
 -- ---- small facts
@@ -36,10 +38,10 @@ module _ (N : ℕ → Option Raising) where
     pub by : (y : ℕ) (r : Raising) → N y ≡ Some r → test y ≡ false
 
   left_spared : (a b : ℕ → Bool) → Spared (λ y. a y || b y) → Spared a
-  left_spared a b s = record { by = λ y r e. no_left (a y) (b y) (s.by y r e) }
+  left_spared a b s = record { by = λ y r e. neither_left (a y) (b y) (s.by y r e) }
 
   right_spared : (a b : ℕ → Bool) → Spared (λ y. a y || b y) → Spared b
-  right_spared a b s = record { by = λ y r e. no_right (a y) (b y) (s.by y r e) }
+  right_spared a b s = record { by = λ y r e. neither_right (a y) (b y) (s.by y r e) }
 
   -- in scope are the variables that aren't raised, and the fields of those that are
   pub record Fits (s s' : Scope) : Type 0 where
@@ -159,7 +161,7 @@ module _ (g : Program) (procs : List Procedure) (same_count : length procs ≡ l
   fetches_formed n (d ∷ ds) [] c s h f = f s (within_self s) tt
   fetches_formed n (d ∷ ds) (a ∷ ws) c s h f = fields_formed a n 0 (new_of d) (fetches_for (n + new_of d) ds ws c) s h.0
       (λ s1 w1 vs. fetches_formed (n + new_of d) ds ws c s1 (words_more s s1 w1 ws h.1)
-      (λ s2 w2 as'. f s2 (within_chain w1 w2) (all_both (WordFormed after s2) (argument_for n d a) (arguments_for (n + new_of d) ds ws) (words_more s1 s2 w2 (argument_for n d a) (argument_formed n d a s s1 w1 h.0 vs)) as')))
+      (λ s2 w2 as'. f s2 (within_chain w1 w2) (all_append (WordFormed after s2) (argument_for n d a) (arguments_for (n + new_of d) ds ws) (words_more s1 s2 w2 (argument_for n d a) (argument_formed n d a s s1 w1 h.0 vs)) as')))
 
   -- ---- words and values
 
@@ -174,7 +176,7 @@ module _ (g : Program) (procs : List Procedure) (same_count : length procs ≡ l
         where
           go : (o : Option Raising) → N z.0 ≡ o → InScope s'.words z.0
           go None e = x.stays z.0 e h
-          go (Some r) e = let f : nat_eq z.0 z.0 ≡ false = p.by z.0 r e in let k : nat_eq z.0 z.0 ≡ true = equal_self z.0 in cc
+          go (Some r) e = let f : nat_eq z.0 z.0 ≡ false = p.by z.0 r e in let k : nat_eq z.0 z.0 ≡ true = eq_self z.0 in cc
 
       words_formed : (ws : List W.Word) → Spared N (λ y. words_use y ws) → AllOf (WordFormed g s) ws → AllOf (WordFormed after s') ws
       words_formed [] p h = tt

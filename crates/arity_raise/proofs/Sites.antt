@@ -1,5 +1,5 @@
 -- The sites of the cells that updates may go to, and words that the walks over updates collect.
-use Rattle.std.proofs.Common.{◌≡◌, ℕ, ◌+◌, ◌<◌, ◌≤◌, Bool, true, false, ◌||◌, List, [], ◌∷◌, ◌++◌, map, take, length, get_or, Some, slice_get, refl, sym, ap, ◌∙◌, subst, inl, inr, ⊎_elim, append_assoc, arith}
+use Rattle.std.proofs.Common.{◌≡◌, ℕ, ◌+◌, ◌<◌, ◌≤◌, Bool, true, ◌||◌, List, [], ◌∷◌, ◌++◌, map, take, length, get_or, Some, slice_get, refl, sym, ap, ◌∙◌, subst, inl, inr, ⊎_elim, append_assoc, arith}
 use Rattle.std.specs.BTreeSet.{BTreeSet}
 use Rattle.std.specs.BTreeMap.{is_at}
 use Rattle.std.specs.List.{list_any}
@@ -23,7 +23,7 @@ use Rattle.grin_syntax.specs.declared.program.Proc.{Proc}
 use Rattle.grin_syntax.specs.Formed.{AllOf}
 use Rattle.grin_syntax.specs.Tree.{Code, end, Arms, no_arm, arm, act_of, before_of, arm_of, code_of, all_before, arms_of, Procedure, Program, procedure_of}
 use Rattle.grin_syntax.proofs.TreeOf.{code_of-parts, before_of-Bind}
-use Rattle.grin_syntax.proofs.Pieces.{take_next, all_arms, all_arms_none, all_arms_push, all_before_push, map_push}
+use Rattle.grin_syntax.proofs.Pieces.{all_arms, all_arms_none, all_arms_push, all_before_push}
 use Rattle.flow_system.specs.declared.fact.Element.TheVariants.{Cell as cell_of}
 use Rattle.flow_system.specs.declared.fact.Place.TheVariants.{Var as var}
 use Rattle.flow_system.specs.declared.fact.Part.TheVariants.{Word as word}
@@ -32,6 +32,8 @@ use Rattle.flow_system.specs.Solution.{Solution, At, StandsFor, variable, global
 use Rattle.points_to.specs.Held.{In, here, there}
 use Rattle.points_to.specs.Joined.{Joined}
 use Rattle.seq.proofs.Member.{none_in, cons_in, one_in, in_split, in_left, in_right}
+use Rattle.seq.proofs.Truth.{or_true}
+use Rattle.seq.proofs.Lists.{take_next, map_push}
 use Rattle.arity_raise.specs.UpdatedCells.{act_updated, code_updated, arms_updated, updated_of}
 use Rattle.arity_raise.specs.Raisable.{NeverUpdated}
 use Rattle.arity_raise.specs.Fixed.{SitesJoin, UpdatedSites}
@@ -102,10 +104,6 @@ any_in n (k ∷ ks) e = go (any_in n ks) (nat_cmp n k) refl e
     go again Less q e = there (again e)
     go again Equal q e = subst (λ j. In n (j ∷ ks)) (nat_equal n k q) here
     go again Greater q e = there (again e)
-
-or_true : (a : Bool) → (a || true) ≡ true
-or_true true = refl
-or_true false = refl
 
 in_any : (n : ℕ) (ks : List ℕ) → In n ks → list_any (is_at (nat_cmp n)) ks ≡ true
 in_any n [] h = none_in h

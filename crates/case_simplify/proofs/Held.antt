@@ -1,6 +1,8 @@
 -- What is known holds in the runs: the variables hold it, and a case on a known tag takes the alternative that is chosen.
 use Rattle.std.proofs.Common.{◌≡◌, ℕ, zero, suc, ℤ, pos, negsuc, Bool, true, false, cond, nat_eq, nat_le, List, [], ◌∷◌, map, take, length, Option, Some, None, slice_get, refl, sym, ap, ◌∙◌, subst, arith}
 use Rattle.std.proofs.lemmas.Bool.Decides.{nat_tests}
+use Rattle.seq.proofs.Truth.{true_not_false}
+use Rattle.seq.proofs.Order.{eq_self}
 use Rattle.grin_syntax.specs.declared.program.VarId.{VarId}
 use Rattle.grin_syntax.specs.declared.program.TagId.{TagId}
 use Rattle.grin_syntax.specs.declared.program.Cell.{Cell}
@@ -27,9 +29,6 @@ some_is h = cc
 pub none_is_some : {A B : Type 0} {a : A} → ◌≡◌ {A = Option A} None (Some a) → B
 none_is_some h = cc
 
-pub true_not_false : {A : Type 0} → true ≡ false → A
-true_not_false h = cc
-
 pub some_and : {A B : Type 0} (o : Option A) (f : A → Option B) (b : B) → and_then o f ≡ Some b → (a : A) × (o ≡ Some a) × (f a ≡ Some b)
 some_and None f b e = none_is_some e
 some_and (Some a) f b e = (a, refl, e)
@@ -42,12 +41,9 @@ same_number_is (pos a) (negsuc b) h = true_not_false (sym h)
 same_number_is (negsuc a) (pos b) h = true_not_false (sym h)
 same_number_is (negsuc a) (negsuc b) h = let e : a ≡ b = grind (arith, nat_tests) in ap negsuc e
 
-pub nat_refl : (a : ℕ) → nat_eq a a ≡ true
-nat_refl a = grind (arith, nat_tests)
-
 pub same_number_refl : (a : ℤ) → same_number a a ≡ true
-same_number_refl (pos a) = nat_refl a
-same_number_refl (negsuc a) = nat_refl a
+same_number_refl (pos a) = eq_self a
+same_number_refl (negsuc a) = eq_self a
 
 tag_is : {s t : ℕ} → tag s ≡ tag t → s ≡ t
 tag_is h = cc
@@ -364,7 +360,7 @@ module _ (g : Program) where
       passes_by (shape.Node u []) bs b p e =
           let f : NodeFits u.0 y bs = node_fits u y bs e in
           let same : t.0 ≡ u.0 = sym (tag_known f.n f.is) ∙ f.tagged in
-          takes_passes (sym (ap (λ k. cond (nat_eq t.0 k) Takes Passes) (sym same) ∙ ap (λ c. cond c Takes Passes) (nat_refl t.0)) ∙ p)
+          takes_passes (sym (ap (λ k. cond (nat_eq t.0 k) Takes Passes) (sym same) ∙ ap (λ c. cond c Takes Passes) (eq_self t.0)) ∙ p)
       passes_by (shape.Int k) bs b p e =
           let f : IntFits k y bs = int_fits k y bs e in
           let zero_tag : t.0 ≡ 0 = sym (tag_known f.n f.is) ∙ f.tagged in

@@ -1,6 +1,7 @@
 -- What the loops keep.
 use Rattle.std.proofs.Common.{◌≡◌, ℕ, zero, suc, ◌+◌, ◌<◌, ◌≤◌, Bool, true, false, cond, ◌&&◌, nat_eq, nat_lt, List, [], ◌∷◌, ◌++◌, map, take, drop, length, get_or, Option, Some, None, slice_get, refl, sym, ap, ◌∙◌, subst, arith}
 use Rattle.std.proofs.lemmas.List.{take_more}
+use Rattle.seq.proofs.Lists.{drop_past, drop_at, get_is}
 use Rattle.grin_syntax.specs.declared.program.VarId.{VarId}
 use Rattle.grin_syntax.specs.declared.program.TagId.{TagId}
 use Rattle.grin_syntax.specs.declared.program.Word as W
@@ -59,26 +60,15 @@ drop_tail [] (suc i) = refl
 drop_tail (x ∷ xs) zero = refl
 drop_tail (x ∷ xs) (suc i) = drop_tail xs i
 
-pub drop_none : {X : Type 0} (xs : List X) (i : ℕ) → length xs ≤ i → drop i xs ≡ []
-drop_none [] zero h = refl
-drop_none [] (suc i) h = refl
-drop_none (x ∷ xs) zero h = absurd (omega (arith, h))
-drop_none (x ∷ xs) (suc i) h = drop_none xs i (omega (arith, h))
-
 -- ---- fronts
 
 front_step : (a : W.Word) (as' ws : List W.Word) → is_front (a ∷ as') ws ≡ is_some_and (slice_get ws 0) (same_word a) && is_front as' (drop 1 ws)
 front_step a as' [] = refl
 front_step a as' (w ∷ ws) = refl
 
-drop_more : {X : Type 0} (xs : List X) (i : ℕ) (d : X) → i < length xs → drop i xs ≡ get_or xs i d ∷ drop (suc i) xs
-drop_more [] i d h = absurd (omega (arith, h))
-drop_more (y ∷ xs) zero d h = refl
-drop_more (y ∷ xs) (suc i) d h = drop_more xs i d (omega (arith, h))
-
 front_at : (as' ws : List W.Word) (i : ℕ) (d : W.Word) → i < length as' → is_front (drop i as') (drop i ws) ≡ is_some_and (slice_get ws i) (same_word (get_or as' i d)) && is_front (drop (suc i) as') (drop (suc i) ws)
 front_at as' ws i d lt = let a : W.Word = get_or as' i d in
-    ap (λ l. is_front l (drop i ws)) (drop_more as' i d lt) ∙ front_step a (drop (suc i) as') (drop i ws)
+    ap (λ l. is_front l (drop i ws)) (drop_at as' i d lt) ∙ front_step a (drop (suc i) as') (drop i ws)
     ∙ (λ j. is_some_and (sym (drop_get ws i) j) (same_word a) && is_front (drop (suc i) as') (sym (drop_tail ws i) j))
 
 pub front_next : (as' ws : List W.Word) (i k : ℕ) (d : W.Word) (b : Bool) → i < length as' → k ≡ i → b ≡ is_some_and (slice_get ws k) (same_word (get_or as' i d)) → b ≡ true → is_front as' ws ≡ is_front (drop i as') (drop i ws) → is_front as' ws ≡ is_front (drop (i + 1) as') (drop (i + 1) ws)
@@ -90,7 +80,7 @@ front_stops as' ws i k d b lt p f t h = let a : W.Word = get_or as' i d in
     sym (h ∙ front_at as' ws i d lt ∙ ap (λ c. c && is_front (drop (suc i) as') (drop (suc i) ws)) (ap (λ j. is_some_and (slice_get ws j) (same_word a)) (sym p) ∙ sym f ∙ t))
 
 pub front_ends : (as' ws : List W.Word) (i : ℕ) → length as' ≤ i → is_front as' ws ≡ is_front (drop i as') (drop i ws) → true ≡ is_front as' ws
-front_ends as' ws i le h = sym (h ∙ ap (λ l. is_front l (drop i ws)) (drop_none as' i le))
+front_ends as' ws i le h = sym (h ∙ ap (λ l. is_front l (drop i ws)) (drop_past as' i le))
 
 -- ---- alternatives
 
@@ -108,11 +98,6 @@ pub taken_next : (t : TagId) (second : Option Known) (alts : List Alt) (i : ℕ)
 taken_next t second alts i a v lt at e p h = after (λ j. taken t second (arms_of (map arm_of alts)) ≡ taken t second (rest_of alts j)) i
     (h ∙ taken_at t second alts i a lt at ∙ ap (λ q. by_verdict q (code_of a.body) (taken t second (rest_of alts (suc i)))) (sym e ∙ p))
 
-get_is : {X : Type 0} (xs : List X) (i : ℕ) (x : X) → i < length xs → x ≡ get_or xs i x → slice_get xs i ≡ Some x
-get_is [] i x h e = absurd (omega (arith, h))
-get_is (y ∷ xs) zero x h e = ap Some (sym e)
-get_is (y ∷ xs) (suc i) x h e = get_is xs i x (omega (arith, h)) e
-
 pub taken_here : (t : TagId) (second : Option Known) (alts : List Alt) (i k : ℕ) (a : Alt) (v : Verdict) → i < length alts → a ≡ get_or alts i a → k ≡ i → v ≡ verdict t second a.pattern → v ≡ Takes
     → taken t second (arms_of (map arm_of alts)) ≡ taken t second (rest_of alts i) → body_at (chosen.Takes k) alts ≡ taken t second (arms_of (map arm_of alts))
 taken_here t second alts i k a v lt at n e p h =
@@ -124,7 +109,7 @@ pub taken_open : (t : TagId) (second : Option Known) (alts : List Alt) (i : ℕ)
 taken_open t second alts i a v lt at e p h = sym (h ∙ taken_at t second alts i a lt at ∙ ap (λ q. by_verdict q (code_of a.body) (taken t second (rest_of alts (suc i)))) (sym e ∙ p))
 
 pub taken_ends : (t : TagId) (second : Option Known) (alts : List Alt) (i : ℕ) → length alts ≤ i → taken t second (arms_of (map arm_of alts)) ≡ taken t second (rest_of alts i) → Some (end fail) ≡ taken t second (arms_of (map arm_of alts))
-taken_ends t second alts i le h = sym (h ∙ ap (λ l. taken t second (arms_of (map arm_of l))) (drop_none alts i le))
+taken_ends t second alts i le h = sym (h ∙ ap (λ l. taken t second (arms_of (map arm_of l))) (drop_past alts i le))
 
 all_at : (u : Val) (alts : List Alt) (i : ℕ) (a : Alt) → i < length alts → a ≡ get_or alts i a → all_give u (rest_of alts i) ≡ gives_val u (code_of a.body) && all_give u (rest_of alts (suc i))
 all_at u alts i a lt at = ap (λ l. all_give u (arms_of (map arm_of l))) (drop_next alts i a lt at) ∙ ap (λ p. gives_val u p.1 && all_give u (rest_of alts (suc i))) (arm_of-parts a)
@@ -139,7 +124,7 @@ pub all_stops : (u : Val) (alts : List Alt) (i : ℕ) (a : Alt) (b : Bool) → i
 all_stops u alts i a b lt at e p h = sym (h ∙ all_at u alts i a lt at ∙ ap (λ q. q && all_give u (rest_of alts (suc i))) (sym e ∙ p))
 
 pub all_ends : (u : Val) (alts : List Alt) (i : ℕ) → length alts ≤ i → all_give u (arms_of (map arm_of alts)) ≡ all_give u (rest_of alts i) → true ≡ all_give u (arms_of (map arm_of alts))
-all_ends u alts i le h = sym (h ∙ ap (λ l. all_give u (arms_of (map arm_of l))) (drop_none alts i le))
+all_ends u alts i le h = sym (h ∙ ap (λ l. all_give u (arms_of (map arm_of l))) (drop_past alts i le))
 
 -- ---- blocks
 

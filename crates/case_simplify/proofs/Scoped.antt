@@ -1,6 +1,7 @@
 -- Something is known only of variables in scope, which no later place binds.
 use Rattle.std.proofs.Common.{◌≡◌, ℕ, ◌+◌, ◌<◌, ◌≤◌, Bool, true, false, cond, nat_eq, List, [], ◌∷◌, ◌++◌, Option, Some, None, refl, sym, subst, arith}
 use Rattle.std.proofs.lemmas.Bool.Decides.{nat_tests}
+use Rattle.seq.proofs.Lists.{all_get}
 use Rattle.grin_syntax.specs.declared.program.VarId.{VarId}
 use Rattle.grin_syntax.specs.declared.program.Target.{Target}
 use Rattle.grin_syntax.specs.declared.program.Target.TheVariants as to
@@ -14,7 +15,6 @@ use Rattle.grin_syntax.specs.Tree.{Program}
 use Rattle.grin_syntax.specs.Binders.{times, numbers_of, target_vars}
 use Rattle.grin_syntax.specs.Formed.{Scope, InScope, with_words, with_target, WordFormed, ValFormed}
 use Rattle.grin_syntax.proofs.Counted.{times_append}
-use Rattle.grin_syntax.proofs.Scopes.{all_get}
 use Rattle.case_simplify.proofs.Held.{some_is, none_is_some}
 use Rattle.case_simplify.specs.Known.{Known, Facts, note, first_word, second_word, note_word, noted}
 

@@ -1,6 +1,8 @@
 -- What is simplified is simple.
 use Rattle.std.proofs.Common.{◌≡◌, ℕ, ℤ, Bool, true, false, cond, ◌&&◌, nat_eq, List, [], ◌∷◌, ◌++◌, map, Option, Some, None, refl, sym, ap, ◌∙◌, subst, arith}
 use Rattle.std.proofs.lemmas.Bool.Decides.{nat_tests}
+use Rattle.seq.proofs.Truth.{and_from, true_not_false}
+use Rattle.seq.proofs.Order.{eq_self}
 use Rattle.grin_syntax.specs.declared.program.VarId.{VarId}
 use Rattle.grin_syntax.specs.declared.program.TagId.{TagId}
 use Rattle.grin_syntax.specs.declared.program.Shape.{Shape}
@@ -14,13 +16,12 @@ use Rattle.grin_syntax.specs.Formed.{AllOf}
 use Rattle.grin_meaning.specs.Values.{and_then}
 use Rattle.grin_meaning.specs.Checks.{is_some_and}
 use Rattle.grin_meaning.specs.Rewritten.{rewritten_procedure}
-use Rattle.grin_meaning.proofs.Checked.{both_true}
 use Rattle.numbers.specs.Numbers.{same_number}
 use Rattle.case_simplify.specs.Known.{Known, Tag, Number, Facts, nothing_known, note, told, first_word, second_word, told_first, told_second, note_word, noted}
 use Rattle.case_simplify.specs.Choice.{Verdict, Takes, Passes, Open, number_verdict, verdict, by_verdict, taken, taken_by}
 use Rattle.case_simplify.specs.Simple.{same_word, is_front, same_words, same_val, is_front_val, value_given, gives_val, all_give, gives_back, as_act, first_act, unit_or_case, block_or_case, simple_case, simple_act, simple_code, simple_arms}
 use Rattle.case_simplify.specs.Simplified.{OpenAt, IsOpen, OpenIfKnown, FrontOf, EachGives, IsIdentity, SimpleAct, SimpleCode, SimpleArms}
-use Rattle.case_simplify.proofs.Held.{some_is, none_is_some, true_not_false, same_number_is, same_number_refl, nat_refl}
+use Rattle.case_simplify.proofs.Held.{some_is, none_is_some, same_number_is, same_number_refl}
 use Rattle.case_simplify.proofs.Steps.{value_given_is, some_true}
 
 -- ---- the alternative that is taken tells nothing new
@@ -73,24 +74,24 @@ noted_same facts v t shape.Else known e = refl
 
 same_word_refl : (a : W.Word) → same_word a a ≡ true
 same_word_refl (Lit k) = same_number_refl k
-same_word_refl (Var x) = nat_refl x.0
-same_word_refl (Global i) = nat_refl i
-same_word_refl (TagWord t) = nat_refl t.0
+same_word_refl (Var x) = eq_self x.0
+same_word_refl (Global i) = eq_self i
+same_word_refl (TagWord t) = eq_self t.0
 
 front_refl : (us rest : List W.Word) → is_front us (us ++ rest) ≡ true
 front_refl [] rest = refl
-front_refl (u ∷ us) rest = both_true (same_word u u) (is_front us (us ++ rest)) (same_word_refl u) (front_refl us rest)
+front_refl (u ∷ us) rest = and_from (same_word u u) (is_front us (us ++ rest)) (same_word_refl u) (front_refl us rest)
 
 front_self : (us : List W.Word) → is_front us us ≡ true
 front_self [] = refl
-front_self (u ∷ us) = both_true (same_word u u) (is_front us us) (same_word_refl u) (front_self us)
+front_self (u ∷ us) = and_from (same_word u u) (is_front us us) (same_word_refl u) (front_self us)
 
 words_refl : (us : List W.Word) → same_words us us ≡ true
-words_refl us = both_true (is_front us us) (is_front us us) (front_self us) (front_self us)
+words_refl us = and_from (is_front us us) (is_front us us) (front_self us) (front_self us)
 
 val_refl : (u : V.Val) → same_val u u ≡ true
-val_refl (NodeVar x) = nat_refl x.0
-val_refl (Node t ws) = both_true (nat_eq t.0 t.0) (same_words ws ws) (nat_refl t.0) (words_refl ws)
+val_refl (NodeVar x) = eq_self x.0
+val_refl (Node t ws) = and_from (nat_eq t.0 t.0) (same_words ws ws) (eq_self t.0) (words_refl ws)
 val_refl (Vector ws) = words_refl ws
 val_refl (One a) = same_word_refl a
 
@@ -111,13 +112,13 @@ front_found (One a) v f = subst (λ v. is_front_val (One a) v ≡ true) f (front
 
 all_found : (u : V.Val) (as' : Arms) → EachGives u as' → all_give u as' ≡ true
 all_found u no_arm f = refl
-all_found u (arm s b as') f = both_true (gives_val u b) (all_give u as') (subst (λ c. gives_val u c ≡ true) (sym f.0) (val_refl u)) (all_found u as' f.1)
+all_found u (arm s b as') f = and_from (gives_val u b) (all_give u as') (subst (λ c. gives_val u c ≡ true) (sym f.0) (val_refl u)) (all_found u as' f.1)
 
 identity_found : (v : V.Val) (as' : Arms) → IsIdentity v as' → gives_back v as' ≡ true
 identity_found v no_arm f = absurd f
 identity_found v (arm s b as') f =
     subst (λ c. is_some_and (value_given c) (λ u. is_front_val u v && all_give u (arm s b as')) ≡ true) (sym f.2.0)
-    (both_true (is_front_val f.0 v) (all_give f.0 (arm s b as')) (front_found f.0 v f.1) (all_found f.0 (arm s b as') f.2))
+    (and_from (is_front_val f.0 v) (all_give f.0 (arm s b as')) (front_found f.0 v f.1) (all_found f.0 (arm s b as') f.2))
 
 -- ---- the shape
 

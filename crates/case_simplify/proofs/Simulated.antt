@@ -1,5 +1,6 @@
 -- A simplified program does what the program does, with no deeper nesting.
 use Rattle.std.proofs.Common.{◌≡◌, ℕ, suc, ◌+◌, ◌≤◌, Bool, true, false, cond, not, ◌&&◌, List, [], ◌∷◌, ◌++◌, map, length, Some, refl, sym, ap, ◌∙◌, subst, arith}
+use Rattle.seq.proofs.Truth.{and_from, and_left}
 use Rattle.grin_syntax.specs.declared.program.Cell.{Cell}
 use Rattle.grin_syntax.specs.declared.program.Target.{Target}
 use Rattle.grin_syntax.specs.declared.program.Target.TheVariants as to
@@ -16,7 +17,6 @@ use Rattle.grin_meaning.specs.Rewritten.{rewritten_procedure}
 use Rattle.grin_meaning.specs.Keeps.{Keeps}
 use Rattle.grin_meaning.specs.Looking.{look, NeverMissed}
 use Rattle.grin_meaning.specs.Follows.{Same, same}
-use Rattle.grin_meaning.proofs.Checked.{both_true, left_true}
 use Rattle.grin_meaning.proofs.Names.{Any, any_act, any_cells}
 use Rattle.grin_meaning.proofs.Back.{CallsBack}
 use Rattle.grin_meaning.proofs.Beside.{no_deeper, Beside, Likewise, Seen}
@@ -56,8 +56,8 @@ module _ (g : Program) (vectorised : IsVectorised g) (procs : List Procedure) wh
   -- what a simplified operation gives is looked at no harder
   bound_too : (facts : Facts) (t : Target) (o : Act) (v : Value) → NoNodeTarget t → is_bound_well g t o v ≡ true → is_bound_well g t (simple_act facts o) v ≡ true
   unfolding simple_act
-  bound_too facts t o v n h = both_true (cond (has_block (simple_act facts o)) (is_given g v) true) (cond (is_node_target t && not (is_fetch (simple_act facts o))) (not_delayed g v) true)
-      (blocks o (left_true (cond (has_block o) (is_given g v) true) (cond (is_node_target t && not (is_fetch o)) (not_delayed g v) true) h))
+  bound_too facts t o v n h = and_from (cond (has_block (simple_act facts o)) (is_given g v) true) (cond (is_node_target t && not (is_fetch (simple_act facts o))) (not_delayed g v) true)
+      (blocks o (and_left (cond (has_block o) (is_given g v) true) (cond (is_node_target t && not (is_fetch o)) (not_delayed g v) true) h))
       (ap (λ b. cond (b && not (is_fetch (simple_act facts o))) (not_delayed g v) true) (no_node t n))
     where
       blocks : (o : Act) → cond (has_block o) (is_given g v) true ≡ true → cond (has_block (simple_act facts o)) (is_given g v) true ≡ true

@@ -1,6 +1,7 @@
 -- A case does what becomes of it, by what its alternatives do.
 use Rattle.std.proofs.Common.{◌≡◌, Bool, true, false, cond, ◌&&◌, nat_eq, List, [], ◌∷◌, Option, Some, None, refl, sym, ap, ◌∙◌, subst, arith}
 use Rattle.std.proofs.lemmas.Bool.Decides.{nat_tests}
+use Rattle.seq.proofs.Truth.{and_left, and_right, true_not_false}
 use Rattle.grin_syntax.specs.declared.program.TagId.{TagId}
 use Rattle.grin_syntax.specs.declared.program.Shape.{Shape}
 use Rattle.grin_syntax.specs.declared.program.Word as W
@@ -13,7 +14,6 @@ use Rattle.grin_meaning.specs.Values.{Value, Env, HeapCell, Binding, with_vars, 
 use Rattle.grin_meaning.specs.Run.{Calls, act_by}
 use Rattle.grin_meaning.specs.Checks.{is_some_and}
 use Rattle.grin_meaning.specs.Follows.{Same, same}
-use Rattle.grin_meaning.proofs.Checked.{left_true, right_true}
 use Rattle.grin_meaning.proofs.Names.{Any, any_val}
 use Rattle.grin_meaning.proofs.Back.{CallsBack}
 use Rattle.grin_meaning.proofs.Beside.{no_deeper}
@@ -25,7 +25,7 @@ use Rattle.grin_meaning.proofs.Bodies.{AnyState}
 use Rattle.case_simplify.specs.Known.{Known, Tag, Number, Facts, told_first, told_second, noted}
 use Rattle.case_simplify.specs.Choice.{Verdict, Takes, Passes, Open, verdict, by_verdict, taken, taken_by}
 use Rattle.case_simplify.specs.Simple.{same_word, is_front, same_words, same_val, is_front_val, value_given, gives_val, all_give, gives_back, as_act, first_act, unit_or_case, block_or_case, simple_case, simple_act, simple_code, simple_arms}
-use Rattle.case_simplify.proofs.Held.{some_is, none_is_some, true_not_false, same_number_is, Holds, noted_holds, passes_by, takes_it}
+use Rattle.case_simplify.proofs.Held.{some_is, none_is_some, same_number_is, Holds, noted_holds, passes_by, takes_it}
 
 -- ---- values that are written alike
 
@@ -52,19 +52,19 @@ fronts_same [] [] h k = refl
 fronts_same [] (u ∷ us) h k = true_not_false (sym k)
 fronts_same (w ∷ ws) [] h k = true_not_false (sym h)
 fronts_same (w ∷ ws) (u ∷ us) h k =
-    let a : w ≡ u = same_word_is w u (left_true (same_word w u) (is_front ws us) h) in
-    let b : ws ≡ us = fronts_same ws us (right_true (same_word w u) (is_front ws us) h) (right_true (same_word u w) (is_front us ws) k) in
+    let a : w ≡ u = same_word_is w u (and_left (same_word w u) (is_front ws us) h) in
+    let b : ws ≡ us = fronts_same ws us (and_right (same_word w u) (is_front ws us) h) (and_right (same_word u w) (is_front us ws) k) in
     λ i. a i ∷ b i
 
 words_same : (ws us : List W.Word) → same_words ws us ≡ true → ws ≡ us
-words_same ws us h = fronts_same ws us (left_true (is_front ws us) (is_front us ws) h) (right_true (is_front ws us) (is_front us ws) h)
+words_same ws us h = fronts_same ws us (and_left (is_front ws us) (is_front us ws) h) (and_right (is_front ws us) (is_front us ws) h)
 
 pub same_val_is : (u v : V.Val) → same_val u v ≡ true → u ≡ v
 same_val_is (NodeVar x) (NodeVar y) h = let e : x.0 ≡ y.0 = grind (arith, nat_tests) in ap (λ k. NodeVar (record { 0 = k })) e
 same_val_is (NodeVal t ws) (NodeVal u us) h =
-    let a : nat_eq t.0 u.0 ≡ true = left_true (nat_eq t.0 u.0) (same_words ws us) h in
+    let a : nat_eq t.0 u.0 ≡ true = and_left (nat_eq t.0 u.0) (same_words ws us) h in
     let e : t.0 ≡ u.0 = grind (arith, nat_tests) in
-    let f : ws ≡ us = words_same ws us (right_true (nat_eq t.0 u.0) (same_words ws us) h) in
+    let f : ws ≡ us = words_same ws us (and_right (nat_eq t.0 u.0) (same_words ws us) h) in
     λ i. NodeVal (record { 0 = e i }) (f i)
 same_val_is (Vector ws) (Vector us) h = ap Vector (words_same ws us h)
 same_val_is (One a) (One b) h = ap One (same_word_is a b h)
@@ -185,9 +185,9 @@ module _ (g : Program) (procs : List Procedure) (c c' : Calls) (cb : CallsBack A
   gives_one facts v u no_arm q e = none_taken it (end (unit u))
   gives_one facts v u (arm s b as') q e =
       let n : Code = simple_code (noted v s facts) b in
-      let here : n ≡ end (unit u) = gives_val_is u n (left_true (gives_val u n) (all_give u (simple_arms facts v as')) e) in
+      let here : n ≡ end (unit u) = gives_val_is u n (and_left (gives_val u n) (all_give u (simple_arms facts v as')) e) in
       arm_taken it {U = OnOne facts v} {U' = OnOne facts v} {R' = Knowing g (noted v s facts)} s b as' (end (unit u)) (subst (CodeFollows it (Knowing g (noted v s facts)) Same b) here q.1)
-      (gives_one facts v u as' q.2 (right_true (gives_val u n) (all_give u (simple_arms facts v as')) e))
+      (gives_one facts v u as' q.2 (and_right (gives_val u n) (all_give u (simple_arms facts v as')) e))
       (λ y x bs f known. fits_knowing facts v s y x.w.cells x.env x.env' bs q.0 x.related f)
       (λ y x f. x.related)
 
@@ -204,7 +204,7 @@ module _ (g : Program) (procs : List Procedure) (c c' : Calls) (cb : CallsBack A
   first_is v no_arm h = true_not_false (sym h)
   first_is v (arm s b as') h =
       let z : (u : V.Val) × (value_given b ≡ Some u) × ((is_front_val u v && all_give u (arm s b as')) ≡ true) = some_true (value_given b) (λ u. is_front_val u v && all_give u (arm s b as')) h in
-      (z.0, ap as_act (value_given_is b z.0 z.1), right_true (is_front_val z.0 v) (all_give z.0 (arm s b as')) z.2)
+      (z.0, ap as_act (value_given_is b z.0 z.1), and_right (is_front_val z.0 v) (all_give z.0 (arm s b as')) z.2)
 
   unit_goes : (facts : Facts) (v : V.Val) (as' : Arms) → ArmsGo facts v as' → ActFollows it (Knowing g facts) Same (case v as') (unit_or_case v (simple_arms facts v as'))
   unit_goes facts v as' q = go (gives_back v (simple_arms facts v as')) refl

@@ -2,6 +2,7 @@
 use Rattle.std.proofs.Common.{◌≡◌, ℕ, Bool, true, false, List, [], ◌∷◌, ◌++◌, map, length, drop, Option, Some, None, refl, sym, ap, ◌∙◌}
 use mathlib.Core.List.{reverse, reverse_aux}
 use Rattle.std.proofs.lemmas.List.{reverse-reverse}
+use Rattle.seq.proofs.Lists.{append_again, append_nil}
 use Rattle.grin_syntax.specs.declared.program.Val.{Val}
 use Rattle.grin_syntax.specs.declared.program.Alt.{Alt}
 use Rattle.grin_syntax.specs.declared.program.Stmt.{Stmt}
@@ -16,7 +17,7 @@ use Rattle.grin_syntax.proofs.TreeOf.{act_of-Case, before_of-Store, before_of-Bi
 use Rattle.grin_syntax.proofs.Pieces.{all_arms, all_arms_none}
 use Rattle.copy_prop.specs.Resolved.{kept}
 use Rattle.copy_prop.specs.Lean.{val_uses, cells_uses, act_uses, code_uses, arms_uses, is_idle, unless, lean_act, lean_code, lean_arms}
-use Rattle.copy_prop.proofs.Used.{append_again, append_none, drop_front}
+use Rattle.copy_prop.proofs.Used.{drop_front}
 
 -- ---- statements
 
@@ -141,5 +142,5 @@ case_leans seen0 seen v v' made alts f u =
 pub case_used : (m seen0 seen : List ℕ) (v : Val) (made alts : List Alt) → seen0 ≡ m ++ val_uses v → ArmsThin seen0 seen made alts → seen ≡ m ++ act_uses (lean_act (act_of (Case v alts)))
 unfolding lean_act act_uses
 case_used m seen0 seen v made alts e u =
-    sym (append_none seen) ∙ u.uses no_arm ∙ ap (λ l. l ++ arms_uses (all_arms (map arm_of made) no_arm)) e ∙ append_again m (val_uses v) (arms_uses (all_arms (map arm_of made) no_arm))
+    sym (append_nil seen) ∙ u.uses no_arm ∙ ap (λ l. l ++ arms_uses (all_arms (map arm_of made) no_arm)) e ∙ append_again m (val_uses v) (arms_uses (all_arms (map arm_of made) no_arm))
     ∙ ap (λ x. m ++ (val_uses v ++ arms_uses x)) (u.by no_arm ∙ ap lean_arms (all_arms_none (map arm_of alts))) ∙ ap (λ o. m ++ act_uses (lean_act o)) (sym (act_of-Case v alts))

@@ -1,5 +1,6 @@
 -- Which variables are bound, and which stay.
 use Rattle.std.proofs.Common.{◌≡◌, ℕ, suc, Bool, true, false, cond, ◌||◌, nat_eq, List, [], ◌∷◌, map, length, Option, Some, None, refl, sym, ap, ◌∙◌}
+use Rattle.seq.proofs.Truth.{neither_left, neither_right}
 use Rattle.grin_syntax.specs.declared.program.VarId.{VarId}
 use Rattle.grin_syntax.specs.declared.program.Cell.{Cell}
 use Rattle.grin_syntax.specs.declared.program.Target.{Target}
@@ -11,7 +12,6 @@ use Rattle.grin_syntax.specs.Binders.{numbers_of, target_vars, shape_vars, cell_
 use Rattle.grin_meaning.specs.Values.{Datum, number, tag, cell, Node, Value, node, words, Env, and_then, Binding, with_vars, one_each, padded, fits, fits_not, fields_fit, node_fit, number_fit, int_fit, fit_of, as_node, bindings_of}
 use Rattle.grin_meaning.specs.Run.{places}
 use Rattle.copy_prop.specs.Lean.{stands}
-use Rattle.copy_prop.proofs.Used.{neither_left, neither_right}
 
 abbrev pub names : List Binding → List ℕ
 names bs = map (λ b. b.0) bs

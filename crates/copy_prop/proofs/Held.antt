@@ -1,6 +1,8 @@
 -- What the table of copies has for the variables in scope, and what goes into scope.
 use Rattle.std.proofs.Common.{◌≡◌, ◌≢◌, ℕ, zero, suc, ◌+◌, ◌≤◌, Bool, true, false, nat_eq, List, [], ◌∷◌, ◌++◌, Option, Some, None, refl, sym, ap, ◌∙◌, subst, arith}
 use Rattle.std.proofs.lemmas.Bool.Decides.{nat_tests}
+use Rattle.seq.proofs.Order.{eq_from}
+use Rattle.seq.proofs.Truth.{not_both}
 use Rattle.grin_syntax.specs.declared.program.VarId.{VarId}
 use Rattle.grin_syntax.specs.declared.program.Target.{Target}
 use Rattle.grin_syntax.specs.declared.program.Target.TheVariants as to
@@ -13,7 +15,6 @@ use Rattle.grin_syntax.specs.Formed.{Scope, InScope, with_words, with_target, Wo
 use Rattle.grin_syntax.proofs.Counted.{times_append, counts, one_at}
 use Rattle.grin_meaning.specs.Ready.{NoNodeTarget}
 use Rattle.copy_prop.specs.Resolved.{Table, Alias, put, entry, word_for, as_word, alias_of, noted_alias, noted_act, noted_code, noted_arms}
-use Rattle.copy_prop.proofs.Used.{same_number, true_or_false}
 
 -- ---- entries
 
@@ -196,7 +197,7 @@ module _ (g : Program) where
       differs y i e = let o : times y scope.words + times y (a.var.0 ∷ ys) ≤ 1 = h.once y in let c : counts (nat_eq y a.var.0) ≡ 1 = ap (λ z. counts (nat_eq z a.var.0)) e ∙ one_at a.var.0 in absurd (omega (arith, o, c, i))
 
       go : (x : VarId) → InScope (a.var.0 ∷ scope.words) x.0 → (b : Bool) → nat_eq x.0 a.var.0 ≡ b → WordFormed g (as_scope scope') (word_for x (entry (put k a.var.0 (as_word k a.word)) x.0))
-      go x i true e = subst (λ o. WordFormed g (as_scope scope') (word_for x o)) (sym (ap (entry (put k a.var.0 (as_word k a.word))) (same_number x.0 a.var.0 e) ∙ entry_put k a.var.0 (as_word k a.word))) (word_held k scope scope' (a.var.0 ∷ ys) h a.word f)
+      go x i true e = subst (λ o. WordFormed g (as_scope scope') (word_for x o)) (sym (ap (entry (put k a.var.0 (as_word k a.word))) (eq_from x.0 a.var.0 e) ∙ entry_put k a.var.0 (as_word k a.word))) (word_held k scope scope' (a.var.0 ∷ ys) h a.word f)
       go x i false e =
           let c : counts (nat_eq x.0 a.var.0) ≡ 0 = ap counts e in
-          subst (λ o. WordFormed g (as_scope scope') (word_for x o)) (sym (entry_other k a.var.0 x.0 (as_word k a.word) (λ s. (let t : nat_eq x.0 a.var.0 ≡ true = grind (arith, nat_tests) in true_or_false (nat_eq x.0 a.var.0) t e)))) (h.range x (omega (arith, i, c)))
+          subst (λ o. WordFormed g (as_scope scope') (word_for x o)) (sym (entry_other k a.var.0 x.0 (as_word k a.word) (λ s. (let t : nat_eq x.0 a.var.0 ≡ true = grind (arith, nat_tests) in not_both (nat_eq x.0 a.var.0) t e)))) (h.range x (omega (arith, i, c)))

@@ -3,6 +3,8 @@ use Rattle.std.proofs.Common.{◌≡◌, ◌≢◌, ℕ, zero, suc, ◌+◌, ◌
 use Rattle.std.proofs.lemmas.List.{length-map}
 use Rattle.std.proofs.lemmas.Option.{slice_get-map}
 use Rattle.std.specs.Option.{option_map}
+use Rattle.seq.proofs.Order.{eq_from, eq_self}
+use Rattle.seq.proofs.Truth.{not_both, or_left, and_left, and_right}
 use Rattle.grin_syntax.specs.declared.program.Cell.{Cell}
 use Rattle.grin_syntax.specs.declared.program.Target.{Target}
 use Rattle.grin_syntax.specs.declared.program.Target.TheVariants as to
@@ -21,7 +23,7 @@ use Rattle.grin_meaning.specs.Ready.{Inlined, ByWords, NoNodeTarget, NoNodeVar, 
 use Rattle.grin_meaning.specs.Rewritten.{rewritten_procedure}
 use Rattle.copy_prop.specs.Lean.{word_uses, words_uses, val_uses, cells_uses, act_uses, code_uses, arms_uses, stands, none_stands, is_still, is_idle, unless, lean_act, lean_code, lean_arms, lean}
 use Rattle.copy_prop.specs.Copied.{IsCopy, IsStill, Unused, IsNeeded, BoundAct, BoundCode, BoundArms}
-use Rattle.copy_prop.proofs.Used.{same_number, true_or_false, or_left, and_left, and_right, stands_append, equal_to_itself, in_stands, none_absent}
+use Rattle.copy_prop.proofs.Used.{stands_append, in_stands, none_absent}
 use Rattle.copy_prop.proofs.Held.{as_scope, target_scope}
 use Rattle.copy_prop.proofs.LeanSame.{Covers, covers_left, covers_right}
 use Rattle.copy_prop.proofs.ResolvedFormed.{NoCopy, more}
@@ -148,7 +150,7 @@ other_number : (x y : ℕ) → y ≢ x → stands x (y ∷ []) ≡ false
 other_number x y h = go (nat_eq x y) refl
   where
     go : (b : Bool) → nat_eq x y ≡ b → (b || false) ≡ false
-    go true q = absurd (h (sym (same_number x y q)))
+    go true q = absurd (h (sym (eq_from x y q)))
     go false q = refl
 
 module _ (x : ℕ) where
@@ -247,7 +249,7 @@ bind_needed t o c true e n f h = h
 bind_needed t o c false e n f h = (
   record {
     no_copy = λ i. n (was_copy t o i);
-    not_idle = λ s u. true_or_false (is_idle t o (code_uses c)) ((λ i. was_still o s i && none_used c (target_vars t) u i)) e;
+    not_idle = λ s u. not_both (is_idle t o (code_uses c)) ((λ i. was_still o s i && none_used c (target_vars t) u i)) e;
   },
   f,
   h,
@@ -406,10 +408,10 @@ carried_past ts used scope scope' none cov x h i = go (times x ts) refl
   where
     go : (n : ℕ) → times x ts ≡ n → InScope scope' x
     go zero e = let a : times x (ts ++ scope.words) ≡ times x ts + times x scope.words = times_append x ts scope.words in cov x h (omega (arith, i, e, a))
-    go (suc n) e = absurd (true_or_false (stands x used) h (none_absent x ts used none (in_stands x ts (omega (arith, e)))))
+    go (suc n) e = absurd (not_both (stands x used) h (none_absent x ts used none (in_stands x ts (omega (arith, e)))))
 
 first_stands : (x : ℕ) (xs : List ℕ) → stands x (x ∷ xs) ≡ true
-first_stands x xs = or_left _ (stands x xs) (equal_to_itself x)
+first_stands x xs = or_left _ (stands x xs) (eq_self x)
 
 module _ (g : Program) (procs : List Procedure) (same_count : length procs ≡ length g.procs) where
   abbrev there : Program

@@ -1,5 +1,7 @@
 -- A program without its idle statements does the same.
 use Rattle.std.proofs.Common.{◌≡◌, ℕ, suc, Bool, true, false, cond, not, ◌&&◌, List, [], ◌∷◌, ◌++◌, map, Some, refl, sym, ap, ◌∙◌}
+use Rattle.seq.proofs.Order.{eq_self}
+use Rattle.seq.proofs.Truth.{not_both, or_left, and_left, and_right}
 use Rattle.grin_syntax.specs.declared.program.Cell.{Cell}
 use Rattle.grin_syntax.specs.declared.program.Target.{Target}
 use Rattle.grin_syntax.specs.declared.program.Word as W
@@ -25,7 +27,7 @@ use Rattle.grin_meaning.proofs.Bodies.{AnyState, every_any}
 use Rattle.grin_meaning.proofs.KeptBy.{likewise_kept, looking_kept}
 use Rattle.grin_meaning.proofs.OneSided.{IsStill, left_follows}
 use Rattle.copy_prop.specs.Lean.{word_uses, words_uses, val_uses, cells_uses, act_uses, code_uses, arms_uses, stands, is_still, is_idle, unless, lean_act, lean_code, lean_arms, lean}
-use Rattle.copy_prop.proofs.Used.{true_or_false, and_left, and_right, stands_left, stands_right, equal_to_itself, or_left, none_absent}
+use Rattle.copy_prop.proofs.Used.{stands_left, stands_right, none_absent}
 use Rattle.copy_prop.proofs.Bound.{names, others_stay, names_target}
 
 -- ---- what a piece uses is of some kind
@@ -40,7 +42,7 @@ pub covers_right : (Ok : ℕ → Type 0) (xs ys : List ℕ) → Covers Ok (xs ++
 covers_right Ok xs ys c x h = c x (stands_right x xs ys h)
 
 first_stands : (x : ℕ) (xs : List ℕ) → stands x (x ∷ xs) ≡ true
-first_stands x xs = or_left _ (stands x xs) (equal_to_itself x)
+first_stands x xs = or_left _ (stands x xs) (eq_self x)
 
 module _ (Ok : ℕ → Type 0) where
   pub word_covered : (a : W.Word) → Covers Ok (word_uses a) → WordOk Ok a
@@ -151,7 +153,7 @@ module _ (g : Program) where
       where
         here : (y : ℕ) → stands y (code_uses (lean_code b)) ≡ true → (bs : List Binding) (z : Bool) → stands y (names bs) ≡ z → names bs ≡ target_vars t → stands y (names bs) ≡ false
         here y used bs false s n = s
-        here y used bs true s n = absurd (true_or_false _ used (none_absent y (target_vars t) (code_uses (lean_code b)) (and_right (is_still o) _ e) (ap (stands y) (sym n) ∙ s)))
+        here y used bs true s n = absurd (not_both _ used (none_absent y (target_vars t) (code_uses (lean_code b)) (and_right (is_still o) _ e) (ap (stands y) (sym n) ∙ s)))
 
     mutual
       unfolding lean_act act_uses ActOk

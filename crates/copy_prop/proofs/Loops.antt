@@ -1,5 +1,6 @@
 -- What the loops of the walk that resolves copies keep.
 use Rattle.std.proofs.Common.{◌≡◌, ℕ, zero, suc, ◌+◌, ◌<◌, ◌≤◌, List, [], ◌∷◌, ◌++◌, map, length, Option, Some, None, slice_set, refl, sym, ap, ◌∙◌, arith}
+use Rattle.seq.proofs.Lists.{map_push}
 use Rattle.grin_syntax.specs.declared.program.Word as W
 use Rattle.grin_syntax.specs.declared.program.Val.{Val}
 use Rattle.grin_syntax.specs.declared.program.Alt.{Alt}
@@ -13,7 +14,7 @@ use Rattle.grin_syntax.specs.declared.program.Op.TheVariants.{Case}
 use Rattle.grin_syntax.specs.declared.program.Stmt.TheVariants.{Bind}
 use Rattle.grin_syntax.specs.Tree.{Code, Arms, no_arm, arm, case, act_of, before_of, arm_of, code_of, all_before, arms_of, Procedure, procedure_of, program_of}
 use Rattle.grin_syntax.proofs.TreeOf.{act_of-Case, before_of-Bind}
-use Rattle.grin_syntax.proofs.Pieces.{all_arms, all_arms_none, all_before_push, map_push}
+use Rattle.grin_syntax.proofs.Pieces.{all_arms, all_arms_none, all_before_push}
 use Rattle.copy_prop.specs.Resolved.{Table, Alias, put, as_word, as_val, alias_of, noted_alias, kept, noted_act, noted_code, noted_arms, resolved_act, resolved_code, resolved_arms, resolved_procs, resolved}
 use Rattle.copy_prop.proofs.Held.{alias_is}
 

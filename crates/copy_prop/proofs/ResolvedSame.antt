@@ -1,5 +1,7 @@
 -- A program without copies does the same.
 use Rattle.std.proofs.Common.{◌≡◌, ℕ, suc, ◌+◌, ◌≤◌, Bool, true, false, cond, nat_eq, List, [], ◌∷◌, ◌++◌, length, Option, Some, None, slice_get, slice_set, refl, sym, ap, ◌∙◌, subst, arith}
+use Rattle.seq.proofs.Order.{eq_from, eq_self}
+use Rattle.seq.proofs.Truth.{not_both}
 use Rattle.grin_syntax.specs.declared.program.Cell.{Cell}
 use Rattle.grin_syntax.specs.declared.program.Shape.{Shape}
 use Rattle.grin_syntax.specs.declared.program.Target.{Target}
@@ -27,7 +29,6 @@ use Rattle.grin_meaning.proofs.Bodies.{AnyState, every_any}
 use Rattle.grin_meaning.proofs.KeptBy.{likewise_kept, looking_kept}
 use Rattle.grin_meaning.proofs.OneSided.{left_follows}
 use Rattle.copy_prop.specs.Resolved.{Table, Alias, put, entry, word_for, as_word, as_words, as_val, as_cells, alias_of, noted_alias, unless_alias, noted_act, noted_code, resolved_act, resolved_code, resolved_arms, resolved_procs, resolved}
-use Rattle.copy_prop.proofs.Used.{same_number, true_or_false, equal_to_itself}
 use Rattle.copy_prop.proofs.Bound.{names_places, names_target, binds_nothing}
 use Rattle.copy_prop.proofs.LeanSame.{bound_well}
 use Rattle.copy_prop.proofs.Held.{entry_put, entry_other, alias_is, act_keeps, code_keeps, target_scope, as_scope, Held, held_some, held_more, held_walked, held_alias}
@@ -251,7 +252,7 @@ module _ (g : Program) (formed : Formed g) (inlined : IsInlined g) (vectorised :
           where
             go : (z : ℕ) (v : Value) → InScope (a.var.0 ∷ scope.words) z → (r : Bool) → nat_eq z a.var.0 ≡ r → cond r (Some (words (y ∷ []))) (x.env z) ≡ Some v → via g (noted_alias (Some a) k) x.env' z ≡ Some v
             go z v i true r h =
-                ap (λ o. looked_up g (noted_alias (Some a) k) x.env' o z) (ap (entry (put k a.var.0 (as_word k a.word))) (same_number z a.var.0 r) ∙ entry_put k a.var.0 (as_word k a.word))
+                ap (λ o. looked_up g (noted_alias (Some a) k) x.env' o z) (ap (entry (put k a.var.0 (as_word k a.word))) (eq_from z a.var.0 r) ∙ entry_put k a.var.0 (as_word k a.word))
                 ∙ ap (λ o. and_then o (λ d. Some (words (d ∷ [])))) (word_too k scope a.word f x.env x.env' x.related y e) ∙ h
             go z v i false r h =
                 let n : counts (nat_eq z a.var.0) ≡ 0 = ap counts r in
@@ -259,7 +260,7 @@ module _ (g : Program) (formed : Formed g) (inlined : IsInlined g) (vectorised :
                 ap (λ o. looked_up g (noted_alias (Some a) k) x.env' o z) (entry_other k a.var.0 z (as_word k a.word) (other z r)) ∙ x.related z v j h
               where
                 other : (z : ℕ) → nat_eq z a.var.0 ≡ false → z ≡ a.var.0 → ⊥
-                other z r s = true_or_false (nat_eq z a.var.0) (ap (λ u. nat_eq u a.var.0) s ∙ equal_to_itself a.var.0) r
+                other z r s = not_both (nat_eq z a.var.0) (ap (λ u. nat_eq u a.var.0) s ∙ eq_self a.var.0) r
 
     bind_goes : (k : Table) (scope : Scope) (scope' : List ℕ) (t : Target) (o : Act) (b : Code) → Held g k scope scope' (target_vars t ++ (act_vars o ++ code_vars b)) → NoNodeTarget t → ActFormed g scope o → CodeFormed g (with_target t scope) b
         → ActFollows it (R k scope) Same o (resolved_act k o)

@@ -2,6 +2,9 @@
 use Rattle.std.proofs.Common.{◌≡◌, ℕ, zero, suc, ◌+◌, ◌<◌, Bool, true, false, cond, not, ◌&&◌, ◌||◌, nat_eq, nat_lt, List, [], ◌∷◌, ◌++◌, length, drop, take, get_or, slice_set, refl, sym, ap, ◌∙◌, arith}
 use Rattle.std.proofs.lemmas.Bool.Decides.{nat_tests}
 use Rattle.std.proofs.lemmas.List.{get_or-set_same, get_or-set_other, take_more}
+use Rattle.seq.proofs.Order.{eq_from}
+use Rattle.seq.proofs.Truth.{not_both, or_left, or_right, neither_left, neither_right, and_left, and_right, not_true}
+use Rattle.seq.proofs.Lists.{append_again, append_nil}
 use Rattle.grin_syntax.specs.declared.program.VarId.{VarId}
 use Rattle.grin_syntax.specs.declared.program.Cell.{Cell}
 use Rattle.grin_syntax.specs.declared.program.Word as W
@@ -10,46 +13,10 @@ use Rattle.grin_syntax.specs.Formed.{InScope}
 use Rattle.grin_syntax.proofs.Counted.{counts}
 use Rattle.copy_prop.specs.Lean.{stands, none_stands, word_uses, words_uses, val_uses, cells_uses}
 use Rattle.copy_prop.specs.Latest.{Latest}
+pub use Rattle.seq.proofs.Lists.{append_again}
+pub use Rattle.seq.proofs.Lists.{append_nil as append_none}
 
 -- ---- tests
-
-pub same_number : (x y : ℕ) → nat_eq x y ≡ true → x ≡ y
-same_number x y q = grind (arith, nat_tests)
-
-pub equal_to_itself : (x : ℕ) → nat_eq x x ≡ true
-equal_to_itself x = grind (arith, nat_tests)
-
-pub true_or_false : (b : Bool) → b ≡ true → b ≡ false → ⊥
-true_or_false true h k = cc
-true_or_false false h k = cc
-
-pub or_left : (a b : Bool) → a ≡ true → (a || b) ≡ true
-or_left true b h = refl
-or_left false b h = cc
-
-pub or_right : (a b : Bool) → b ≡ true → (a || b) ≡ true
-or_right true b h = refl
-or_right false b h = h
-
-pub neither_left : (a b : Bool) → (a || b) ≡ false → a ≡ false
-neither_left true b h = cc
-neither_left false b h = refl
-
-pub neither_right : (a b : Bool) → (a || b) ≡ false → b ≡ false
-neither_right true b h = cc
-neither_right false b h = h
-
-pub and_left : (a b : Bool) → (a && b) ≡ true → a ≡ true
-and_left true b h = refl
-and_left false b h = cc
-
-pub and_right : (a b : Bool) → (a && b) ≡ true → b ≡ true
-and_right true b h = h
-and_right false b h = cc
-
-pub not_true : (a : Bool) → not a ≡ true → a ≡ false
-not_true true h = cc
-not_true false h = refl
 
 -- ---- in a list
 
@@ -103,7 +70,7 @@ none_absent x [] ys h s = cc
 none_absent x (y ∷ xs) ys h s = go (nat_eq x y) refl s (none_absent x xs ys (and_right (not (stands y ys)) (none_stands xs ys) h))
   where
     go : (b : Bool) → nat_eq x y ≡ b → (b || stands x xs) ≡ true → (stands x xs ≡ true → stands x ys ≡ false) → stands x ys ≡ false
-    go true q s k = ap (λ z. stands z ys) (same_number x y q) ∙ not_true (stands y ys) (and_left (not (stands y ys)) (none_stands xs ys) h)
+    go true q s k = ap (λ z. stands z ys) (eq_from x y q) ∙ not_true (stands y ys) (and_left (not (stands y ys)) (none_stands xs ys) h)
     go false q s k = k s
 
 -- ---- loops
@@ -120,14 +87,6 @@ none_push (y ∷ xs) x ys = ap (λ b. not (stands y.0 ys) && b) (none_push xs x 
     go true b c = refl
     go false b c = refl
 
-pub append_again : (xs ys zs : List ℕ) → (xs ++ ys) ++ zs ≡ xs ++ (ys ++ zs)
-append_again [] ys zs = refl
-append_again (x ∷ xs) ys zs = ap (λ l. x ∷ l) (append_again xs ys zs)
-
-pub append_none : (xs : List ℕ) → xs ++ [] ≡ xs
-append_none [] = refl
-append_none (x ∷ xs) = ap (λ l. x ∷ l) (append_none xs)
-
 pub drop_front : (m ys : List ℕ) (n : ℕ) → length m ≡ n → drop n (m ++ ys) ≡ ys
 drop_front [] ys zero h = refl
 drop_front [] ys (suc n) h = absurd (omega (arith, h))
@@ -135,11 +94,11 @@ drop_front (x ∷ m) ys zero h = absurd (omega (arith, h))
 drop_front (x ∷ m) ys (suc n) h = drop_front m ys n (omega (arith, h))
 
 pub words_push : (ws : List W.Word) (a : W.Word) → words_uses (ws ++ a ∷ []) ≡ words_uses ws ++ word_uses a
-words_push [] a = append_none (word_uses a)
+words_push [] a = append_nil (word_uses a)
 words_push (b ∷ ws) a = ap (λ l. word_uses b ++ l) (words_push ws a) ∙ sym (append_again (word_uses b) (words_uses ws) (word_uses a))
 
 pub cells_push : (cs : List Cell) (c : Cell) → cells_uses (cs ++ c ∷ []) ≡ cells_uses cs ++ val_uses c.val
-cells_push [] c = append_none (val_uses c.val)
+cells_push [] c = append_nil (val_uses c.val)
 cells_push (b ∷ cs) c = ap (λ l. val_uses b.val ++ l) (cells_push cs c) ∙ sym (append_again (val_uses b.val) (cells_uses cs) (val_uses c.val))
 
 pub words_next : (ws : List W.Word) (i : ℕ) (a d : W.Word) (old0 old new : List ℕ) → i < length ws → a ≡ get_or ws i d → old ≡ old0 ++ words_uses (take i ws) → new ≡ old ++ word_uses a → new ≡ old0 ++ words_uses (take (i + 1) ws)
@@ -212,5 +171,5 @@ latest_next seen latest x n h lt e = record { by = λ y from. stands_after seen 
     many (z ∷ xs) = let m : length (xs ++ x ∷ []) ≡ suc (length xs) = many xs in omega (arith, m)
 
     go : (y from : ℕ) (b : Bool) → nat_eq y x ≡ b → cond b (nat_lt from (suc (length seen))) (stands y (drop from seen)) ≡ nat_lt from (get_or (slice_set latest x n) y 0)
-    go y from true q = ap (nat_lt from) (sym (ap (λ z. get_or (slice_set latest x n) z 0) (same_number y x q) ∙ get_or-set_same latest x n 0 lt ∙ e ∙ many seen))
-    go y from false q = h.by y from ∙ ap (nat_lt from) (sym (get_or-set_other latest x y n 0 (λ s. (let t : nat_eq y x ≡ true = grind (arith, nat_tests) in true_or_false (nat_eq y x) t q))))
+    go y from true q = ap (nat_lt from) (sym (ap (λ z. get_or (slice_set latest x n) z 0) (eq_from y x q) ∙ get_or-set_same latest x n 0 lt ∙ e ∙ many seen))
+    go y from false q = h.by y from ∙ ap (nat_lt from) (sym (get_or-set_other latest x y n 0 (λ s. (let t : nat_eq y x ≡ true = grind (arith, nat_tests) in not_both (nat_eq y x) t q))))

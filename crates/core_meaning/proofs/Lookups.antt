@@ -3,7 +3,8 @@ use Rattle.std.proofs.Common.{◌≡◌, ◌≢◌, ℕ, zero, suc, ◌+◌, ◌
 use Rattle.std.specs.Prelude.{◌⊎◌, ◌==◌, ℤ, pos, slice_set, if◌then◌else◌}
 use Rattle.std.proofs.lemmas.Bool.{eq-eqb, ltb-true, ltb-false}
 use Rattle.std.proofs.lemmas.List.{length-map, length-set}
-use Rattle.std.proofs.lemmas.Option.{same_Some, none-some}
+use Rattle.std.proofs.lemmas.Option.{same_Some}
+use Rattle.seq.proofs.Lists.{some_at, all_get, all_set, all_append}
 use Rattle.arity_check.specs.declared.normal.Var.{Var}
 use Rattle.arity_check.specs.declared.normal.Var.TheVariants as var
 use Rattle.arity_check.specs.declared.normal.Bound.{Bound}
@@ -20,25 +21,6 @@ use Rattle.core_meaning.proofs.Shared.{global_below}
 use Rattle.core_meaning.specs.WellFormed.{InLocals, InGroup, AllOf, HasFields, HasParams, VarOk, FormOk, TermOk, BranchesOk, FunOk, WellFormed}
 
 -- ---- lists
-
-something_at : {A : Type 0} (xs : List A) (i : ℕ) → i < length xs → (x : A) × (slice_get xs i ≡ Some x)
-something_at [] i lt = absurd (omega (arith, lt))
-something_at (x ∷ xs) zero lt = (x, refl)
-something_at (x ∷ xs) (suc i) lt = something_at xs i (omega (arith, lt))
-
-all_at : {A : Type 0} (P : A → Type 0) (xs : List A) (i : ℕ) (x : A) → AllOf P xs → slice_get xs i ≡ Some x → P x
-all_at P [] i x h e = absurd (none-some x e)
-all_at P (y ∷ xs) zero x h e = subst P (same_Some y x e) h.0
-all_at P (y ∷ xs) (suc i) x h e = all_at P xs i x h.1 e
-
-all_set : {A : Type 0} (P : A → Type 0) (xs : List A) (i : ℕ) (x : A) → AllOf P xs → P x → AllOf P (slice_set xs i x)
-all_set P [] i x h e = tt
-all_set P (y ∷ xs) zero x h e = (e, h.1)
-all_set P (y ∷ xs) (suc i) x h e = (h.0, all_set P xs i x h.1 e)
-
-all_append : {A : Type 0} (P : A → Type 0) (xs ys : List A) → AllOf P xs → AllOf P ys → AllOf P (xs ++ ys)
-all_append P [] ys h g = g
-all_append P (x ∷ xs) ys h g = (h.0, all_append P xs ys h.1 g)
 
 all_more : {A : Type 0} (P Q : A → Type 0) → ((x : A) → P x → Q x) → (xs : List A) → AllOf P xs → AllOf Q xs
 all_more P Q f [] h = tt
@@ -300,9 +282,9 @@ module _ (p : Program) where
 
       forcing : (a d : ℕ) (s : State) → Sound s → a < length s.heap → Found (length s.heap) (looking.force nowhere lost p onward' a d s) (force p onward a d s)
       forcing a d s ok lt =
-          let b = something_at s.heap a lt in
+          let b = some_at s.heap a lt in
           subst (λ o. Found (length s.heap) (looking.force_binding nowhere lost p onward' o a d s) (force_binding p onward o a d s)) (sym b.1)
-          (forced b.0 a d s ok (all_at (BindingIn (length s.heap)) s.heap a b.0 ok.bindings b.1))
+          (forced b.0 a d s ok (all_get (BindingIn (length s.heap)) s.heap a b.0 ok.bindings b.1))
 
       giving : (v : Value) (b d : ℕ) (s : State) → Sound s → ValueIn (length s.heap) v → b < length s.heap → Found (length s.heap) (give p onward' v b d s) (give p onward v b d s)
       giving (Int k) b d s ok h lt = record { same = refl; kept = tt }
@@ -417,7 +399,7 @@ module _ (p : Program) where
         entering : (f : ℕ) (xs : List ℕ) (d : ℕ) (s : State) → Sound s → HasParams p f (λ n. n ≡ length xs) → NamesIn (length s.heap) xs
             → Found (length s.heap) (looking.enter_body nowhere lost p onward' (slice_get p.funs f) xs d s) (enter_body p onward (slice_get p.funs f) xs d s)
         entering f xs d s ok h n =
-            let body = all_at (FunOk p) p.funs f h.0 w.bodies h.1 in
+            let body = all_get (FunOk p) p.funs f h.0 w.bodies h.1 in
             let scope : Scope (λ x. x < h.0.params) (length s.heap) (looking.parameters nowhere lost xs) (parameters xs) = record {
               same = λ x lt. (argument nowhere _ xs x (omega (arith, lt, h.2)) n).0;
               below = λ x lt. (argument nowhere _ xs x (omega (arith, lt, h.2)) n).1;

@@ -10,7 +10,7 @@ use mathlib.Core.Logic.{◌⊎◌, inl, inr}
 use Rattle.core_reader.specs.declared.syntax.Pattern.TheVariants as pattern
 use Rattle.core_reader.specs.declared.syntax.Binder.{Binder}
 use Rattle.core_reader.specs.Tree as tree
-use Rattle.core_reader.specs.Tree.{Term, Terms, Name, Con, Int, Bracket, NoTerms, AndTerm, Application, Expr, Alts, Bind, NoAlts, AndAlt, Data}
+use Rattle.core_reader.specs.Tree.{Term, Terms, Name, Con, Int, Bracket, NoTerms, AndTerm, Application, Expr, Alts, Bind, Data}
 use Rattle.arity_check.specs.declared.normal.Con as arity
 use Rattle.arity_check.specs.declared.normal.Var.{Var}
 use Rattle.arity_check.specs.declared.normal.Var.TheVariants as var
@@ -21,20 +21,15 @@ use Rattle.arity_check.specs.declared.meaning.Meaning.{Meaning}
 use Rattle.arity_check.specs.declared.meaning.Meaning.TheVariants.{Local, Function, Primitive, Unbound}
 use Rattle.arity_check.specs.Scope.{Scope, means, unless_primitive, found_in, function_from, primitive_from, primitives, con_number, is_named, binds, binds_all}
 use Rattle.arity_check.specs.Broken as broken
-use Rattle.arity_check.specs.Broken.{Broken, ConstructorArity, PatternArity, TooManyArguments, MainHasParameters, NoListConstructors, DuplicateConstructor, InFunction, place, Piece, AnApp, AGroup, SomeAlts, alt_at, count, Among, First, Later, Stands, AsName, AsCon, InHead, InArgument, Contains, Whole, InItsHead, InItsArgs, fields_of, first_named}
+use Rattle.arity_check.specs.Broken.{Broken, ConstructorArity, PatternArity, TooManyArguments, MainHasParameters, NoListConstructors, DuplicateConstructor, InFunction, place, Piece, AnApp, AGroup, SomeAlts, alt_at, count, Among, First, Later, Stands, AsCon, InHead, InArgument, Contains, Whole, InItsHead, InItsArgs, fields_of, first_named}
 use Rattle.arity_check.specs.Normal.{append, bound, itself, itself_as, Pairwise, IsFlat, Number, Constructor, Named, NumberApplied, BracketApplied, LoneHead, LoneBracket, IsNamed, OfPrimitive, OfLocal, OfGlobal, Called, Partial, Exceeded, IsApplied, Applied, AreArgs, NoArgs, AndArg, IsArg, Itself, New, IsGroup, NoMembers, AndMember, IsNormal, PlainApp, BoundApp, Group, Choice, AreBranches, NoBranches, ConBranch, IntBranch, NamelessBranch, NamedBranch, IsFunction, IsConstructor, IsNormalForm}
 use Rattle.arity_check.specs.Program as normal
 use Rattle.arity_check.specs.Program.{Program}
 use Rattle.core_meaning.specs.Evaluation.{nil, cons, con_named}
 use Rattle.std.specs.Str.{bytes_eq}
+use Rattle.seq.proofs.Truth.{not_both}
+use Rattle.seq.proofs.Lists.{all_append}
 use Rattle.core_meaning.specs.WellFormed.{WellFormed, FunOk, AllOf, InLocals, InGroup, HasFields, HasParams, VarOk, FormOk, TermOk, BranchesOk}
-
-true_not_false : {A : Type 0} (b : Bool) → b ≡ true → b ≡ false → A
-true_not_false b e f = let c : true ≡ false = sym e ∙ f in cc
-
-all_append : {A : Type 0} (P : A → Type 0) (xs ys : List A) → AllOf P xs → AllOf P ys → AllOf P (xs ++ ys)
-all_append P [] ys a b = b
-all_append P (x ∷ xs) ys a b = (a.0, all_append P xs ys a.1 b)
 
 record PairAt {X Y : Type 0} (R : X → Y → Type 0) (ys : List Y) (i : ℕ) (x : X) : Type 0 where
   other : Y
@@ -422,7 +417,7 @@ module _ (p : tree.Program) (q : Program) (nf : IsNormalForm p q) where
       where
         same : (c at k : ℕ) (d : Data) → Stands app.head app.args (Con c at) k → fields_of p c ≡ Some d → (b : Bool) → nat_eq k d.fields ≡ b → k ≡ d.fields
         same c at k d st e true q = eqb-true k d.fields q
-        same c at k d st e false q = absurd (ok 15 at (ConstructorArity (app, f, st) e (λ i. true_not_false _ (eq-eqb k d.fields i) q)))
+        same c at k d st e false q = absurd (ok 15 at (ConstructorArity (app, f, st) e (λ i. not_both _ (eq-eqb k d.fields i) q)))
 
         used_well : (h : Term) (k : ℕ) → Stands app.head app.args h k → Fine h k
         used_well (Con c at) k st = λ d e. same c at k d st e (nat_eq k d.fields) refl
@@ -440,7 +435,7 @@ module _ (p : tree.Program) (q : Program) (nf : IsNormalForm p q) where
       where
         same : (i : ℕ) (c : Binder) (fields : List Binder) (d : Data) → alt_at alts i ≡ Some (pattern.Con c fields) → fields_of p c.name.0 ≡ Some d → (b : Bool) → nat_eq (length fields) d.fields ≡ b → length fields ≡ d.fields
         same i c fields d e h true q = eqb-true (length fields) d.fields q
-        same i c fields d e h false q = absurd (ok 15 c.at (PatternArity i f e h (λ j. true_not_false _ (eq-eqb (length fields) d.fields j) q)))
+        same i c fields d e h false q = absurd (ok 15 c.at (PatternArity i f e h (λ j. not_both _ (eq-eqb (length fields) d.fields j) q)))
 
     piece_fine : (t : Scope) (piece : Piece) → InFunction p t piece → PieceFine piece
     piece_fine t (AnApp app) f = app_fine t app f
@@ -509,7 +504,7 @@ module _ (p : tree.Program) (q : Program) (nf : IsNormalForm p q) where
 
     module _ (different : (i j : ℕ) (b : List ℕ) → slice_get p.names i ≡ Some b → slice_get p.names j ≡ Some b → i ≡ j) where
       named_is : (x : ℕ) (name : List ℕ) (o : Option (List ℕ)) → slice_get p.names x ≡ o → elim o [ Some b ↦ bytes_eq b name | None ↦ false ] ≡ true → slice_get p.names x ≡ Some name
-      named_is x name None e h = true_not_false false h refl
+      named_is x name None e h = not_both false h refl
       named_is x name (Some b) e h = e ∙ ap Some (same_bytes b name h)
 
       -- the first constructor of this name
@@ -521,7 +516,7 @@ module _ (p : tree.Program) (q : Program) (nf : IsNormalForm p q) where
       first_by : (name : List ℕ) (b : Bool) (c : arity.Con) (cs : List arity.Con) → bytes_eq name c.name ≡ b → (i : ℕ) (d : arity.Con) → slice_get (c ∷ cs) i ≡ Some d → d.name ≡ name → ((i : ℕ) → slice_get cs i ≡ Some d → FirstNamed name cs)
           → (con : arity.Con) × (slice_get (c ∷ cs) (cond b 0 (con_named name cs + 1)) ≡ Some con) × (con.name ≡ name)
       first_by name true c cs e i d is n h = (c, refl, sym (same_bytes name c.name e))
-      first_by name false c cs e zero d is n h = let s : c ≡ d = same_Some c d is in true_not_false _ (bytes_same name c.name (sym (ap (λ x. x.name) s ∙ n))) e
+      first_by name false c cs e zero d is n h = let s : c ≡ d = same_Some c d is in not_both _ (bytes_same name c.name (sym (ap (λ x. x.name) s ∙ n))) e
       first_by name false c cs e (suc i) d is n h = let r = h i is in let z : con_named name cs + 1 ≡ suc (con_named name cs) = omega arith in (r.con, rw z r.is, r.same)
 
       first_found : (name : List ℕ) (cs : List arity.Con) (i : ℕ) (d : arity.Con) → slice_get cs i ≡ Some d → d.name ≡ name → FirstNamed name cs
@@ -580,7 +575,7 @@ module _ (p : tree.Program) (q : Program) (nf : IsNormalForm p q) where
         where
           by_fields : (con : arity.Con) → slice_get q.cons c ≡ Some con → (b : Bool) → nat_eq con.fields k ≡ b → HasFields q c k ⊎ (HasFields q c k → ⊥)
           by_fields con e true n = inl (con, e, eqb-true con.fields k n)
-          by_fields con e false n = inr (λ h. let s : h.0 ≡ con = same_Some h.0 con (sym h.1 ∙ e) in true_not_false _ (eq-eqb con.fields k (ap (λ x. x.fields) (sym s) ∙ h.2)) n)
+          by_fields con e false n = inr (λ h. let s : h.0 ≡ con = same_Some h.0 con (sym h.1 ∙ e) in not_both _ (eq-eqb con.fields k (ap (λ x. x.fields) (sym s) ∙ h.2)) n)
 
           by_con : (o : Option arity.Con) → slice_get q.cons c ≡ o → HasFields q c k ⊎ (HasFields q c k → ⊥)
           by_con None e = inr (λ h. none-some h.0 (sym e ∙ h.1))

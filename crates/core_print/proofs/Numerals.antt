@@ -5,18 +5,11 @@ use Rattle.std.specs.Fmt.{signed_decimal}
 use Rattle.std.proofs.lemmas.Bool.{lt-ltb, le-ltb, ltb-true}
 use Rattle.std.proofs.lemmas.Fmt.{decimal_by_steps}
 use Rattle.std.proofs.lemmas.Int.{ints}
+use Rattle.seq.proofs.Truth.{and_parts, and_from}
 use Rattle.core_reader.specs.declared.look.Kind.TheVariants.{Digits}
 use Rattle.core_reader.specs.Bytes.{is_lower, is_upper, is_digit}
 use Rattle.core_reader.specs.Tokens.{every, kind_of}
 use Rattle.core_reader.specs.Words.{digits_from, has_minus, number_of, IsInRange}
-
-both : (b c : Bool) → (b && c) ≡ true → (b ≡ true) × (c ≡ true)
-both true c e = (refl, e)
-both false c e = absurd cc
-
-each : (b c : Bool) → b ≡ true → c ≡ true → (b && c) ≡ true
-each true c e f = f
-each false c e f = absurd cc
 
 neither : (b c : Bool) → b ≡ false → c ≡ false → (b || c) ≡ false
 neither true c e f = absurd cc
@@ -26,10 +19,10 @@ other_than : (b n : ℕ) → b < n → eqb b n ≡ false
 other_than b n l = search (rules, arith)
 
 bounds : (b : ℕ) → is_digit b ≡ true → (47 < b) × (b < 58)
-bounds b e = let h = both (nat_lt 47 b) (nat_lt b 58) e in (ltb-true 47 b h.0, ltb-true b 58 h.1)
+bounds b e = let h = and_parts (nat_lt 47 b) (nat_lt b 58) e in (ltb-true 47 b h.0, ltb-true b 58 h.1)
 
 is_digit_at : (m : ℕ) → m < 10 → is_digit (48 + m) ≡ true
-is_digit_at m l = each (nat_lt 47 (48 + m)) (nat_lt (48 + m) 58) (lt-ltb 47 (48 + m) (omega arith)) (lt-ltb (48 + m) 58 (omega arith))
+is_digit_at m l = and_from (nat_lt 47 (48 + m)) (nat_lt (48 + m) 58) (lt-ltb 47 (48 + m) (omega arith)) (lt-ltb (48 + m) 58 (omega arith))
 
 no_lower : (b : ℕ) → is_digit b ≡ true → is_lower b ≡ false
 no_lower b e =
@@ -52,8 +45,8 @@ record IsDecimal (n : ℕ) (ds : List ℕ) : Type 0 where
   pub worth : digits_from 0 ds ≡ n
 
 every_last : (p : ℕ → Bool) (xs : List ℕ) (y : ℕ) → every p xs ≡ true → p y ≡ true → every p (xs ++ y ∷ []) ≡ true
-every_last p [] y e f = each (p y) true f refl
-every_last p (x ∷ xs) y e f = let h = both (p x) (every p xs) e in each (p x) (every p (xs ++ y ∷ [])) h.0 (every_last p xs y h.1 f)
+every_last p [] y e f = and_from (p y) true f refl
+every_last p (x ∷ xs) y e f = let h = and_parts (p x) (every p xs) e in and_from (p x) (every p (xs ++ y ∷ [])) h.0 (every_last p xs y h.1 f)
 
 worth_last : (n : ℕ) (xs : List ℕ) (y : ℕ) → digits_from n (xs ++ y ∷ []) ≡ 10 * digits_from n xs + (y - 48)
 worth_last n [] y = refl

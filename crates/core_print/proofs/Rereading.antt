@@ -1,7 +1,9 @@
 -- Bytes that are read as tokens wherever they stand, with what those tokens mean.
 use Rattle.std.proofs.Common.{◌≡◌, ℕ, suc, ◌+◌, ◌-◌, ◌<◌, ◌≤◌, Bool, true, false, eqb, List, [], ◌∷◌, ◌++◌, length, take, drop, map, Some, None, refl, sym, ap, subst, ◌∙◌, arith, inl, append_assoc, length-append}
-use Rattle.std.specs.Prelude.{codes, ◌&&◌, ◌||◌, slice_get}
+use Rattle.std.specs.Prelude.{codes, ◌||◌, slice_get}
 use Rattle.std.proofs.Math.Seq.{take-append_seam, take-append-add}
+use Rattle.seq.proofs.Truth.{and_not_right}
+use Rattle.seq.proofs.Lists.{drop_before}
 use Rattle.core_reader.specs.declared.look.Kind.{Kind}
 use Rattle.core_reader.specs.declared.look.Kind.TheVariants.{Lower, Upper, Digits, Sign}
 use Rattle.core_reader.specs.declared.look.Sign.TheVariants as signs
@@ -31,10 +33,6 @@ pub apart_more : (bytes rest : List ℕ) → Apart bytes → Apart rest → Apar
 apart_more [] rest h g = g
 apart_more (b ∷ bs) rest h g = h
 
-and_false : (b c : Bool) → c ≡ false → (b && c) ≡ false
-and_false true c e = e
-and_false false c e = refl
-
 no_digit_by : (lower upper digit quote : Bool) → (lower || upper || digit || quote) ≡ false → digit ≡ false
 no_digit_by true upper digit quote e = absurd cc
 no_digit_by false true digit quote e = absurd cc
@@ -46,7 +44,7 @@ no_digit b e = no_digit_by (is_lower b) (is_upper b) (is_digit b) (eqb b 39) e
 
 every_stops : (p : ℕ → Bool) (bs : List ℕ) (r : ℕ) (rest : List ℕ) → p r ≡ false → every p (bs ++ (r ∷ rest)) ≡ false
 every_stops p [] r rest e = rw e refl
-every_stops p (b ∷ bs) r rest e = and_false (p b) (every p (bs ++ (r ∷ rest))) (every_stops p bs r rest e)
+every_stops p (b ∷ bs) r rest e = and_not_right (p b) (every p (bs ++ (r ∷ rest))) (every_stops p bs r rest e)
 
 arrow_past : (bs : List ℕ) (r : ℕ) (rest : List ℕ) → arrow (bs ++ (r ∷ rest)) ≡ None
 arrow_past [] r rest = refl
@@ -62,7 +60,7 @@ minus_past (c ∷ bs) k r rest e h = by (eqb c 62) refl
   where
     by : (greater : Bool) → eqb c 62 ≡ greater → after_minus (c ∷ (bs ++ (r ∷ rest))) ≡ None
     by true g = rw (g, arrow_past bs r rest) refl
-    by false g = rw (g, and_false (is_digit c) (every is_digit (bs ++ (r ∷ rest))) (every_stops is_digit bs r rest (no_digit r h))) refl
+    by false g = rw (g, and_not_right (is_digit c) (every is_digit (bs ++ (r ∷ rest))) (every_stops is_digit bs r rest (no_digit r h))) refl
 
 past : (w : List ℕ) (k : Kind) (r : ℕ) (rest : List ℕ) → kind_of w ≡ Some k → is_inner r ≡ false → kind_of (w ++ (r ∷ rest)) ≡ None
 past [] k r rest e h = absurd cc
@@ -91,15 +89,11 @@ longest w k rest e h = record {
   no_longer = no_longer w k rest e h;
 }
 
-drop_seam : (w rest : List ℕ) → drop (length w) (w ++ rest) ≡ rest
-drop_seam [] rest = refl
-drop_seam (b ∷ w) rest = drop_seam w rest
-
 one_token : (w : List ℕ) (k : Kind) (rest : List ℕ) (at : ℕ) → kind_of w ≡ Some k → Apart rest → Reads at (w ++ rest) (record { bytes = w; at = at } ∷ []) (at + length w) rest
 one_token w k rest at e h =
     let after = drop (length w) (w ++ rest) in
     let r = Takes at (length w) (w ++ rest) k [] (at + length w) after (longest w k rest e h) (Stops (at + length w) after) in
-    subst (λ v. Reads at (w ++ rest) (record { bytes = w; at = at } ∷ []) (at + length w) v) (drop_seam w rest)
+    subst (λ v. Reads at (w ++ rest) (record { bytes = w; at = at } ∷ []) (at + length w) v) (drop_before w rest)
     (subst (λ v. Reads at (w ++ rest) (record { bytes = v; at = at } ∷ []) (at + length w) after) (take-append_seam w rest) r)
 
 -- ---- bytes with the meaning of their tokens

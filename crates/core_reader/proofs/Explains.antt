@@ -2,13 +2,14 @@
 use Rattle.std.proofs.Common.{◌≡◌, ℕ, Bool, true, false, cond, List, [], ◌∷◌, ◌++◌, Result, Ok, Err, refl, sym, ap, subst, ◌∙◌, append_assoc, inl, inr, ◌⊎◌, map}
 use Rattle.std.specs.Prelude.{ℤ, pos, negsuc, nat_lt}
 use Rattle.std.proofs.lemmas.List.{append-nil}
+use Rattle.seq.proofs.Lists.{map_push}
 use Rattle.core_reader.specs.declared.syntax.Pattern.TheVariants as pattern
 use Rattle.core_reader.specs.declared.token.Token.{Token}
 use Rattle.core_reader.specs.declared.token.Token.TheVariants as word
 use Rattle.core_reader.specs.declared.token.Lexeme.{Lexeme}
 use Rattle.core_reader.specs.declared.refusal.ReadRefusal.{ReadRefusal}
 use Rattle.core_reader.specs.declared.refusal.ReadRefusal.TheVariants.{BadByte, Syntax, NumberRange, TooDeep, TextTooLong, Memory}
-use Rattle.core_reader.specs.Tree.{Term, Terms, NoTerms, AndTerm, Application, Bind, Expr, App, Let, Case, Alts, NoAlts, AndAlt, Data, Function}
+use Rattle.core_reader.specs.Tree.{NoTerms, AndTerm, Expr, Let, Case, NoAlts, AndAlt, Data}
 use Rattle.core_reader.specs.Tree as tree
 use Rattle.core_reader.specs.Grammar.{Room, anywhere, at_most_200, lexeme, Decl, SpellsDecls, constructors_of, functions_of}
 use Rattle.core_reader.specs.Machine.{Cont, InFunction, LetBody, Scrutinee, AltBody, nests, InBody, InBind, Inside, opens, BindName, BindEquals, Ended, Brace, AltStart, AltNames, AltArrow, give, refused, State, Top, DataName, Count, DataEnd, Params, Apply, Step, go, done, stop, step, follow, run, with_last, applied}
@@ -21,7 +22,6 @@ use Rattle.core_reader.proofs.Complete.{reads_program}
 use Rattle.core_reader.proofs.Sound.{Consumed, Good, sound_step}
 use Rattle.core_reader.proofs.Ending.{ending, ends, sound_run, last_same}
 use Rattle.core_reader.proofs.Proper.{no_end, no_large}
-use Rattle.core_reader.proofs.Taking.{map_last}
 use Rattle.core_reader.proofs.Naming.{Texts, stable}
 
 -- ---- what the other limits do at a step of the reading
@@ -184,8 +184,8 @@ unfolding run
 led_on l names ts s next x h e =
     let y = said names x in
     record {
-      consumed = subst (Consumed l next) (sym (map_last (said names) ts x)) (subst (λ st. Good l st (map (said names) ts ++ y ∷ [])) e (sound_step l s (map (said names) ts) y.at y.token h.consumed));
-      reach = λ rest. ap (λ w. run l (Top []) (w ++ rest)) (map_last (said names) ts x) ∙ ap (run l (Top [])) (append_assoc (map (said names) ts) (y ∷ []) rest) ∙ h.reach (y ∷ rest) ∙ ap (λ st. follow st (λ s. run l s rest)) e;
+      consumed = subst (Consumed l next) (sym (map_push (said names) ts x)) (subst (λ st. Good l st (map (said names) ts ++ y ∷ [])) e (sound_step l s (map (said names) ts) y.at y.token h.consumed));
+      reach = λ rest. ap (λ w. run l (Top []) (w ++ rest)) (map_push (said names) ts x) ∙ ap (run l (Top [])) (append_assoc (map (said names) ts) (y ∷ []) rest) ∙ h.reach (y ∷ rest) ∙ ap (λ st. follow st (λ s. run l s rest)) e;
     }
 
 pub led_start : (l : Room) (names : Texts) → Led l names [] (Top [])
@@ -219,7 +219,7 @@ stops l names ts s x er h agrees e v =
     let all = ts ++ x ∷ [] in
     let own = v.whole.names in
     let y = said names x in
-    let named : map (said own) all ≡ map (said names) ts ++ y ∷ [] = ap (λ w. map (said w) all) v.is_program.names ∙ stable all v.rest ∙ sym agrees ∙ map_last (said names) ts x in
+    let named : map (said own) all ≡ map (said names) ts ++ y ∷ [] = ap (λ w. map (said w) all) v.is_program.names ∙ stable all v.rest ∙ sym agrees ∙ map_push (said names) ts x in
     let after = map (said own) v.rest ++ lexeme 0 word.End ∷ [] in
     let regroup : map (said own) (all ++ v.rest) ++ lexeme 0 word.End ∷ [] ≡ map (said names) ts ++ (y ∷ after) =
     ap (λ w. w ++ lexeme 0 word.End ∷ []) (map_parts own all v.rest ∙ ap (λ w. w ++ map (said own) v.rest) named) ∙ simp append_assoc in

@@ -6,6 +6,7 @@ use denote.Ref.{Bor}
 use Rattle.std.specs.Str.{bytes_eq}
 use Rattle.std.specs.List.{list_any, position_or_len}
 use Rattle.std.proofs.lemmas.List.{drop-drop, take_all, append-nil}
+use Rattle.seq.proofs.Lists.{map_push}
 use Rattle.core_reader.specs.declared.look.Kind.{Kind}
 use Rattle.core_reader.specs.declared.look.Kind.TheVariants.{Lower, Upper, Digits, Sign}
 use Rattle.core_reader.specs.declared.look.Found.{Found}
@@ -21,7 +22,6 @@ use Rattle.core_reader.specs.Names.{names_of, with_name, with_piece, is_numbered
 use Rattle.core_reader.specs.Lexed.{texts_of, is_large, IsSigned, IsTokenOf, Says, StopsAt, AtEnd, AtBad, AtLarge, AreInRange, IsLexed}
 use Rattle.core_reader.proofs.Looking.{StandsAtFront, front_stands}
 use Rattle.core_reader.proofs.Naming.{Texts, has, itself, fold_append, one_more, each_held, map_grows}
-use Rattle.core_reader.proofs.Taking.{map_last}
 use Rattle.core_reader.proofs.Proper.{IsProper, proper}
 use Rattle.core_reader.proofs.Unique.{gap_within, longest_some}
 
@@ -121,7 +121,7 @@ on_token text at n kind token lexemes longer names new h longest t small e =
           (h.so_far (p ∷ tail) end rest (Takes at n (drop at text) kind tail end rest longest (subst (λ v. Reads (at + n) v tail end rest) (sym (drop-drop n at text)) r)));
       named = grown ∙ ap (λ v. with_piece v p) h.named ∙ sym (fold_append [] h.pieces (p ∷ []));
       in_range = range_last h.pieces p h.in_range (ranged new w kind token t.says small longest.is_token);
-      lexed = e ∙ (λ i. (h.lexed ∙ said_same) i ++ said_token i ∷ []) ∙ sym (map_last (said new) h.pieces p);
+      lexed = e ∙ (λ i. (h.lexed ∙ said_same) i ++ said_token i ∷ []) ∙ sym (map_push (said new) h.pieces p);
       counted = omega (arith, h.counted, some, one_longer names p, ap length grown);
     }
 

@@ -6,6 +6,7 @@ use Rattle.std.specs.List.{list_any}
 use Rattle.std.proofs.lemmas.List.{append-nil}
 use Rattle.std.proofs.lemmas.List.Folds.{list_any-append}
 use Rattle.std.proofs.lemmas.Slice.Eq.{bytes_eq-Decides}
+use Rattle.seq.proofs.Truth.{or_true, or_left}
 use Rattle.core_reader.specs.declared.look.Kind.{Kind}
 use Rattle.core_reader.specs.declared.look.Kind.TheVariants.{Lower, Upper, Digits, Sign}
 use Rattle.core_reader.specs.declared.token.Token.{Token}
@@ -44,19 +45,11 @@ fold_append names (p ∷ ps) qs = fold_append (with_piece names p) ps qs
 abbrev pub Held : Texts → Piece → Type 0
 Held names p = is_numbered p ≡ true → has names p.bytes ≡ true
 
-or_right : (b : Bool) → (b || true) ≡ true
-or_right true = refl
-or_right false = refl
-
-or_left : (b c : Bool) → b ≡ true → (b || c) ≡ true
-or_left true c e = refl
-or_left false c e = absurd cc
-
 pub itself : (w : List ℕ) → bytes_eq w w ≡ true
 itself w = (bytes_eq-Decides w w).1 refl
 
 has_last : (names : Texts) (w : List ℕ) → has (names ++ w ∷ []) w ≡ true
-has_last names w = list_any-append (bytes_eq w) names (w ∷ []) ∙ ap (λ b. has names w || (b || false)) (itself w) ∙ or_right (has names w)
+has_last names w = list_any-append (bytes_eq w) names (w ∷ []) ∙ ap (λ b. has names w || (b || false)) (itself w) ∙ or_true (has names w)
 
 pub has_more : (names more : Texts) (w : List ℕ) → has names w ≡ true → has (names ++ more) w ≡ true
 has_more names more w e = list_any-append (bytes_eq w) names more ∙ or_left (has names w) (has more w) e

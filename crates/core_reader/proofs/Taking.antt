@@ -1,5 +1,5 @@
 -- One token of a reading, as the code takes it.
-use Rattle.std.proofs.Common.{◌≡◌, ℕ, length, ◌<◌, ◌≤◌, Bool, true, false, cond, List, [], ◌∷◌, ◌++◌, Result, Ok, Err, refl, sym, ap, subst, ◌∙◌, arith, ltb, map}
+use Rattle.std.proofs.Common.{◌≡◌, ℕ, length, ◌<◌, ◌≤◌, Bool, true, false, cond, List, [], ◌∷◌, ◌++◌, Result, Ok, Err, refl, sym, ap, subst, ◌∙◌, arith, ltb}
 use Rattle.std.specs.Prelude.{ℤ, pos, negsuc, ◌<ℤ◌, ◌≤ℤ◌}
 use Rattle.std.proofs.lemmas.Int.{ints}
 use lib.IntN.{nat_abs}
@@ -11,7 +11,7 @@ use Rattle.core_reader.specs.declared.token.Token.TheVariants as word
 use Rattle.core_reader.specs.declared.token.Lexeme.{Lexeme}
 use Rattle.core_reader.specs.declared.refusal.ReadRefusal.{ReadRefusal}
 use Rattle.core_reader.specs.declared.refusal.ReadRefusal.TheVariants.{BadByte, Syntax, TooDeep}
-use Rattle.core_reader.specs.Tree.{Term, Terms, NoTerms, AndTerm, Application, Bind, Expr, App, Let, Case, Alts, NoAlts, AndAlt, Data, Function}
+use Rattle.core_reader.specs.Tree.{Term, Terms, NoTerms, AndTerm, Bind, Expr, App, Let, Case, Alts, NoAlts, AndAlt, Data, Function}
 use Rattle.core_reader.specs.Tree as tree
 use Rattle.core_reader.specs.Grammar.{Room, at_most_200, Decl, Declares, Defines, constructors_of, functions_of}
 use Rattle.core_reader.specs.Machine.{Cont, InFunction, LetBody, Scrutinee, AltBody, nests, Frame, InBody, InBind, Inside, opens, BindName, BindEquals, Ended, Brace, AltStart, AltNames, AltArrow, give, refused, State, Top, DataName, Count, DataEnd, Params, Apply, go, stop, step, follow, run, with_last, ◌⊹◌, front, behind, starts_atom, is_name, refusal, Fails, terms, binds_of, alternatives, applied}
@@ -348,10 +348,6 @@ pub functions_same : (ds : List Decl) (d : Data) → functions_of (ds ++ Declare
 functions_same [] d = refl
 functions_same (Declares c ∷ ds) d = functions_same ds d
 functions_same (Defines g ∷ ds) d = ap (λ w. g ∷ w) (functions_same ds d)
-
-pub map_last : {A B : Type 0} (f : A → B) (xs : List A) (x : A) → map f (xs ++ x ∷ []) ≡ map f xs ++ f x ∷ []
-map_last f [] x = refl
-map_last f (y ∷ xs) x = ap (λ w. f y ∷ w) (map_last f xs x)
 
 pub finishes : (l : Room) (ds : List Decl) (ts : List Lexeme) (x : Lexeme) → x ≡ front ts → x.token ≡ word.End → run l (Top ds) ts ≡ Ok ds
 finishes l ds ts x front_is token_is =

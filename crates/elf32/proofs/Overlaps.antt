@@ -3,6 +3,7 @@ use Rattle.std.proofs.Common.{◌≡◌, ℕ, ◌+◌, ◌<◌, ◌≤◌, ◌�
 use Rattle.std.specs.Prelude.{IsSome, IsTrue}
 use Rattle.std.specs.Ordering.{nat_cmp, is_lt, is_eq}
 use Rattle.std.specs.Cmp.{nat_cmp_is}
+use Rattle.seq.proofs.Order.{lt_or_le, compared}
 use Rattle.elf32.specs.declared.header.ProgramHeader.{ProgramHeader}
 use Rattle.elf32.specs.Headers.{is_loadable}
 use Rattle.elf32.specs.Rules.{Overlaps, Covers, header, no_header, IsLeast}
@@ -14,14 +15,8 @@ less s t h = sym (nat_cmp_is s t Less h)
 greater : (s t : ℕ) → t < s → nat_cmp s t ≡ Greater
 greater s t h = sym (nat_cmp_is s t Greater h)
 
-less_or_not : (a b : ℕ) → (a < b) ⊎ (b ≤ a)
-less_or_not a b = grind arith
-
-compared : (a b : ℕ) → (a < b) ⊎ ((a ≡ b) ⊎ (b < a))
-compared a b = grind arith
-
 pub not_less : (s t : ℕ) → is_lt (nat_cmp s t) ≡ false → t ≤ s
-not_less s t h = elim (less_or_not s t) [ inl lt ↦ let e : true ≡ false = ap is_lt (sym (less s t lt)) ∙ h in cc | inr le ↦ le ]
+not_less s t h = elim (lt_or_le s t) [ inl lt ↦ let e : true ≡ false = ap is_lt (sym (less s t lt)) ∙ h in cc | inr le ↦ le ]
 
 pub other_key : (k q : ℕ) → (q ≡ k → ⊥) → is_eq (nat_cmp k q) ≡ false
 other_key k q h = elim (compared k q) [ inl lt ↦ ap is_eq (less k q lt) | inr more ↦ elim more [ inl e ↦ absurd (h (sym e)) | inr gt ↦ ap is_eq (greater k q gt) ] ]
@@ -32,7 +27,7 @@ pub hit : (hs : List ProgramHeader) (j : ℕ) (ends : ℕ → Option ℕ) (s e :
 hit hs j ends s e t load some at below above =
     let f = t.found s e at in
     let k = f.0 in
-    elim (less_or_not s (header hs j).addr) [
+    elim (lt_or_le s (header hs j).addr) [
       | inl lt ↦ (k, (header hs j).addr, f.1, (f.2, omega arith, omega arith), (load, omega arith, omega arith))
       | inr le ↦ (k, s, f.1, (f.2, omega arith, omega arith), (load, omega arith, omega arith))
     ]
@@ -53,8 +48,8 @@ miss hs j ends s e t l le (i, a, lt, ci, cj) =
     let there = t.listed i lt ci.0 (omega arith) in
     let some : IsSome (ends (header hs i).addr) = subst IsSome (sym there) refl in
     let before : (header hs i).addr ≤ s = l.last (header hs i).addr (omega arith) some in
-    elim (less_or_not (header hs i).addr s) [
-      | inl gt ↦ elim (less_or_not s ((header hs i).addr + (header hs i).memory_size)) [
+    elim (lt_or_le (header hs i).addr s) [
+      | inl gt ↦ elim (lt_or_le s ((header hs i).addr + (header hs i).memory_size)) [
         | inl within ↦
             let same = shared hs j i k s ends t lt f.1 (ci.0, omega arith, within) (f.2, omega arith, omega arith) in
             let at = ap (λ (n : ℕ). (header hs n).addr) same in
@@ -81,11 +76,11 @@ pub passed : (hs : List ProgramHeader) (j : ℕ) (ends : ℕ → Option ℕ) →
     → (IsTrue (is_loadable (header hs j)) → 0 < (header hs j).memory_size → ⊥) → Tracks hs (j + 1) ends
 passed hs j ends t empty = record {
   found = λ s e at. let f = t.found s e at in (f.0, omega arith, f.2, f.3, f.4, f.5);
-  listed = λ k lt load some. elim (less_or_not k j) [
+  listed = λ k lt load some. elim (lt_or_le k j) [
     | inl before ↦ t.listed k before load some
     | inr not ↦ let at : k ≡ j = omega arith in absurd (empty (subst (λ (n : ℕ). IsTrue (is_loadable (header hs n))) at load) (subst (λ (n : ℕ). 0 < (header hs n).memory_size) at some))
   ];
-  apart = λ k lt o. elim (less_or_not k j) [
+  apart = λ k lt o. elim (lt_or_le k j) [
     | inl before ↦ t.apart k before o
     | inr not ↦ let at : k ≡ j = omega arith in let here = subst (Overlaps hs) at o in empty here.4.0 (omega arith)
   ];
@@ -103,11 +98,11 @@ added hs j ends ends' t load some fresh here others = record {
         (j, omega arith, load, sym same, omega arith, omega arith)
     | inr other ↦ let f = t.found s e (sym (others s other) ∙ at) in (f.0, omega arith, f.2, f.3, f.4, f.5)
   ];
-  listed = λ k lt loaded more. elim (less_or_not k j) [
+  listed = λ k lt loaded more. elim (lt_or_le k j) [
     | inl before ↦ others (header hs k).addr (λ same. fresh (k, (header hs j).addr, before, (loaded, omega arith, omega arith), (load, omega arith, omega arith))) ∙ t.listed k before loaded more
     | inr not ↦ let at : k ≡ j = omega arith in subst (λ (n : ℕ). ends' (header hs n).addr ≡ Some ((header hs n).addr + (header hs n).memory_size)) (sym at) here
   ];
-  apart = λ k lt o. elim (less_or_not k j) [
+  apart = λ k lt o. elim (lt_or_le k j) [
     | inl before ↦ t.apart k before o
     | inr not ↦ let at : k ≡ j = omega arith in fresh (subst (Overlaps hs) at o)
   ];
@@ -131,7 +126,7 @@ pub past : (hs : List ProgramHeader) (j : ℕ) → length hs ≤ j → Overlaps 
 past hs j le (i, a, lt, ci, cj) = let e = header_past hs j le in let k : IsTrue (is_loadable no_header) = subst (λ (h : ProgramHeader). IsTrue (is_loadable h)) e cj.0 in cc
 
 pub none : (hs : List ProgramHeader) (n : ℕ) (ends : ℕ → Option ℕ) → Tracks hs n ends → length hs ≤ n → (j : ℕ) → Overlaps hs j → ⊥
-none hs n ends t le j o = elim (less_or_not j n) [ inl lt ↦ t.apart j lt o | inr not ↦ past hs j (omega arith) o ]
+none hs n ends t le j o = elim (lt_or_le j n) [ inl lt ↦ t.apart j lt o | inr not ↦ past hs j (omega arith) o ]
 
 -- the answer of a search among the earlier ends
 pub earlier : (hs : List ProgramHeader) (j : ℕ) (ends : ℕ → Option ℕ) (b : Bool) → Tracks hs j ends

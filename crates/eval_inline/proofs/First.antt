@@ -6,21 +6,11 @@ use Rattle.std.proofs.lemmas.Bool.Decides.{nat_tests}
 use Rattle.std.proofs.lemmas.List.{get_or-map, length-map}
 use Rattle.std.proofs.lemmas.List.Kept.{AllPairs-from_increasing}
 use Rattle.std.proofs.lemmas.Option.{slice_get_cases}
+use Rattle.seq.proofs.Truth.{or_true}
 use Rattle.grin_syntax.specs.declared.program.TagId.{TagId}
 use Rattle.eval_inline.specs.Inlining.{those}
 use Rattle.points_to.specs.Wanted.{is_in}
 use Rattle.eval_inline.specs.Met.{IsFirst, none, first, FirstInRange}
-
-or_true : (b : Bool) → (b || true) ≡ true
-or_true true = refl
-or_true false = refl
-
-pub or_false : (b : Bool) → (b || false) ≡ b
-or_false true = refl
-or_false false = refl
-
-not_both : {X : Type 0} (b : Bool) → b ≡ true → b ≡ false → X
-not_both b h k = cc
 
 pub same_first : (test test' : ℕ → Bool) (from : ℕ) (o : Option TagId) → ((t : ℕ) → test t ≡ test' t) → IsFirst test from o → IsFirst test' from o
 same_first test test' from None h (none f) = none (λ t le. sym (h t) ∙ f t le)

@@ -2,6 +2,8 @@
 use Rattle.std.proofs.Common.{◌≡◌, ◌<◌, ◌≤◌, ◌+◌, ℕ, zero, suc, Bool, true, false, cond, nat_eq, ◌||◌, List, [], ◌∷◌, length, Option, Some, None, slice_get, refl, sym, ap, ◌∙◌, subst, inl, inr, arith}
 use Rattle.std.specs.Prelude.{◌⊎◌}
 use Rattle.std.proofs.lemmas.Bool.Decides.{nat_tests}
+use Rattle.seq.proofs.Order.{eq_from}
+use Rattle.seq.proofs.Truth.{false_not_true, or_from}
 use Rattle.grin_syntax.specs.declared.program.Tag.{Tag}
 use Rattle.grin_syntax.specs.declared.program.Word as W
 use Rattle.grin_syntax.specs.Tree.{Program}
@@ -29,37 +31,26 @@ pub record Known (ts : List Tag) (tags : List ℕ) (n : Node) : Type 0 where
   pub full : length n.fields ≡ tag.fields
   pub among : Among n.tag tags
 
-pub nat_eq-true : (x y : ℕ) → nat_eq x y ≡ true → x ≡ y
-nat_eq-true x y h = grind (arith, nat_tests)
-
 past : (i t : ℕ) → i ≤ t → nat_eq t i ≡ false → suc i ≤ t
 past i t le q = grind (arith, nat_tests)
-
-not_both : false ≡ true → ⊥
-not_both h = cc
 
 pub those_have : (test : ℕ → Bool) (t : ℕ) → test t ≡ true → (i k : ℕ) → i ≤ t → t < i + k → Among t (those test i k)
 those_have test t e i zero le lt = absurd (omega arith)
 those_have test t e i (suc k) le lt = on (test i) refl (nat_eq t i) refl (λ q. those_have test t e (suc i) k (past i t le q) (omega arith))
   where
     on : (b : Bool) → test i ≡ b → (c : Bool) → nat_eq t i ≡ c → (nat_eq t i ≡ false → Among t (those test (suc i) k)) → Among t (cond b (i ∷ those test (suc i) k) (those test (suc i) k))
-    on true q true r later = inl (nat_eq-true t i r)
+    on true q true r later = inl (eq_from t i r)
     on true q false r later = inr (later r)
-    on false q true r later = let h : test i ≡ true = subst (λ j. test j ≡ true) (nat_eq-true t i r) e in absurd (not_both (sym q ∙ h))
+    on false q true r later = let h : test i ≡ true = subst (λ j. test j ≡ true) (eq_from t i r) e in absurd (false_not_true (sym q ∙ h))
     on false q false r later = later r
-
-pub or_true : (x y : Bool) → x ≡ true ⊎ y ≡ true → (x || y) ≡ true
-or_true true y h = refl
-or_true false y (inl e) = cc
-or_true false y (inr e) = e
 
 pub some_cell : (test : ℕ → Bool) (s : ℕ) → test s ≡ true → (p : Program) (A : Solution) (us : List AbstractWord) → among (cell_of s) us ≡ true → some_of test (cells_in p A us) ≡ true
 some_cell test s e p A [] m = cc
 some_cell test s e p A (cell_of s' ∷ us) m = on (nat_eq s s') refl m (some_cell test s e p A us)
   where
     on : (b : Bool) → nat_eq s s' ≡ b → (b || among (cell_of s) us) ≡ true → (among (cell_of s) us ≡ true → some_of test (cells_in p A us) ≡ true) → (test s' || some_of test (cells_in p A us)) ≡ true
-    on true q m next = or_true (test s') (some_of test (cells_in p A us)) (inl (subst (λ x. test x ≡ true) (nat_eq-true s s' q) e))
-    on false q m next = or_true (test s') (some_of test (cells_in p A us)) (inr (next m))
+    on true q m next = or_from (test s') (some_of test (cells_in p A us)) (inl (subst (λ x. test x ≡ true) (eq_from s s' q) e))
+    on false q m next = or_from (test s') (some_of test (cells_in p A us)) (inr (next m))
 some_cell test s e p A (tag t ∷ us) m = some_cell test s e p A us m
 some_cell test s e p A (num ∷ us) m = some_cell test s e p A us m
 
@@ -69,7 +60,7 @@ same_site s r q = cc
 some_site : (p : Program) (A : Solution) (test : ℕ → Bool) {a : W.Word} {u : AbstractWord} → StandsFor (tables p) A a u → (s : ℕ) → u ≡ cell_of s → test s ≡ true → some_of test (sites_of p A a) ≡ true
 some_site p A test literal s q e = cc
 some_site p A test (variable {x = x} {u = u} y) s q e = some_cell test s e p A (A (var x.0) (word 0)) (subst (λ u. among u (A (var x.0) (word 0)) ≡ true) q y.there)
-some_site p A test (global {c = c} g) s q e = rw g (or_true (test c.site.0) false (inl (subst (λ x. test x ≡ true) (same_site s c.site.0 q) e)))
+some_site p A test (global {c = c} g) s q e = rw g (or_from (test c.site.0) false (inl (subst (λ x. test x ≡ true) (same_site s c.site.0 q) e)))
 some_site p A test tag_itself s q e = cc
 
 pub cell_known : (p : Program) (A : Solution) (s : State) → Lies p A s → (a : W.Word) (i : ℕ) (c : HeapCell) → and_then (word_of p s.env a) place_of ≡ Some i → slice_get s.heap i ≡ Some c → Known p.tags (tags_of p A a) c.node

@@ -1,7 +1,6 @@
 -- What the readers of a solution say of the tags that a word may meet.
-use Rattle.std.proofs.Common.{◌≡◌, ℕ, slice_get, Bool, true, false, ◌||◌, nat_eq, List, [], ◌∷◌, Option, Some, None, refl, sym, ap, ◌∙◌, subst, inl, inr, ⊎_elim, arith}
+use Rattle.std.proofs.Common.{◌≡◌, ℕ, slice_get, Bool, true, nat_eq, List, [], ◌∷◌, Option, Some, None, sym, ap, ◌∙◌, subst, inl, inr, ⊎_elim}
 use Rattle.std.specs.Prelude.{◌⊎◌, ◌↔◌}
-use Rattle.std.proofs.lemmas.Bool.Decides.{nat_tests}
 use Rattle.grin_syntax.specs.declared.program.TagId.{TagId}
 use Rattle.grin_syntax.specs.declared.program.VarId.{VarId}
 use Rattle.grin_syntax.specs.declared.program.GlobalCell.{GlobalCell}
@@ -17,47 +16,36 @@ use Rattle.eval_inline.specs.Inlining.{some_of, cells_in, site_of, sites_of}
 use Rattle.points_to.specs.Held.{In, here, there}
 use Rattle.points_to.specs.Wanted.{is_in}
 use Rattle.seq.proofs.Member.{none_in, cons_in}
+use Rattle.seq.proofs.Truth.{both_ways, or_cases, or_false, or_from}
+use Rattle.seq.proofs.Order.{eq_self, eq_from}
 use Rattle.eval_inline.specs.Met.{IsFirst, none}
-use Rattle.eval_inline.proofs.Known.{nat_eq-true, or_true, some_cell}
-use Rattle.eval_inline.proofs.First.{or_false, same_first}
-
-same_bool : (a b : Bool) → (a ≡ true → b ≡ true) → (b ≡ true → a ≡ true) → a ≡ b
-same_bool true true f g = refl
-same_bool true false f g = sym (f refl)
-same_bool false true f g = g refl
-same_bool false false f g = refl
-
-or_cases : (a b : Bool) → (a || b) ≡ true → (a ≡ true) ⊎ (b ≡ true)
-or_cases true b e = inl refl
-or_cases false b e = inr e
-
-eq_self : (n : ℕ) → nat_eq n n ≡ true
-eq_self n = grind (arith, nat_tests)
+use Rattle.eval_inline.proofs.Known.{some_cell}
+use Rattle.eval_inline.proofs.First.{same_first}
 
 -- ---- members
 
 in_from : (n : ℕ) (ns : List ℕ) → is_in n ns ≡ true → In n ns
 in_from n [] e = cc
-in_from n (m ∷ ns) e = ⊎_elim (λ a. subst (λ k. In n (k ∷ ns)) (nat_eq-true n m a) here) (λ b. there (in_from n ns b)) (or_cases (nat_eq n m) (is_in n ns) e)
+in_from n (m ∷ ns) e = ⊎_elim (λ a. subst (λ k. In n (k ∷ ns)) (eq_from n m a) here) (λ b. there (in_from n ns b)) (or_cases (nat_eq n m) (is_in n ns) e)
 
 from_in : (n : ℕ) (ns : List ℕ) → In n ns → is_in n ns ≡ true
 from_in n [] h = none_in h
 from_in n (m ∷ ns) h = ⊎_elim
-    (λ e. or_true (nat_eq n m) (is_in n ns) (inl (subst (λ k. nat_eq n k ≡ true) e (eq_self n))))
-    (λ t. or_true (nat_eq n m) (is_in n ns) (inr (from_in n ns t)))
+    (λ e. or_from (nat_eq n m) (is_in n ns) (inl (subst (λ k. nat_eq n k ≡ true) e (eq_self n))))
+    (λ t. or_from (nat_eq n m) (is_in n ns) (inr (from_in n ns t)))
     (cons_in m ns h)
 
 -- the tags of a site
 pub tags_met : (A : Solution) (s : ℕ) (ts : List ℕ) → ((t : ℕ) → In t ts ↔ At A (site s) tags (tag t)) → (t : ℕ) → is_in t ts ≡ among (tag t) (A (site s) tags)
-tags_met A s ts exact t = same_bool _ _ (λ e. ((exact t).0 (in_from t ts e)).there) (λ e. from_in t ts ((exact t).1 (record { there = e })))
+tags_met A s ts exact t = both_ways _ _ (λ e. ((exact t).0 (in_from t ts e)).there) (λ e. from_in t ts ((exact t).1 (record { there = e })))
 
 -- ---- the cells of a variable
 
 cell_some : (test : ℕ → Bool) (p : Program) (A : Solution) (us : List Element) → some_of test (cells_in p A us) ≡ true → (s : ℕ) × (among (Cell s) us ≡ true) × (test s ≡ true)
 cell_some test p A [] e = cc
 cell_some test p A (Cell s ∷ us) e = ⊎_elim
-    (λ a. (s, or_true (nat_eq s s) (among (Cell s) us) (inl (eq_self s)), a))
-    (λ b. let r = cell_some test p A us b in (r.0, or_true (nat_eq r.0 s) (among (Cell r.0) us) (inr r.1), r.2))
+    (λ a. (s, or_from (nat_eq s s) (among (Cell s) us) (inl (eq_self s)), a))
+    (λ b. let r = cell_some test p A us b in (r.0, or_from (nat_eq r.0 s) (among (Cell r.0) us) (inr r.1), r.2))
     (or_cases (test s) (some_of test (cells_in p A us)) e)
 cell_some test p A (tag t ∷ us) e = cell_some test p A us e
 cell_some test p A (Number ∷ us) e = cell_some test p A us e
@@ -75,7 +63,7 @@ tags_in_cells : (p : Program) (A : Solution) (x : ℕ) (ts : List ℕ)
 tags_in_cells p A x ts exact t =
     let test : ℕ → Bool = λ s. among (tag t) (A (site s) tags) in
     let us : List Element = A (var x) (word 0) in
-    same_bool _ _
+    both_ways _ _
     (λ e. let r = (exact t).0 (in_from t ts e) in some_cell test r.0 r.2.there p A us r.1.there)
     (λ e. let r = cell_some test p A us e in from_in t ts ((exact t).1 (r.0, record { there = r.1 }, record { there = r.2 })))
 

@@ -1,5 +1,6 @@
 -- Inlining of evaluations leaves a program well formed.
 use Rattle.std.proofs.Common.{◌≡◌, ℕ, zero, suc, ◌+◌, ◌<◌, ◌≤◌, Bool, true, false, cond, List, [], ◌∷◌, length, Option, Some, None, slice_get, refl, ap, ◌∙◌, subst, arith}
+use Rattle.seq.proofs.Lists.{all_get}
 use Rattle.grin_syntax.specs.declared.program.ProcId.{ProcId}
 use Rattle.grin_syntax.specs.declared.program.Tag.{Tag}
 use Rattle.grin_syntax.specs.declared.program.TagKind.{TagKind}
@@ -11,7 +12,7 @@ use Rattle.grin_syntax.specs.declared.program.Target.TheVariants.{Node as NodeTa
 use Rattle.grin_syntax.specs.Tree.{Code, end, store, bind, Act, unit, fetch, fetch_word, update, eval, apply, call, prim, read, write, case, nested, fail, Arms, no_arm, arm, Procedure, Program}
 use Rattle.grin_syntax.specs.Binders.{numbers_of, shape_vars, cell_vars}
 use Rattle.grin_syntax.specs.Formed.{AllOf, Scope, with_words, with_target, params_scope, InScope, HasProcedure, KindFormed, TagFormed, WordFormed, ActFormed, CodeFormed, ArmsFormed, ProcedureFormed, Formed, argument_words}
-use Rattle.grin_syntax.proofs.Scopes.{Fewer, fewer_left, Within, within_self, within_chain, within_words, within_target, words_within, target_within, first_in, all_get, with_procs, known_again, word_stays, words_stay, val_stays, cells_stay, shape_stays, vars_formed, same_sites, formed_with}
+use Rattle.grin_syntax.proofs.Scopes.{Fewer, fewer_left, Within, within_self, within_chain, within_words, within_target, words_within, target_within, first_in, with_procs, known_again, word_stays, words_stay, val_stays, cells_stay, shape_stays, vars_formed, same_sites, formed_with}
 use Rattle.grin_syntax.specs.Fresh.{variable, variables, past_procs}
 use Rattle.grin_meaning.specs.Run.{is_fun_kind}
 use Rattle.flow_system.specs.Solution.{Solution}

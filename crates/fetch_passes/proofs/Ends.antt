@@ -1,6 +1,7 @@
 -- What the loops over the words of a node and over the tags keep.
 use Rattle.std.proofs.Common.{◌≡◌, ℕ, suc, ◌+◌, ◌<◌, ◌≤◌, max, List, [], ◌∷◌, ◌++◌, map, take, length, length-take, get_or, refl, sym, ap, ◌∙◌, subst, arith}
 use Rattle.std.proofs.lemmas.List.{take_more, take_all}
+use Rattle.seq.proofs.Lists.{take_next}
 use Rattle.grin_syntax.specs.declared.program.VarId.{VarId}
 use Rattle.grin_syntax.specs.declared.program.Tag.{Tag}
 use Rattle.grin_syntax.specs.declared.program.Alt.{Alt}
@@ -12,7 +13,6 @@ use Rattle.grin_syntax.specs.declared.program.Target.TheVariants as to
 use Rattle.grin_syntax.specs.declared.program.Stmt.{Stmt}
 use Rattle.grin_syntax.specs.Tree.{Code, end, bind, unit, fetch_word, Arms, no_arm, arm, before_of, arm_of, all_before, arms_of}
 use Rattle.grin_syntax.specs.Tags.{tag_id}
-use Rattle.grin_syntax.proofs.Pieces.{take_next}
 use Rattle.grin_meaning.specs.Ready.{most_fields}
 use Rattle.fetch_passes.specs.Split.{all_words, node_arms}
 

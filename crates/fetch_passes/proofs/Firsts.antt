@@ -1,5 +1,5 @@
 -- The first words of a vector, and the first statement of a block.
-use Rattle.std.proofs.Common.{◌≡◌, ℕ, zero, suc, ◌+◌, ◌<◌, ◌≤◌, Bool, false, cond, ◌||◌, ◌&&◌, List, [], ◌∷◌, map, take, drop, length, get_or, Option, Some, None, slice_get, refl, sym, ap, ◌∙◌, subst, arith}
+use Rattle.std.proofs.Common.{◌≡◌, ℕ, suc, ◌+◌, ◌<◌, ◌≤◌, Bool, false, cond, ◌||◌, ◌&&◌, List, [], ◌∷◌, map, take, drop, length, get_or, Option, Some, None, slice_get, refl, sym, ap, ◌∙◌, subst}
 use Rattle.grin_syntax.specs.declared.program.Cell.{Cell}
 use Rattle.grin_syntax.specs.declared.program.Word.{Word}
 use Rattle.grin_syntax.specs.declared.program.Val.{Val}
@@ -11,10 +11,11 @@ use Rattle.grin_syntax.specs.declared.program.Op.{Op}
 use Rattle.grin_syntax.specs.declared.program.Target.{Target}
 use Rattle.grin_syntax.specs.Tree.{Code, Arms, no_arm, arm, act_of, before_of, arm_of, code_of, all_before, arms_of}
 use Rattle.grin_syntax.proofs.TreeOf.{before_of-Store, before_of-Bind}
-use Rattle.grin_syntax.proofs.Pieces.{take_next, all_arms, all_arms_none, all_arms_push}
+use Rattle.grin_syntax.proofs.Pieces.{all_arms, all_arms_none, all_arms_push}
 use Rattle.std.proofs.lemmas.List.{take_all}
+use Rattle.seq.proofs.Lists.{drop_at, drop_past, take_next}
+use Rattle.seq.proofs.Truth.{or_false, or_assoc}
 use Rattle.pass_ground.specs.Uses.{word_is, val_uses, cells_use, act_uses, code_uses, act_mentions}
-use Rattle.pass_ground.proofs.Tests.{or_none, or_later}
 use Rattle.fetch_passes.specs.Windows.{begins_with, is_int, tests_number, vector_uses, act_owns, is_passed, owns, act_outside, outside}
 
 pub begins_some : (t : ℕ) (v : Val) (ws : List Word) (a : Word) → v ≡ Vector ws → slice_get ws 0 ≡ Some a → word_is t a ≡ begins_with t v
@@ -77,17 +78,6 @@ store_outside t x cs c used one result q r e = ap (outside t x) (ap (λ f. f c) 
 
 -- ---- loops from the last statement on
 
-pub drop_at : {X : Type 0} (xs : List X) (i : ℕ) (x : X) → i < length xs → drop i xs ≡ get_or xs i x ∷ drop (suc i) xs
-drop_at [] i x h = absurd (omega (arith, h))
-drop_at (y ∷ xs) zero x h = refl
-drop_at (y ∷ xs) (suc i) x h = drop_at xs i x (omega (arith, h))
-
-pub drop_past : {X : Type 0} (xs : List X) (i : ℕ) → length xs ≤ i → drop i xs ≡ []
-drop_past [] zero h = refl
-drop_past [] (suc i) h = refl
-drop_past (y ∷ xs) zero h = absurd (omega (arith, h))
-drop_past (y ∷ xs) (suc i) h = drop_past xs i (omega (arith, h))
-
 -- the statements from the i-th on
 abbrev pub code_from : List Stmt → ℕ → Code → Code
 code_from ss i c = all_before (map before_of (drop i ss)) c
@@ -108,9 +98,9 @@ tests_none = record { by = λ r. refl }
 
 pub tests_next : (as' : List Alt) (i : ℕ) (a : Alt) (one old new : Bool) → i < length as' → a ≡ get_or as' i a → one ≡ is_int a.pattern → new ≡ (old || one) → ArmsTest (take i as') old → ArmsTest (take (i + 1) as') new
 tests_next as' i a one old new lt at e n p = subst (λ l. ArmsTest l new) (sym (take_next as' i a lt at))
-    (record { by = λ r. ap tests_number (all_arms_push (take i as') a r) ∙ p.by (arm a.pattern (code_of a.body) r) ∙ ap (λ b. old || (b || tests_number r)) (sym e) ∙ or_later old one (tests_number r) ∙ ap (λ b. b || tests_number r) (sym n) })
+    (record { by = λ r. ap tests_number (all_arms_push (take i as') a r) ∙ p.by (arm a.pattern (code_of a.body) r) ∙ ap (λ b. old || (b || tests_number r)) (sym e) ∙ or_assoc old one (tests_number r) ∙ ap (λ b. b || tests_number r) (sym n) })
 
 pub tests_all : (as' : List Alt) (i : ℕ) (tests : Bool) → length as' ≤ i → ArmsTest (take i as') tests → tests ≡ tests_number (arms_of (map arm_of as'))
 tests_all as' i tests le p =
     let q : ArmsTest as' tests = subst (λ l. ArmsTest l tests) (take_all i as' le) p in
-    sym (or_none tests) ∙ sym (q.by no_arm) ∙ ap tests_number (all_arms_none (map arm_of as'))
+    sym (or_false tests) ∙ sym (q.by no_arm) ∙ ap tests_number (all_arms_none (map arm_of as'))

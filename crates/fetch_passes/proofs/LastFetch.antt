@@ -1,6 +1,8 @@
 -- A fetch that ends a block, against fetches of all words and a case over all tags.
 use Rattle.std.proofs.Common.{◌≡◌, ◌≢◌, ℕ, zero, suc, ◌+◌, ◌<◌, ◌≤◌, Bool, true, false, cond, nat_eq, nat_le, take, List, [], ◌∷◌, ◌++◌, map, length, Option, Some, None, slice_get, refl, sym, ap, ◌∙◌, subst, arith}
 use Rattle.std.proofs.lemmas.Bool.Decides.{nat_tests}
+use Rattle.seq.proofs.Order.{eq_self, eq_false}
+use Rattle.seq.proofs.Lists.{all_get}
 use Rattle.grin_syntax.specs.declared.program.VarId.{VarId}
 use Rattle.grin_syntax.specs.declared.program.Tag.{Tag}
 use Rattle.grin_syntax.specs.declared.program.Target.TheVariants as to
@@ -11,7 +13,6 @@ use Rattle.grin_syntax.specs.declared.program.Word.TheVariants.{Var}
 use Rattle.grin_syntax.specs.Tree.{Code, end, unit, fetch, fetch_word, case, Procedure, Program}
 use Rattle.grin_syntax.specs.Tags.{tag_id}
 use Rattle.grin_syntax.specs.Fresh.{variable, variables}
-use Rattle.grin_syntax.proofs.Scopes.{all_get}
 use Rattle.grin_meaning.specs.Values.{Datum, Node, Value, node, words, Env, HeapCell, World, gives, need, and_then, only_word, with_vars, Fit, fits, fits_not, unclear, node_fit, made_node, as_node, fit_of, word_of, words_of, value_of}
 use Rattle.grin_meaning.specs.Run.{Calls, act_by, code_by, arms_by, choose, passing, node_word, nth_or_zero, place_of}
 use Rattle.grin_meaning.specs.Ready.{most_fields}
@@ -22,7 +23,6 @@ use Rattle.grin_meaning.proofs.Beside.{no_deeper, beside, gives_too, Sim, need_f
 use Rattle.grin_meaning.proofs.Rules.{Relation, Here, Setting, CallsFollow, ActFollows, CodeFollows, end_follows}
 use Rattle.grin_meaning.proofs.OneSided.{right_follows}
 use Rattle.fetch_passes.specs.Split.{all_words, node_arms, whole_node}
-use Rattle.pass_ground.proofs.Tests.{equal_self, equal_not}
 use Rattle.fetch_passes.proofs.Steps.{plus, plus_out, plus_in}
 use Rattle.fetch_passes.proofs.Fetching.{fetches, plan_of, it, cells_same}
 
@@ -167,7 +167,7 @@ module _ (g : Program) where
           ∙ ap (λ o. and_then o (λ ds. and_then (made_node g t ds) (λ m. Some (node m)))) (words_taken env' xs (words_from y 1 M) (length y.fields) fields_there ∙ ap Some taken)
           ∙ ap (λ t. and_then (made_node g t y.fields) (λ m. Some (node m))) e
           ∙ ap (λ o. and_then (and_then o (λ k. cond (nat_eq k (length y.fields)) (Some (record { tag = y.tag; fields = y.fields })) None)) (λ m. Some (node m))) full
-          ∙ ap (λ b. and_then (cond b (Some (record { tag = y.tag; fields = y.fields })) None) (λ m. Some (node m))) (equal_self (length y.fields))
+          ∙ ap (λ b. and_then (cond b (Some (record { tag = y.tag; fields = y.fields })) None) (λ m. Some (node m))) (eq_self (length y.fields))
 
       abbrev v' : Value
       v' = words (words_from y 0 (suc M))
@@ -179,7 +179,7 @@ module _ (g : Program) where
       arms_give (u ∷ ts) i zero t d' w e r f =
           let s : u ≡ t = cc in
           let q : i ≡ y.tag = omega (arith, e) in
-          let z : fit_of h (shape.Node (tag_id i) []) v' ≡ fits [] = ap (λ o. fit_at o) vector_is ∙ ap (λ b. cond b (fits []) fits_not) (ap (nat_eq y.tag) q ∙ equal_self y.tag) in
+          let z : fit_of h (shape.Node (tag_id i) []) v' ≡ fits [] = ap (λ o. fit_at o) vector_is ∙ ap (λ b. cond b (fits []) fits_not) (ap (nat_eq y.tag) q ∙ eq_self y.tag) in
           ap (λ o. choose o w (λ bs. code_by h c' true (with_vars bs env') d' (end (unit (NodeVal (tag_id i) (map Var (take u.fields xs))))) (passing (with_vars bs env') w)) (arms_by h c' true env' d' v' (node_arms xs (suc i) ts) w)) z
           ∙ ap (λ o. need o (passing env' w) (λ x. gives x (passing env' w))) (made i q u (ap (λ t. t.fields) s ∙ f))
         where
@@ -187,7 +187,7 @@ module _ (g : Program) where
           fit_at o = elim o [ None ↦ unclear | Some m ↦ cond (nat_eq m.tag i) (fits []) fits_not ]
       arms_give (u ∷ ts) i (suc k) t d' w e r f =
           ap (λ o. choose o w (λ bs. code_by h c' true (with_vars bs env') d' (end (unit (NodeVal (tag_id i) (map Var (take u.fields xs))))) (passing (with_vars bs env') w)) (arms_by h c' true env' d' v' (node_arms xs (suc i) ts) w))
-          (ap (λ o. node_fit i [] o) vector_is ∙ ap (λ b. cond b (fits []) fits_not) (equal_not y.tag i (λ q. omega (arith, q, e))))
+          (ap (λ o. node_fit i [] o) vector_is ∙ ap (λ b. cond b (fits []) fits_not) (eq_false y.tag i (λ q. omega (arith, q, e))))
           ∙ arms_give ts (suc i) k t d' w (omega (arith, e)) r f
 
     -- the tag of a full node

@@ -1,5 +1,6 @@
 -- The variables of a program and of the one with its fetches split, side by side.
 use Rattle.std.proofs.Common.{◌≡◌, ℕ, zero, suc, pos, ◌+◌, ◌<◌, ◌≤◌, true, List, [], ◌∷◌, ◌++◌, Some, slice_get, refl, sym, ap, ◌∙◌, subst, inl, inr, ◌⊎◌, arith}
+use Rattle.seq.proofs.Order.{eq_from, eq_self}
 use Rattle.grin_syntax.specs.declared.program.VarId.{VarId}
 use Rattle.grin_syntax.specs.declared.program.Word as W
 use Rattle.grin_syntax.specs.declared.program.Word.TheVariants.{Lit, Var, Global, TagWord}
@@ -11,7 +12,6 @@ use Rattle.grin_meaning.specs.Values.{Datum, Env, HeapCell, and_then, only_word,
 use Rattle.grin_meaning.specs.Run.{node_word, place_of}
 use Rattle.pass_ground.specs.Uses.{word_is}
 use Rattle.fetch_passes.specs.Names.{Names, Wait, as_word}
-use Rattle.pass_ground.proofs.Tests.{equal_so, equal_self}
 use Rattle.pass_ground.proofs.Bound.{names_of, vars_out, vars_in}
 use Rattle.fetch_passes.proofs.Found.{is_var}
 
@@ -51,8 +51,8 @@ held_as base n xs ks (TagWord k) s f = λ y e. cc
 held_as base n xs ks (Var x) s f = go (as_word ks (Var x)) (s x)
   where
     go : (w : W.Word) → At base n xs x.0 w → Held base n xs w
-    go (Var v) (itself e) = λ y h. inl (let q : v.0 ≡ y = equal_so v.0 y h in subst (InScope xs) (sym e ∙ q) (f x.0 (equal_self x.0)))
-    go (Var v) (renamed h k i) = λ y e. inr (let q : v.0 ≡ y = equal_so v.0 y e in (omega (arith, q, h), omega (arith, q, k)))
+    go (Var v) (itself e) = λ y h. inl (let q : v.0 ≡ y = eq_from v.0 y h in subst (InScope xs) (sym e ∙ q) (f x.0 (eq_self x.0)))
+    go (Var v) (renamed h k i) = λ y e. inr (let q : v.0 ≡ y = eq_from v.0 y e in (omega (arith, q, h), omega (arith, q, k)))
     go (Lit j) (gone i) = λ y e. cc
     go (Global j) r = elim r [ ]
     go (TagWord j) r = elim r [ ]
@@ -75,7 +75,7 @@ module _ (g : Program) where
 
   pub word_kept : (env env' : Env) (a : W.Word) → ((y : ℕ) → word_is y a ≡ true → env' y ≡ env y) → word_of g env' a ≡ word_of g env a
   word_kept env env' (Lit k) f = refl
-  word_kept env env' (Var x) f = ap (λ o. and_then o only_word) (f x.0 (equal_self x.0))
+  word_kept env env' (Var x) f = ap (λ o. and_then o only_word) (f x.0 (eq_self x.0))
   word_kept env env' (Global k) f = refl
   word_kept env env' (TagWord k) f = refl
 

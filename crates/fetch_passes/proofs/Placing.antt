@@ -1,6 +1,8 @@
 -- Each word of a cell is fetched directly after its tag where it is used outside the alternatives of the tag's case, and else
 -- at their front.
 use Rattle.std.proofs.Common.{◌≡◌, ℕ, zero, suc, pos, ◌+◌, ◌<◌, ◌≤◌, Bool, true, false, cond, ◌||◌, ◌&&◌, nat_eq, List, [], ◌∷◌, ◌++◌, length, refl, sym, ap, ◌∙◌, subst, inl, inr, ◌⊎◌, arith}
+use Rattle.seq.proofs.Truth.{or_left, or_right}
+use Rattle.seq.proofs.Order.{eq_from, eq_self, eq_false}
 use Rattle.grin_syntax.specs.declared.program.VarId.{VarId}
 use Rattle.grin_syntax.specs.declared.program.Tag.{Tag}
 use Rattle.grin_syntax.specs.declared.program.Word as W
@@ -21,12 +23,12 @@ use Rattle.fetch_passes.specs.Names.{Names, Wait, as_word, as_val, hiding}
 use Rattle.fetch_passes.specs.Split.{fetched_if, word_fetches, waits_of, front, front_names, all_words, node_arms, whole_node, split_act, split_code, split_arms, split_procs, made_act, made_code}
 use Rattle.fetch_passes.specs.Placed.{by_nodes_kind}
 use Rattle.fetch_passes.specs.Positions.{Tagged, Position, after_tag, at_front, elsewhere, GiveNodes, GivesNode, ActPlaced, CodePlaced, ArmsPlaced}
-use Rattle.pass_ground.proofs.Tests.{equal_so, equal_self, equal_not, never_both, same_var}
+use Rattle.pass_ground.proofs.Tests.{never_both, same_var}
 use Rattle.fetch_passes.proofs.Found.{is_waiting, hiding_is}
 use Rattle.fetch_passes.proofs.Near.{At, itself, renamed, gone, Sound, sound_more}
 use Rattle.fetch_passes.proofs.Waiting.{waits_in, waits_outside, both_own, sound_new, sound_hiding, front_sound}
 use Rattle.fetch_passes.proofs.Kept.{below}
-use Rattle.fetch_passes.proofs.Used.{or_left, or_right, both_or, word_used, val_used, hiding_stays, not_here, not_waiting, act_used, code_used, all_in, once_after, once_before}
+use Rattle.fetch_passes.proofs.Used.{both_or, word_used, val_used, hiding_stays, not_here, not_waiting, act_used, code_used, all_in, once_after, once_before}
 use Rattle.fetch_passes.proofs.Once.{first_once, others_once}
 
 -- ---- the tag's variable stands for itself, and nothing else for it
@@ -61,14 +63,14 @@ module _ (ks : Names) (t : VarId) (x : Alone ks t) where
   word_stays (Var z) = go (nat_eq z.0 t.0) refl
     where
       no : nat_eq z.0 t.0 ≡ false → (w : W.Word) → as_word ks (Var z) ≡ w → (s : Bool) → word_is t.0 w ≡ s → s ≡ false
-      no q (Var y) e true p = never_both (ap (λ m. nat_eq m t.0) (x.other z (e ∙ ap Var (same_var y t (equal_so y.0 t.0 p)))) ∙ equal_self t.0) q
+      no q (Var y) e true p = never_both (ap (λ m. nat_eq m t.0) (x.other z (e ∙ ap Var (same_var y t (eq_from y.0 t.0 p)))) ∙ eq_self t.0) q
       no q (Lit k) e true p = cc
       no q (Global k) e true p = cc
       no q (TagWord k) e true p = cc
       no q w e false p = refl
 
       go : (s : Bool) → nat_eq z.0 t.0 ≡ s → word_is t.0 (as_word ks (Var z)) ≡ s
-      go true q = ap (λ v. word_is t.0 (as_word ks (Var v))) (same_var z t (equal_so z.0 t.0 q)) ∙ ap (word_is t.0) x.own ∙ equal_self t.0
+      go true q = ap (λ v. word_is t.0 (as_word ks (Var v))) (same_var z t (eq_from z.0 t.0 q)) ∙ ap (word_is t.0) x.own ∙ eq_self t.0
       go false q = no q (as_word ks (Var z)) refl (word_is t.0 (as_word ks (Var z))) refl
 
   begins_stays : (v : V.Val) → begins_with t.0 (as_val ks v) ≡ begins_with t.0 v
@@ -131,7 +133,7 @@ module _ (ts : List Tag) where
 
   owns_stays : (b : Code) (ks : Names) (a : W.Word) (ps : List Wait) (n : ℕ) (t : VarId) → Alone ks t → times t.0 (code_vars b) ≡ 0 → t.0 < n → EachCode vectorised_kind b → EachCode by_nodes_kind b → owns t.0 (split_code ts ks a ps n b) ≡ owns t.0 b
   unfolding split_act owns code_vars EachAct made_act
-  owns_stays (end (fetch c)) ks a ps n t x h lt e k = owns_all t.0 (as_word ks c) 1 (variables (suc n) (most_fields ts)) _ ∙ equal_not n t.0 (λ q. omega (arith, q, lt))
+  owns_stays (end (fetch c)) ks a ps n t x h lt e k = owns_all t.0 (as_word ks c) 1 (variables (suc n) (most_fields ts)) _ ∙ eq_false n t.0 (λ q. omega (arith, q, lt))
   owns_stays (end o) ks a ps n t x h lt e k = owned_stays o ks a ps n t x
   owns_stays (store cs b) ks a ps n t x h lt e k = refl
   owns_stays (bind (to.Vector (v ∷ vs)) (fetch c) b) ks a ps n t x h lt e k =
@@ -205,7 +207,7 @@ abbrev pub Apart : List ℕ → List Wait → Type 0
 Apart is = AllOf (λ p. times p.place is ≡ 0)
 
 other_place : (i j : ℕ) → i < j → counts (nat_eq j i) ≡ 0
-other_place i j lt = ap counts (equal_not j i (λ q. omega (arith, q, lt)))
+other_place i j lt = ap counts (eq_false j i (λ q. omega (arith, q, lt)))
 
 apart_more : (i : ℕ) (is : List ℕ) (ps : List Wait) → Rising (suc i) ps → Apart is ps → Apart (i ∷ is) ps
 apart_more i is [] r h = tt
@@ -221,7 +223,7 @@ kept_before t b i [] is j lt = refl
 kept_before t b i (x ∷ xs) is j lt = kept_before t b (suc i) xs (cond (outside t x.0 b) (i ∷ is) is) j (omega (arith, lt)) ∙ go (outside t x.0 b)
   where
     go : (o : Bool) → times j (cond o (i ∷ is) is) ≡ times j is
-    go true = let c : counts (nat_eq j i) ≡ 0 = ap counts (equal_not j i (λ q. omega (arith, q, lt))) in omega (arith, c)
+    go true = let c : counts (nat_eq j i) ≡ 0 = ap counts (eq_false j i (λ q. omega (arith, q, lt))) in omega (arith, c)
     go false = refl
 
 waits_apart : (t : ℕ) (b : Code) (i : ℕ) (xs : List VarId) (is : List ℕ) → ((j : ℕ) → i ≤ j → times j is ≡ 0) → Apart (kept t b i xs is) (waits_of t b i xs)
@@ -321,7 +323,7 @@ module _ (first : ℕ) where
   whole_placed : (ts : List Tag) (n : ℕ) (a : W.Word) (here next : Position) → first ≤ n → CodePlaced first here next (whole_node ts n a)
   unfolding CodePlaced
   whole_placed ts n a here next le = (
-    inr (gives_all n a 1 (variables (suc n) (most_fields ts)) _ (equal_self n, give_nodes (variables (suc n) (most_fields ts)) 0 ts)),
+    inr (gives_all n a 1 (variables (suc n) (most_fields ts)) _ (eq_self n, give_nodes (variables (suc n) (most_fields ts)) 0 ts)),
     tt,
     all_placed a 0 (variables (suc n) (most_fields ts)) _ n [] _ le (λ j l. refl) (λ h x. (tt, nodes_placed x (variables (suc n) (most_fields ts)) 0 ts)),
   )

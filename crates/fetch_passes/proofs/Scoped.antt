@@ -1,5 +1,6 @@
 -- A program with its fetches split is well formed.
 use Rattle.std.proofs.Common.{◌≡◌, ℕ, zero, suc, pos, ◌+◌, ◌<◌, ◌≤◌, Bool, true, false, cond, nat_eq, List, [], ◌∷◌, ◌++◌, map, take, length, refl, sym, ap, ◌∙◌, subst, inl, inr, ◌⊎◌, arith}
+use Rattle.seq.proofs.Order.{eq_from}
 use Rattle.grin_syntax.specs.declared.program.VarId.{VarId}
 use Rattle.grin_syntax.specs.declared.program.Tag.{Tag}
 use Rattle.grin_syntax.specs.declared.program.Cell.{Cell}
@@ -20,7 +21,7 @@ use Rattle.pass_ground.specs.Uses.{code_uses}
 use Rattle.fetch_passes.specs.Windows.{owns, outside}
 use Rattle.fetch_passes.specs.Names.{Names, Wait, as_word, as_words, as_val, as_cells, hiding, named_if}
 use Rattle.fetch_passes.specs.Split.{fetched_if, word_fetches, waits_of, front, front_names, names_after, waits_after, cell_after, all_words, node_arms, whole_node, split_act, split_code, split_arms, split_procs, made_act, made_code}
-use Rattle.pass_ground.proofs.Tests.{equal_so, never_both}
+use Rattle.pass_ground.proofs.Tests.{never_both}
 use Rattle.fetch_passes.proofs.Found.{is_waiting, hiding_is, naming_is}
 use Rattle.fetch_passes.proofs.Waiting.{waits_too}
 
@@ -129,7 +130,7 @@ module _ (g : Program) (procs : List Procedure) (same_count : length procs ≡ l
       here false q e = never_both o (ap (λ z. outside t z b) e ∙ q)
 
       go : (s : Bool) → nat_eq y x.0 ≡ s → (InScope (numbers_of xs) y → InScope (kept_words t b xs (cond (outside t x.0 b) (x.0 ∷ ws) ws)) y) → InScope (kept_words t b xs (cond (outside t x.0 b) (x.0 ∷ ws) ws)) y
-      go true q f = kept_more t b xs (cond (outside t x.0 b) (x.0 ∷ ws) ws) y (here (outside t x.0 b) refl (equal_so y x.0 q))
+      go true q f = kept_more t b xs (cond (outside t x.0 b) (x.0 ∷ ws) ws) y (here (outside t x.0 b) refl (eq_from y x.0 q))
       go false q f = f (let k : counts (nat_eq y x.0) ≡ 0 = ap counts q in omega (arith, k, i))
 
   fetch_formed : (o : Bool) (x : VarId) (a : W.Word) (i : ℕ) (ws : List ℕ) (c : Code) → WordFormed after (In ws) a → CodeFormed after (In (cond o (x.0 ∷ ws) ws)) c → CodeFormed after (In ws) (fetched_if o x a i c)

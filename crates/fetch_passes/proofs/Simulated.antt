@@ -1,5 +1,7 @@
 -- A program with its fetches split does what the program does, with no deeper nesting.
 use Rattle.std.proofs.Common.{◌≡◌, ◌≢◌, ℕ, zero, suc, pos, ◌+◌, ◌<◌, ◌≤◌, Bool, true, false, cond, ◌||◌, ◌&&◌, nat_eq, List, [], ◌∷◌, ◌++◌, length, Some, slice_get, slice_set, refl, sym, ap, ◌∙◌, subst, inl, inr, ◌⊎◌, arith}
+use Rattle.seq.proofs.Truth.{neither_left, neither_right}
+use Rattle.seq.proofs.Order.{eq_from}
 use Rattle.grin_syntax.specs.declared.program.VarId.{VarId}
 use Rattle.grin_syntax.specs.declared.program.Cell.{Cell}
 use Rattle.grin_syntax.specs.declared.program.Target.{Target}
@@ -26,7 +28,7 @@ use Rattle.pass_ground.specs.Uses.{word_is, words_use, val_uses, cells_use, act_
 use Rattle.fetch_passes.specs.Windows.{begins_with, is_passed, owns, tests_number, vector_uses, act_outside, outside}
 use Rattle.fetch_passes.specs.Names.{Names, Wait, as_word, as_words, as_val, as_cells, hiding}
 use Rattle.fetch_passes.specs.Split.{waits_of, front, front_names, word_fetches, whole_node, split_act, split_code, split_arms, made_act, made_code}
-use Rattle.pass_ground.proofs.Tests.{no_left, no_right, equal_so, never_both}
+use Rattle.pass_ground.proofs.Tests.{never_both}
 use Rattle.pass_ground.proofs.Bound.{bound_names, places_names}
 use Rattle.fetch_passes.proofs.Found.{is_var, is_waiting, hiding_is}
 use Rattle.fetch_passes.proofs.Near.{Sound, sound_more, Held, held_more, held_as, Waits, Near, near_bind, word_kept}
@@ -299,13 +301,13 @@ module _ (g : Program) (base : ℕ) (procs : List Procedure) (same_count : lengt
           go : (b : Bool) → begins_with t v ≡ b → (y' : Value) × (value_of g h.env' (as_val ks v) ≡ Some y') × (Near g scope.words ks [] a ps h.w.cells h.env h.env' × SameFits g as' y y')
           go true b =
               let z : (y' : Value) × (value_of g h.env' (as_val ks v) ≡ Some y') × SameFits g as' y y' = own_goes g scope ks base n x.sound a ps h.w.cells h.env h.env' h.related as' (arms_same g as' q.bare.2) v q.formed.0 q.bare.1
-              (by_waiting ks ps (λ z. vector_uses (tests_number as') z v) (λ z i j. fewer_uses (tests_number as') z.0 v (no_left (val_uses z.0 v) (arms_use z.0 as') (w.hidden z i j)))
+              (by_waiting ks ps (λ z. vector_uses (tests_number as') z v) (λ z i j. fewer_uses (tests_number as') z.0 v (neither_left (val_uses z.0 v) (arms_use z.0 as') (w.hidden z i j)))
               (λ z i. ap (λ b. cond b (vector_uses (tests_number as') z v) (val_uses z v || arms_use z as')) (sym b) ∙ w.waits z i)) y e in
               (z.0, z.1, (h.related, z.2))
           go false b = (
             y,
-            value_goes g scope ks base n x.sound a ps h.w.cells h.env h.env' h.related v q.formed.0 q.bare.1 (by_waiting ks ps (λ z. val_uses z v) (λ z i j. no_left (val_uses z.0 v) (arms_use z.0 as') (w.hidden z i j))
-                (λ z i. no_left (val_uses z v) (arms_use z as') (ap (λ b. cond b (vector_uses (tests_number as') z v) (val_uses z v || arms_use z as')) (sym b) ∙ w.waits z i))) y e,
+            value_goes g scope ks base n x.sound a ps h.w.cells h.env h.env' h.related v q.formed.0 q.bare.1 (by_waiting ks ps (λ z. val_uses z v) (λ z i j. neither_left (val_uses z.0 v) (arms_use z.0 as') (w.hidden z i j))
+                (λ z i. neither_left (val_uses z v) (arms_use z as') (ap (λ b. cond b (vector_uses (tests_number as') z v) (val_uses z v || arms_use z as')) (sym b) ∙ w.waits z i))) y e,
             (h.related, same_fits g as' y),
           )
 
@@ -339,15 +341,15 @@ module _ (g : Program) (base : ℕ) (procs : List Procedure) (same_count : lengt
 
       clear_word : Clear ks (λ z. word_is z d)
       unfolding act_mentions outside
-      clear_word = by_waiting ks ps (λ z. word_is z d) (λ z e i. no_left (word_is z.0 d) (code_uses z.0 b) (w.hidden z e i)) (λ z i. no_left (word_is z d) (outside t z b) (w.waits z i))
+      clear_word = by_waiting ks ps (λ z. word_is z d) (λ z e i. neither_left (word_is z.0 d) (code_uses z.0 b) (w.hidden z e i)) (λ z i. neither_left (word_is z d) (outside t z b) (w.waits z i))
 
       hidden_on : (z : VarId) → is_var (as_word ks (Var z)) ≡ false → is_waiting ps z.0 ≡ false → code_uses z.0 b ≡ false
       unfolding act_mentions
-      hidden_on z e i = no_right (word_is z.0 d) (code_uses z.0 b) (w.hidden z e i)
+      hidden_on z e i = neither_right (word_is z.0 d) (code_uses z.0 b) (w.hidden z e i)
 
       waits_on : (z : ℕ) → is_waiting ps z ≡ true → outside t z b ≡ false
       unfolding act_mentions outside
-      waits_on z i = no_right (word_is z d) (outside t z b) (w.waits z i)
+      waits_on z i = neither_right (word_is z d) (outside t z b) (w.waits z i)
 
       fresh : (y : ℕ) → InScope ys y → times y scope.words ≡ 0 × y < base
       fresh = target_new (to.Vector (v ∷ vs)) (fetch d) b scope q
@@ -388,7 +390,7 @@ module _ (g : Program) (base : ℕ) (procs : List Procedure) (same_count : lengt
       held_word = held_as base n scope.words ks d x.sound (λ y e. in_scope d q.formed.0 y e)
         where
           in_scope : (u : W.Word) → WordFormed g scope u → (y : ℕ) → word_is y u ≡ true → InScope scope.words y
-          in_scope (Var z) f y e = subst (InScope scope.words) (equal_so z.0 y e) f
+          in_scope (Var z) f y e = subst (InScope scope.words) (eq_from z.0 y e) f
           in_scope (Lit k) f y e = cc
           in_scope (Global k) f y e = cc
           in_scope (TagWord k) f y e = cc
@@ -572,15 +574,15 @@ module _ (g : Program) (base : ℕ) (procs : List Procedure) (same_count : lengt
     act_window : (u : Target) (o : Act) (b : Code) (scope : Scope) (ks : Names) (ps : List Wait) (t : ℕ) → is_passed o ≡ false → CodeWindow scope ks ps t (bind u o b) → ActWindow scope ks ps t o
     unfolding act_mentions outside
     act_window u o b scope ks ps t e w = record {
-      hidden = λ z i j. no_left (act_uses z.0 o) (code_uses z.0 b) (w.hidden z i j);
-      waits = λ z i. no_left (act_outside t z o) (code_uses z b) (ap (λ p. cond p (act_uses z o || outside t z b) (act_outside t z o || code_uses z b)) (sym e) ∙ w.waits z i);
+      hidden = λ z i j. neither_left (act_uses z.0 o) (code_uses z.0 b) (w.hidden z i j);
+      waits = λ z i. neither_left (act_outside t z o) (code_uses z b) (ap (λ p. cond p (act_uses z o || outside t z b) (act_outside t z o || code_uses z b)) (sym e) ∙ w.waits z i);
       tagged = w.tagged;
     }
 
     clear_after : (u : Target) (o : Act) (b : Code) (scope : Scope) (ks : Names) (ps : List Wait) (t : ℕ) → is_passed o ≡ false → CodeWindow scope ks ps t (bind u o b) → Clear ks (λ z. code_uses z b)
     unfolding act_mentions outside
-    clear_after u o b scope ks ps t e w = by_waiting ks ps (λ z. code_uses z b) (λ z i j. no_right (act_uses z.0 o) (code_uses z.0 b) (w.hidden z i j))
-        (λ z i. no_right (act_outside t z o) (code_uses z b) (ap (λ p. cond p (act_uses z o || outside t z b) (act_outside t z o || code_uses z b)) (sym e) ∙ w.waits z i))
+    clear_after u o b scope ks ps t e w = by_waiting ks ps (λ z. code_uses z b) (λ z i j. neither_right (act_uses z.0 o) (code_uses z.0 b) (w.hidden z i j))
+        (λ z i. neither_right (act_outside t z o) (code_uses z b) (ap (λ p. cond p (act_uses z o || outside t z b) (act_outside t z o || code_uses z b)) (sym e) ∙ w.waits z i))
 
     end_window : (o : Act) (scope : Scope) (ks : Names) (ps : List Wait) (t : ℕ) → CodeWindow scope ks ps t (end o) → ActWindow scope ks ps t o
     unfolding act_mentions outside
@@ -589,8 +591,8 @@ module _ (g : Program) (base : ℕ) (procs : List Procedure) (same_count : lengt
     store_clear : (cs : List Cell) (b : Code) (scope : Scope) (ks : Names) (ps : List Wait) (t : ℕ) → CodeWindow scope ks ps t (store cs b) → Clear ks (λ z. cells_use z cs) × Clear ks (λ z. code_uses z b)
     unfolding act_mentions outside
     store_clear cs b scope ks ps t w = (
-      by_waiting ks ps (λ z. cells_use z cs) (λ z i j. no_left (cells_use z.0 cs) (code_uses z.0 b) (w.hidden z i j)) (λ z i. no_left (cells_use z cs) (code_uses z b) (w.waits z i)),
-      by_waiting ks ps (λ z. code_uses z b) (λ z i j. no_right (cells_use z.0 cs) (code_uses z.0 b) (w.hidden z i j)) (λ z i. no_right (cells_use z cs) (code_uses z b) (w.waits z i)),
+      by_waiting ks ps (λ z. cells_use z cs) (λ z i j. neither_left (cells_use z.0 cs) (code_uses z.0 b) (w.hidden z i j)) (λ z i. neither_left (cells_use z cs) (code_uses z b) (w.waits z i)),
+      by_waiting ks ps (λ z. code_uses z b) (λ z i j. neither_right (cells_use z.0 cs) (code_uses z.0 b) (w.hidden z i j)) (λ z i. neither_right (cells_use z cs) (code_uses z b) (w.waits z i)),
     )
 
     -- of an operation that is no case
@@ -607,13 +609,13 @@ module _ (g : Program) (base : ℕ) (procs : List Procedure) (same_count : lengt
 
     passed_clear : (u : Target) (d : W.Word) (i : ℕ) (b : Code) (scope : Scope) (ks : Names) (ps : List Wait) (t : ℕ) → CodeWindow scope ks ps t (bind u (fetch_word d i) b) → Clear ks (λ z. word_is z d)
     unfolding act_mentions outside
-    passed_clear u d i b scope ks ps t w = by_waiting ks ps (λ z. word_is z d) (λ z e j. no_left (word_is z.0 d) (code_uses z.0 b) (w.hidden z e j)) (λ z j. no_left (word_is z d) (outside t z b) (w.waits z j))
+    passed_clear u d i b scope ks ps t w = by_waiting ks ps (λ z. word_is z d) (λ z e j. neither_left (word_is z.0 d) (code_uses z.0 b) (w.hidden z e j)) (λ z j. neither_left (word_is z d) (outside t z b) (w.waits z j))
 
     passed_window : (u : Target) (d : W.Word) (i : ℕ) (b : Code) (scope : Scope) (ks : Names) (ps : List Wait) (t : ℕ) → NoNodeTarget u → CodeWindow scope ks ps t (bind u (fetch_word d i) b) → CodeWindow (with_target u scope) ks ps t b
     unfolding act_mentions outside
     passed_window u d i b scope ks ps t nt w = record {
-      hidden = λ z e j. no_right (word_is z.0 d) (code_uses z.0 b) (w.hidden z e j);
-      waits = λ z j. no_right (word_is z d) (outside t z b) (w.waits z j);
+      hidden = λ z e j. neither_right (word_is z.0 d) (code_uses z.0 b) (w.hidden z e j);
+      waits = λ z j. neither_right (word_is z d) (outside t z b) (w.waits z j);
       tagged = λ z j. subst (λ zs. InScope zs t) (sym (target_words u scope nt)) (in_more (target_vars u) scope.words t (w.tagged z j));
     }
 
@@ -633,7 +635,7 @@ module _ (g : Program) (base : ℕ) (procs : List Procedure) (same_count : lengt
       where
         go : is_var (as_word ks (Var z)) ≡ false → (is_waiting ps z.0 ≡ true → code_uses z.0 b ≡ false) → (m : Bool) → is_waiting ps z.0 ≡ m → code_uses z.0 b ≡ false
         go i f true j = f j
-        go i f false j = no_left (code_uses z.0 b) (arms_use z.0 as') (w z i j)
+        go i f false j = neither_left (code_uses z.0 b) (arms_use z.0 as') (w z i j)
 
     -- a fetch that ends a block
     ending : (scope : Scope) (ks : Names) (a : W.Word) (ps : List Wait) (n : ℕ) → Ctx scope.words ks a ps n → (d : W.Word) → WordFormed g scope d → Clear ks (λ z. word_is z d) → CodeFollows st (NearR scope.words ks a ps) Same (end (fetch d)) (whole_node g.tags n (as_word ks d))
@@ -642,7 +644,7 @@ module _ (g : Program) (base : ℕ) (procs : List Procedure) (same_count : lengt
         (λ env' y e le. word_kept g env' (plus y e env') (as_word ks d) (λ z k. plus_out y e env' z (other y le z (held_as base n scope.words ks d x.sound (in_scope d f) z k))))
       where
         in_scope : (u : W.Word) → WordFormed g scope u → (y : ℕ) → word_is y u ≡ true → InScope scope.words y
-        in_scope (Var z) f y e = subst (InScope scope.words) (equal_so z.0 y e) f
+        in_scope (Var z) f y e = subst (InScope scope.words) (eq_from z.0 y e) f
         in_scope (Lit k) f y e = cc
         in_scope (Global k) f y e = cc
         in_scope (TagWord k) f y e = cc
@@ -660,7 +662,7 @@ module _ (g : Program) (base : ℕ) (procs : List Procedure) (same_count : lengt
 
       act_goes : (o : Act) (scope : Scope) (ks : Names) (a : W.Word) (ps : List Wait) (n t : ℕ) → Ctx scope.words ks a ps n → PieceAct scope o → ActWindow scope ks ps t o → ActFollows st (NearR scope.words ks a ps) Same o (split_act g.tags ks a ps n o)
       act_goes (case v as') scope ks a ps n t x q w = case_follows st {R = NearR scope.words ks a ps} {U = On scope.words ks a ps as'} {V = Same} v (as_val ks v) as' (split_arms g.tags ks a ps n as')
-          (arms_go as' scope ks a ps n x (in_case v as' scope q) (λ z i j. no_right (val_uses z.0 v) (arms_use z.0 as') (w.hidden z i j)))
+          (arms_go as' scope ks a ps n x (in_case v as' scope q) (λ z i j. neither_right (val_uses z.0 v) (arms_use z.0 as') (w.hidden z i j)))
           (λ h y e. case_value scope ks a ps n x t v as' q w h y e)
       act_goes (nested b) scope ks a ps n t x q w = nested_follows st b (split_code g.tags ks a [] n b)
           (code_more st {R = NearR scope.words ks a []} {R' = NearR scope.words ks a ps} b (split_code g.tags ks a [] n b) (λ cells env env' r. near_heap g scope.words ks [] a a ps cells cells env env' r) (λ v v' u. u)
@@ -716,7 +718,7 @@ module _ (g : Program) (base : ℕ) (procs : List Procedure) (same_count : lengt
           (front_follows g procs c c' cb cf base n scope.words x.low ks a ps b b (split_code g.tags (front_names n ps b ks) a [] (n + length ps) b) x.sound x.from x.held x.waiting
           (code_goes b scope (front_names n ps b ks) a [] (n + length ps) 0 (arm_ctx scope ks a ps n b x) (in_arm s b as' scope q)
           (none_waits scope.words (front_names n ps b ks) 0 (λ z. code_uses z b) (λ z. outside 0 z b) (arm_clear s b as' ks ps n w))))
-          (arms_go as' scope ks a ps (n + length ps + made_code g.tags [] b) (ctx_on scope.words scope.words ks a ps n (n + length ps + made_code g.tags [] b) (omega arith) (λ y i. i) x.low x) (next_arms s b as' scope q) (λ z i j. no_right (code_uses z.0 b) (arms_use z.0 as') (w z i j)))
+          (arms_go as' scope ks a ps (n + length ps + made_code g.tags [] b) (ctx_on scope.words scope.words ks a ps n (n + length ps + made_code g.tags [] b) (omega arith) (λ y i. i) x.low x) (next_arms s b as' scope q) (λ z i j. neither_right (code_uses z.0 b) (arms_use z.0 as') (w z i j)))
           (λ v v' h bs e at. (let none : bs ≡ [] = fit_nothing g s q.bare.0 v bs e in record {
             bs' = [];
             fit = h.related.1.0 ∙ e ∙ ap fits none;

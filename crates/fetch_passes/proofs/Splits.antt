@@ -1,6 +1,7 @@
 -- Statements and alternatives that are split, one after the other.
 use Rattle.std.proofs.Common.{◌≡◌, ℕ, suc, pos, ◌+◌, ◌<◌, ◌≤◌, List, [], ◌∷◌, ◌++◌, map, take, drop, length, get_or, refl, sym, ap, ◌∙◌, subst, arith}
 use Rattle.std.proofs.lemmas.List.{take_all}
+use Rattle.seq.proofs.Lists.{take_next, map_push}
 use Rattle.grin_syntax.specs.declared.program.Cell.{Cell}
 use Rattle.grin_syntax.specs.declared.program.Tag.{Tag}
 use Rattle.grin_syntax.specs.declared.program.Word as W
@@ -17,7 +18,7 @@ use Rattle.grin_syntax.specs.declared.program.Block.{Block}
 use Rattle.grin_syntax.specs.declared.program.Proc.{Proc}
 use Rattle.grin_syntax.specs.Tree.{Code, end, Act, fetch, case, Arms, no_arm, arm, Procedure, act_of, before_of, arm_of, code_of, all_before, procedure_of}
 use Rattle.grin_syntax.proofs.TreeOf.{before_of-Store, before_of-Bind, code_of-parts, act_of-Case}
-use Rattle.grin_syntax.proofs.Pieces.{take_next, map_push, all_arms, all_arms_none, all_arms_push}
+use Rattle.grin_syntax.proofs.Pieces.{all_arms, all_arms_none, all_arms_push}
 use Rattle.fetch_passes.specs.Names.{Names, Wait, as_val, as_cells}
 use Rattle.fetch_passes.specs.Split.{front, front_names, names_after, waits_after, cell_after, cell_from, bound, end_with, made_end, made_act, made_code, made_arms, split_act, split_code, split_arms, split_procs}
 use Rattle.fetch_passes.proofs.Firsts.{code_from, code_at, code_none}

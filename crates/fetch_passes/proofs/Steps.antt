@@ -1,5 +1,6 @@
 -- How the variables of the two programs go on, side by side, where words of a node are bound or wait.
 use Rattle.std.proofs.Common.{◌≡◌, ◌≢◌, ℕ, suc, pos, ◌+◌, ◌<◌, ◌≤◌, Bool, true, false, cond, nat_eq, List, [], ◌∷◌, ◌++◌, length, Option, Some, None, slice_get, refl, sym, ap, ◌∙◌, subst, inl, inr, ◌⊎◌, arith}
+use Rattle.seq.proofs.Order.{eq_from, eq_self, eq_false}
 use Rattle.grin_syntax.specs.declared.program.VarId.{VarId}
 use Rattle.grin_syntax.specs.declared.program.Word as W
 use Rattle.grin_syntax.specs.declared.program.Word.TheVariants.{Lit, Var, Global, TagWord}
@@ -12,7 +13,7 @@ use Rattle.grin_meaning.specs.Values.{Datum, tag, words, Env, HeapCell, and_then
 use Rattle.grin_meaning.specs.Run.{node_word, nth_or_zero, place_of}
 use Rattle.pass_ground.specs.Uses.{word_is}
 use Rattle.fetch_passes.specs.Names.{Names, Wait, as_word, hiding}
-use Rattle.pass_ground.proofs.Tests.{equal_so, equal_self, equal_not, never_both, same_var}
+use Rattle.pass_ground.proofs.Tests.{never_both, same_var}
 use Rattle.pass_ground.proofs.Bound.{names_of, vars_out, one_each_names}
 use Rattle.fetch_passes.proofs.Found.{is_var, is_waiting, hiding_is, naming, naming_is}
 use Rattle.fetch_passes.proofs.Near.{At, itself, renamed, Sound, Held, Waits, Near, waits_more}
@@ -22,10 +23,10 @@ abbrev pub plus : ℕ → Datum → Env → Env
 plus x d env = λ y. cond (nat_eq y x) (Some (words (d ∷ []))) (env y)
 
 pub plus_out : (x : ℕ) (d : Datum) (env : Env) (y : ℕ) → y ≢ x → plus x d env y ≡ env y
-plus_out x d env y h = ap (λ b. cond b (Some (words (d ∷ []))) (env y)) (equal_not y x h)
+plus_out x d env y h = ap (λ b. cond b (Some (words (d ∷ []))) (env y)) (eq_false y x h)
 
 pub plus_in : (x : ℕ) (d : Datum) (env : Env) → plus x d env x ≡ Some (words (d ∷ []))
-plus_in x d env = ap (λ b. cond b (Some (words (d ∷ []))) (env x)) (equal_self x)
+plus_in x d env = ap (λ b. cond b (Some (words (d ∷ []))) (env x)) (eq_self x)
 
 -- each variable has its word
 abbrev pub EachIs : Env → List VarId → List Datum → Type 0
@@ -94,7 +95,7 @@ module _ (g : Program) where
   near_hidden xs ks x lacks a ps c env env' h r = record { named = λ z d i l v e. go z d i l v e (nat_eq z.0 x.0) refl; waits = r.waits }
     where
       go : (z : VarId) (d : Datum) → InScope xs z.0 → times z.0 lacks ≡ 0 → is_var (as_word ks (Var z)) ≡ true → word_of g env (Var z) ≡ Some d → (b : Bool) → nat_eq z.0 x.0 ≡ b → word_of g env' (as_word ks (Var z)) ≡ Some d
-      go z d i l v e true q = never_both v (ap (λ u. is_var (as_word ks (Var u))) (same_var z x (equal_so z.0 x.0 q)) ∙ h)
+      go z d i l v e true q = never_both v (ap (λ u. is_var (as_word ks (Var u))) (same_var z x (eq_from z.0 x.0 q)) ∙ h)
       go z d i l v e false q = r.named z d i (let k : counts (nat_eq z.0 x.0) ≡ 0 = ap counts q in omega (arith, k, l)) v e
 
   module _ (base n : ℕ) (xs : List ℕ) (ks : Names) (sound : Sound base n xs ks) (low : (y : ℕ) → InScope xs y → y < base) where
@@ -122,9 +123,9 @@ module _ (g : Program) where
 
         go : (z : VarId) (d : Datum) → InScope xs z.0 → times z.0 lacks ≡ 0 → is_var (as_word ks (Var z)) ≡ true → word_of g env (Var z) ≡ Some d → (t : Bool) → nat_eq z.0 x.0 ≡ t → word_of g env1 (as_word ks (Var z)) ≡ Some d
         go z d i l v e true q =
-            let same : z ≡ x = same_var z x (equal_so z.0 x.0 q) in
+            let same : z ≡ x = same_var z x (eq_from z.0 x.0 q) in
             ap (λ u. word_of g env1 (as_word ks (Var u))) same ∙ ap (word_of g env1) own ∙ ap (λ o. and_then o only_word) (plus_in x.0 (node_word w.y.node k) env') ∙ sym w.word ∙ ap (λ u. word_of g env (Var u)) (sym same) ∙ e
-        go z d i l v e false q = by z d (as_word ks (Var z)) (sound z) (λ s. never_both (ap (λ y. nat_eq y x.0) s ∙ equal_self x.0) q) (r.named z d i (let m : counts (nat_eq z.0 x.0) ≡ 0 = ap counts q in omega (arith, m, l)) v e)
+        go z d i l v e false q = by z d (as_word ks (Var z)) (sound z) (λ s. never_both (ap (λ y. nat_eq y x.0) s ∙ eq_self x.0) q) (r.named z d i (let m : counts (nat_eq z.0 x.0) ≡ 0 = ap counts q in omega (arith, m, l)) v e)
 
     -- the second program binds a word that waits, by a new variable
     pub near_named : (p : Wait) (a : W.Word) (ps : List Wait) (c : List HeapCell) (env env' : Env) (r : Near g xs ks [] a (p ∷ ps) c env env') → base ≤ n → Held base n xs a → Near g xs (naming p.var n ks) [] a ps c env (plus n (node_word r.waits.0.y.node p.place) env')
@@ -157,7 +158,7 @@ module _ (g : Program) where
         go : (z : VarId) (d : Datum) → InScope xs z.0 → is_var (as_word (naming p.var n ks) (Var z)) ≡ true → word_of g env (Var z) ≡ Some d → (t : Bool) → nat_eq p.var.0 z.0 ≡ t → word_of g env1 (as_word (naming p.var n ks) (Var z)) ≡ Some d
         go z d i v e true q =
             ap (word_of g env1) (naming_is p.var n ks z ∙ ap (λ t. cond t (Var (variable n)) (as_word ks (Var z))) q)
-            ∙ ap (λ o. and_then o only_word) (plus_in n fetched env') ∙ sym r.waits.0.word ∙ ap (λ u. word_of g env (Var u)) (same_var p.var z (equal_so p.var.0 z.0 q)) ∙ e
+            ∙ ap (λ o. and_then o only_word) (plus_in n fetched env') ∙ sym r.waits.0.word ∙ ap (λ u. word_of g env (Var u)) (same_var p.var z (eq_from p.var.0 z.0 q)) ∙ e
         go z d i v e false q =
             let same : as_word (naming p.var n ks) (Var z) ≡ as_word ks (Var z) = naming_is p.var n ks z ∙ ap (λ t. cond t (Var (variable n)) (as_word ks (Var z))) q in
             ap (word_of g env1) same ∙ by z d (as_word ks (Var z)) i (sound z) (r.named z d i refl (ap is_var (sym same) ∙ v) e)

@@ -1,5 +1,7 @@
 -- What is used in a program stays used by its new name, and each word that is fetched is used.
-use Rattle.std.proofs.Common.{◌≡◌, ℕ, zero, suc, pos, ◌+◌, ◌≤◌, Bool, true, false, cond, ◌||◌, ◌&&◌, nat_eq, List, [], ◌∷◌, ◌++◌, map, length, refl, ap, ◌∙◌, inl, inr, ◌⊎◌, arith}
+use Rattle.std.proofs.Common.{◌≡◌, ℕ, zero, suc, pos, ◌+◌, ◌≤◌, Bool, true, false, cond, ◌||◌, ◌&&◌, nat_eq, List, [], ◌∷◌, ◌++◌, map, length, refl, ap, ◌∙◌, arith}
+use Rattle.seq.proofs.Truth.{or_left, or_right}
+use Rattle.seq.proofs.Order.{eq_from, eq_self, eq_false}
 use Rattle.grin_syntax.specs.declared.program.VarId.{VarId}
 use Rattle.grin_syntax.specs.declared.program.Tag.{Tag}
 use Rattle.grin_syntax.specs.declared.program.Cell.{Cell}
@@ -19,21 +21,10 @@ use Rattle.fetch_passes.specs.Windows.{tests_number, vector_uses, decides, act_o
 use Rattle.fetch_passes.specs.Names.{Names, Wait, as_word, as_words, as_val, as_cells, hiding, named_if}
 use Rattle.fetch_passes.specs.Split.{fetched_if, word_fetches, waits_of, front, front_names, all_words, node_arms, whole_node, split_act, split_code, split_arms, split_procs, made_act, made_code}
 use Rattle.fetch_passes.specs.Placed.{CodeFetchesUsed, ActFetchesUsed, ArmsFetchUsed, WordUsed, by_nodes_kind}
-use Rattle.pass_ground.proofs.Tests.{equal_so, equal_self, equal_not, never_both, same_var}
+use Rattle.pass_ground.proofs.Tests.{never_both, same_var}
 use Rattle.fetch_passes.proofs.Found.{is_waiting, hiding_is, naming_is}
 use Rattle.fetch_passes.proofs.Waiting.{waits_in, waits_outside}
 use Rattle.fetch_passes.proofs.Once.{first_once, others_once}
-
-or_cases : (a b : Bool) → (a || b) ≡ true → (a ≡ true) ⊎ (b ≡ true)
-or_cases true b e = inl refl
-or_cases false b e = inr e
-
-pub or_left : (a b : Bool) → a ≡ true → (a || b) ≡ true
-or_left a b e = ap (λ x. x || b) e
-
-pub or_right : (a b : Bool) → b ≡ true → (a || b) ≡ true
-or_right true b e = refl
-or_right false b e = e
 
 pub both_or : (a b c d : Bool) → (a ≡ true → c ≡ true) → (b ≡ true → d ≡ true) → (a || b) ≡ true → (c || d) ≡ true
 both_or true b c d f h e = or_left c d (f refl)
@@ -46,7 +37,7 @@ module _ (ks : Names) (z y : VarId) (is : as_word ks (Var z) ≡ Var y) where
   word_used (Lit k) h = cc
   word_used (Global k) h = cc
   word_used (TagWord k) h = cc
-  word_used (Var u) h = ap (λ v. word_is y.0 (as_word ks (Var v))) (same_var u z (equal_so u.0 z.0 h)) ∙ ap (word_is y.0) is ∙ equal_self y.0
+  word_used (Var u) h = ap (λ v. word_is y.0 (as_word ks (Var v))) (same_var u z (eq_from u.0 z.0 h)) ∙ ap (word_is y.0) is ∙ eq_self y.0
 
   pub words_used : (ws : List W.Word) → words_use z.0 ws ≡ true → words_use y.0 (as_words ks ws) ≡ true
   words_used [] h = cc
@@ -108,7 +99,7 @@ front_named : (n : ℕ) (p : Wait) (ps : List Wait) (b : Code) (ks : Names) → 
 front_named n p ps b ks h u = front_stays (suc n) ps b (named_if (code_uses p.var.0 b) p.var n ks) p.var (variable n) h (go (code_uses p.var.0 b) u)
   where
     go : (o : Bool) → o ≡ true → as_word (named_if o p.var n ks) (Var p.var) ≡ Var (variable n)
-    go true e = naming_is p.var n ks p.var ∙ ap (λ t. cond t (Var (variable n)) (as_word ks (Var p.var))) (equal_self p.var.0)
+    go true e = naming_is p.var n ks p.var ∙ ap (λ t. cond t (Var (variable n)) (as_word ks (Var p.var))) (eq_self p.var.0)
     go false e = cc
 
 -- ---- what is used stays used
@@ -263,7 +254,7 @@ module _ (ts : List Tag) where
     where
       go : (s : Bool) → nat_eq y.0 x ≡ s → (InScope (numbers_of xs) x → words_use x (map Var xs) ≡ true) → (s || words_use x (map Var xs)) ≡ true
       go true q f = refl
-      go false q f = f (let k : counts (nat_eq x y.0) ≡ 0 = ap counts (equal_not x y.0 (λ s. never_both (ap (nat_eq y.0) s ∙ equal_self y.0) q)) in omega (arith, k, h))
+      go false q f = f (let k : counts (nat_eq x y.0) ≡ 0 = ap counts (eq_false x y.0 (λ s. never_both (ap (nat_eq y.0) s ∙ eq_self y.0) q)) in omega (arith, k, h))
 
   nodes_ok : (xs : List VarId) (i : ℕ) (us : List Tag) → ArmsFetchUsed (node_arms xs i us)
   unfolding CodeFetchesUsed
@@ -288,7 +279,7 @@ module _ (ts : List Tag) where
 
   pub all_in : (zs : List ℕ) (ps : List Wait) → ((z : ℕ) → is_waiting ps z ≡ true → InScope zs z) → AllOf (λ p. InScope zs p.var.0) ps
   all_in zs [] f = tt
-  all_in zs (p ∷ ps) f = (f p.var.0 (or_left (nat_eq p.var.0 p.var.0) (is_waiting ps p.var.0) (equal_self p.var.0)), all_in zs ps (λ z e. f z (or_right (nat_eq p.var.0 z) (is_waiting ps z) e)))
+  all_in zs (p ∷ ps) f = (f p.var.0 (or_left (nat_eq p.var.0 p.var.0) (is_waiting ps p.var.0) (eq_self p.var.0)), all_in zs ps (λ z e. f z (or_right (nat_eq p.var.0 z) (is_waiting ps z) e)))
 
   pub once_after : (zs xs ys : List ℕ) → ((y : ℕ) → times y zs + times y (xs ++ ys) ≤ 1) → (y : ℕ) → times y zs + times y ys ≤ 1
   once_after zs xs ys once y = let o : times y zs + times y (xs ++ ys) ≤ 1 = once y in let e : times y (xs ++ ys) ≡ times y xs + times y ys = times_append y xs ys in omega (arith, o, e)

@@ -1,5 +1,6 @@
 -- The words that wait for the alternatives of a case, and the names that they leave behind.
 use Rattle.std.proofs.Common.{◌≡◌, ℕ, suc, pos, ◌+◌, ◌≤◌, Bool, true, false, cond, ◌||◌, nat_eq, List, [], ◌∷◌, length, refl, sym, ap, ◌∙◌, subst, arith}
+use Rattle.seq.proofs.Order.{eq_from, eq_self, eq_false}
 use Rattle.grin_syntax.specs.declared.program.VarId.{VarId}
 use Rattle.grin_syntax.specs.declared.program.Word as W
 use Rattle.grin_syntax.specs.declared.program.Word.TheVariants.{Lit, Var, Global, TagWord}
@@ -14,7 +15,7 @@ use Rattle.pass_ground.specs.Uses.{act_uses, code_uses, act_mentions}
 use Rattle.fetch_passes.specs.Windows.{begins_with, decides, act_owns, is_passed, owns, act_outside, outside}
 use Rattle.fetch_passes.specs.Names.{Names, Wait, as_word, hiding, named_if}
 use Rattle.fetch_passes.specs.Split.{waits_of, front_names}
-use Rattle.pass_ground.proofs.Tests.{equal_so, equal_self, equal_not, never_both, same_var}
+use Rattle.pass_ground.proofs.Tests.{never_both, same_var}
 use Rattle.fetch_passes.proofs.Found.{is_var, is_waiting, hiding_is, naming, naming_is}
 use Rattle.fetch_passes.proofs.Near.{At, itself, renamed, gone, Sound, at_more}
 
@@ -26,7 +27,7 @@ waits_outside t b i [] z h = cc
 waits_outside t b i (x ∷ xs) z h = go (outside t x.0 b) refl h (λ k. waits_outside t b (suc i) xs z k)
   where
     here : (s : Bool) → nat_eq x.0 z ≡ s → outside t x.0 b ≡ false → (s || is_waiting (waits_of t b (suc i) xs) z) ≡ true → (is_waiting (waits_of t b (suc i) xs) z ≡ true → outside t z b ≡ false) → outside t z b ≡ false
-    here true q o h f = ap (λ y. outside t y b) (sym (equal_so x.0 z q)) ∙ o
+    here true q o h f = ap (λ y. outside t y b) (sym (eq_from x.0 z q)) ∙ o
     here false q o h f = f h
 
     go : (o : Bool) → outside t x.0 b ≡ o → is_waiting (cond o (waits_of t b (suc i) xs) (record { var = x; place = i } ∷ waits_of t b (suc i) xs)) z ≡ true → (is_waiting (waits_of t b (suc i) xs) z ≡ true → outside t z b ≡ false) → outside t z b ≡ false
@@ -38,7 +39,7 @@ waits_in t b i [] z h = cc
 waits_in t b i (x ∷ xs) z h = go (outside t x.0 b) h (λ k. waits_in t b (suc i) xs z k)
   where
     here : (s : Bool) → nat_eq x.0 z ≡ s → (s || is_waiting (waits_of t b (suc i) xs) z) ≡ true → (is_waiting (waits_of t b (suc i) xs) z ≡ true → InScope (numbers_of xs) z) → InScope (numbers_of (x ∷ xs)) z
-    here true q h f = let e : counts (nat_eq z x.0) ≡ 1 = ap (λ y. counts (nat_eq z y)) (equal_so x.0 z q) ∙ one_at z in omega (arith, e)
+    here true q h f = let e : counts (nat_eq z x.0) ≡ 1 = ap (λ y. counts (nat_eq z y)) (eq_from x.0 z q) ∙ one_at z in omega (arith, e)
     here false q h f = let k : InScope (numbers_of xs) z = f h in omega (arith, k)
 
     go : (o : Bool) → is_waiting (cond o (waits_of t b (suc i) xs) (record { var = x; place = i } ∷ waits_of t b (suc i) xs)) z ≡ true → (is_waiting (waits_of t b (suc i) xs) z ≡ true → InScope (numbers_of xs) z) → InScope (numbers_of (x ∷ xs)) z
@@ -51,14 +52,14 @@ waits_too t b i [] z h e = absurd (omega (arith, h))
 waits_too t b i (x ∷ xs) z h e = go (outside t x.0 b) refl (λ k. waits_too t b (suc i) xs z k e)
   where
     later : nat_eq x.0 z ≡ false → InScope (numbers_of xs) z
-    later q = let k : counts (nat_eq z x.0) ≡ 0 = ap counts (equal_not z x.0 (λ s. never_both (ap (nat_eq x.0) s ∙ equal_self x.0) q)) in omega (arith, k, h)
+    later q = let k : counts (nat_eq z x.0) ≡ 0 = ap counts (eq_false z x.0 (λ s. never_both (ap (nat_eq x.0) s ∙ eq_self x.0) q)) in omega (arith, k, h)
 
     here : (s : Bool) → nat_eq x.0 z ≡ s → (InScope (numbers_of xs) z → is_waiting (waits_of t b (suc i) xs) z ≡ true) → (s || is_waiting (waits_of t b (suc i) xs) z) ≡ true
     here true q f = refl
     here false q f = f (later q)
 
     other : (s : Bool) → nat_eq x.0 z ≡ s → outside t x.0 b ≡ true → (InScope (numbers_of xs) z → is_waiting (waits_of t b (suc i) xs) z ≡ true) → is_waiting (waits_of t b (suc i) xs) z ≡ true
-    other true q o f = never_both (ap (λ y. outside t y b) (sym (equal_so x.0 z q)) ∙ o) e
+    other true q o f = never_both (ap (λ y. outside t y b) (sym (eq_from x.0 z q)) ∙ o) e
     other false q o f = f (later q)
 
     go : (o : Bool) → outside t x.0 b ≡ o → (InScope (numbers_of xs) z → is_waiting (waits_of t b (suc i) xs) z ≡ true) → is_waiting (cond o (waits_of t b (suc i) xs) (record { var = x; place = i } ∷ waits_of t b (suc i) xs)) z ≡ true
@@ -93,7 +94,7 @@ outside_uses t z (bind u o b) h = go (is_passed o) h (λ k. outside_uses t z b k
     go false h f = ap (λ r. r || code_uses z b) (act_outside_uses t z o h)
 
 both_begin : (t u : ℕ) (v : V.Val) → begins_with t v ≡ true → begins_with u v ≡ true → t ≡ u
-both_begin t u (Vector (Var y ∷ ws)) h k = sym (equal_so y.0 t h) ∙ equal_so y.0 u k
+both_begin t u (Vector (Var y ∷ ws)) h k = sym (eq_from y.0 t h) ∙ eq_from y.0 u k
 both_begin t u (Vector (Lit y ∷ ws)) h k = cc
 both_begin t u (Vector (Global y ∷ ws)) h k = cc
 both_begin t u (Vector (TagWord y ∷ ws)) h k = cc
@@ -145,7 +146,7 @@ pub sound_naming : (base n : ℕ) (zs : List ℕ) (ks : Names) (x : VarId) → S
 sound_naming base n zs ks x s le i z = subst (At base (suc n) zs z.0) (sym (naming_is x n ks z)) (go (nat_eq x.0 z.0) refl)
   where
     go : (b : Bool) → nat_eq x.0 z.0 ≡ b → At base (suc n) zs z.0 (cond b (Var (variable n)) (as_word ks (Var z)))
-    go true q = renamed (omega (arith, le)) (omega arith) (subst (InScope zs) (equal_so x.0 z.0 q) i)
+    go true q = renamed (omega (arith, le)) (omega arith) (subst (InScope zs) (eq_from x.0 z.0 q) i)
     go false q = at_more (omega arith) (λ y k. k) (s z)
 
 pub sound_hiding : (base n : ℕ) (zs : List ℕ) (ks : Names) (ps : List Wait) → Sound base n zs ks → ((z : ℕ) → is_waiting ps z ≡ true → InScope zs z) → Sound base n zs (hiding ps ks)
@@ -176,7 +177,7 @@ front_hidden n ks (p ∷ ps) b z h = go (code_uses p.var.0 b) refl (front_hidden
     on false q k f = (k, f)
 
     off : (s : Bool) → nat_eq p.var.0 z.0 ≡ s → code_uses p.var.0 b ≡ false → (is_waiting ps z.0 ≡ true → code_uses z.0 b ≡ false) → (s || is_waiting ps z.0) ≡ true → code_uses z.0 b ≡ false
-    off true q o f e = ap (λ y. code_uses y b) (sym (equal_so p.var.0 z.0 q)) ∙ o
+    off true q o f e = ap (λ y. code_uses y b) (sym (eq_from p.var.0 z.0 q)) ∙ o
     off false q o f e = f e
 
     go : (o : Bool) → code_uses p.var.0 b ≡ o → (is_var (as_word (named_if o p.var n ks) (Var z)) ≡ false) × (is_waiting ps z.0 ≡ true → code_uses z.0 b ≡ false) → (is_var (as_word ks (Var z)) ≡ false) × (is_waiting (p ∷ ps) z.0 ≡ true → code_uses z.0 b ≡ false)

@@ -1,6 +1,8 @@
 -- Words and values of a program and of the one with its fetches split.
 use Rattle.std.proofs.Common.{◌≡◌, ℕ, zero, suc, Bool, true, false, cond, ◌||◌, ◌&&◌, nat_eq, nat_le, take, List, [], ◌∷◌, length, Option, Some, None, refl, sym, ap, ◌∙◌, subst}
 use Rattle.std.specs.Prelude.{ℤ}
+use Rattle.seq.proofs.Truth.{neither_left, neither_right}
+use Rattle.seq.proofs.Order.{eq_self}
 use Rattle.grin_syntax.specs.declared.program.VarId.{VarId}
 use Rattle.grin_syntax.specs.declared.program.Cell.{Cell}
 use Rattle.grin_syntax.specs.declared.program.Shape.{Shape}
@@ -21,7 +23,7 @@ use Rattle.grin_meaning.proofs.Plain.{then_has}
 use Rattle.pass_ground.specs.Uses.{word_is, words_use, val_uses, cells_use}
 use Rattle.fetch_passes.specs.Windows.{is_int, tests_number, vector_uses}
 use Rattle.fetch_passes.specs.Names.{Names, Wait, as_word, as_words, as_val, as_cells}
-use Rattle.pass_ground.proofs.Tests.{no_left, no_right, equal_self, never_both}
+use Rattle.pass_ground.proofs.Tests.{never_both}
 use Rattle.fetch_passes.proofs.Found.{is_var}
 use Rattle.fetch_passes.proofs.Near.{At, Sound, Near}
 
@@ -30,10 +32,10 @@ abbrev pub Clear : Names → (ℕ → Bool) → Type 0
 Clear ks u = (z : VarId) → is_var (as_word ks (Var z)) ≡ false → u z.0 ≡ false
 
 pub clear_left : (ks : Names) (u v : ℕ → Bool) → Clear ks (λ x. u x || v x) → Clear ks u
-clear_left ks u v h z e = no_left (u z.0) (v z.0) (h z e)
+clear_left ks u v h z e = neither_left (u z.0) (v z.0) (h z e)
 
 pub clear_right : (ks : Names) (u v : ℕ → Bool) → Clear ks (λ x. u x || v x) → Clear ks v
-clear_right ks u v h z e = no_right (u z.0) (v z.0) (h z e)
+clear_right ks u v h z e = neither_right (u z.0) (v z.0) (h z e)
 
 -- the same alternative is taken for both
 abbrev pub SameFits : Program → Arms → Value → Value → Type 0
@@ -99,7 +101,7 @@ module _ (g : Program) (scope : Scope) (ks : Names) (base n : ℕ) (sound : Soun
     where
       go : (b : Bool) → is_var (as_word ks (Var z)) ≡ b → word_of g env' (as_word ks (Var z)) ≡ Some d
       go true q = r.named z d f refl q e
-      go false q = never_both (equal_self z.0) (h z q)
+      go false q = never_both (eq_self z.0) (h z q)
 
   pub words_go : (ws : List W.Word) → AllOf (WordFormed g scope) ws → Clear ks (λ x. words_use x ws) → (ds : List Datum) → words_of g env ws ≡ Some ds → words_of g env' (as_words ks ws) ≡ Some ds
   words_go [] f h ds e = e
@@ -194,10 +196,10 @@ module _ (g : Program) (scope : Scope) (ks : Names) (base n : ℕ) (sound : Soun
   own_goes as' fit (Vector (w ∷ (u ∷ ws))) f m h y e = first (word_of g env w) refl e
     where
       head : Clear ks (λ x. word_is x w)
-      head z q = no_left (word_is z.0 w) (tests_number as' && word_is z.0 u) (h z q)
+      head z q = neither_left (word_is z.0 w) (tests_number as' && word_is z.0 u) (h z q)
 
       second : tests_number as' ≡ true → Clear ks (λ x. word_is x u)
-      second t z q = ap (λ b. b && word_is z.0 u) (sym t) ∙ no_right (word_is z.0 w) (tests_number as' && word_is z.0 u) (h z q)
+      second t z q = ap (λ b. b && word_is z.0 u) (sym t) ∙ neither_right (word_is z.0 w) (tests_number as' && word_is z.0 u) (h z q)
 
       done : (d d2 d3 : Datum) (es es' : List Datum) → word_of g env' (as_word ks w) ≡ Some d → word_of g env' (as_word ks u) ≡ Some d3 → words_of g env' (as_words ks ws) ≡ Some es' → length es' ≡ length es → (tests_number as' ≡ true → d3 ≡ d2) → words (d ∷ (d2 ∷ es)) ≡ y
           → (y' : Value) × (value_of g env' (as_val ks (Vector (w ∷ (u ∷ ws)))) ≡ Some y') × SameFits g as' y y'

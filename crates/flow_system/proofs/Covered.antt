@@ -1,8 +1,9 @@
 -- A solution covers each run.
-use Rattle.std.proofs.Common.{◌≡◌, ◌+◌, ℕ, zero, suc, Bool, true, false, cond, not, ◌||◌, List, [], ◌∷◌, ◌++◌, map, length, Option, Some, None, slice_get, slice_set, refl, sym, ap, ◌∙◌, subst, arith}
+use Rattle.std.proofs.Common.{◌≡◌, ◌+◌, ℕ, zero, suc, Bool, true, false, cond, not, List, [], ◌∷◌, ◌++◌, map, length, Option, Some, None, slice_get, slice_set, refl, sym, ap, ◌∙◌, subst, arith}
 use Rattle.std.specs.Prelude.{IfSome, IsTrue, nat_eq}
 use Rattle.numbers.specs.Numbers.{same_number}
 use Rattle.std.proofs.lemmas.Bool.Decides.{nat_tests}
+use Rattle.seq.proofs.Truth.{true_left, true_right}
 use Rattle.grin_syntax.specs.declared.program.ProcId.{ProcId}
 use Rattle.grin_syntax.specs.declared.program.PrimOp.{PrimOp}
 use Rattle.grin_syntax.specs.declared.program.Tag.{Tag}
@@ -31,14 +32,6 @@ use Rattle.flow_system.proofs.Heap.{set_extends, set_cells, append_extends, appe
 every_snoc : (P : State → Type 0) (ss : List State) (s : State) → Every P ss → P s → Every P (ss ++ s ∷ [])
 every_snoc P [] s e y = (y, tt)
 every_snoc P (x ∷ ss) s e y = (e.0, every_snoc P ss s e.1 y)
-
-or_left : (x y : Bool) → IsTrue x → IsTrue (x || y)
-or_left true y e = refl
-or_left false y e = cc
-
-or_right : (x y : Bool) → IsTrue y → IsTrue (x || y)
-or_right true y e = refl
-or_right false y e = e
 
 site_is : (h : List HeapCell) (i s : ℕ) (c : HeapCell) → site_at h i ≡ Some s → slice_get h i ≡ Some c → s ≡ c.site
 site_is h i s c e q =
@@ -372,10 +365,10 @@ module _ (p : Program) (A : Solution) where
           goes_on (At_sink k) w (with_cells hs w) (code p c env' d b (passing env' (with_cells hs w))) (append_extends w.cells hs)
           (code_goes k b env' d (passing env' (with_cells hs w)) (pass env' (with_cells hs w) new.0 new.1) new.1 (met_back p A (cells_flow p cs) (code_flows p k b) m) ev))
       code_goes k (bind t o b) env d w g el m ev = then_goes (At_sink (to t)) (At_sink k) w (act p c env (suc d) o w) _
-          (act_goes (to t) o env (suc d) w g el (met_front p A (act_flows p (to t) o) (code_flows p k b) m) (λ e. ev (or_left (act_evals o) (code_evals b) e)))
+          (act_goes (to t) o env (suc d) w g el (met_front p A (act_flows p (to t) o) (code_flows p k b) m) (λ e. ev (true_left (act_evals o) (code_evals b) e)))
           (λ v w' e g' l. need_goes (BindingsLie p w'.cells A) (At_sink k) w' (bindings_of p t v) _ g' l
           (λ bs bl. let el' : EnvLies p w'.cells A (with_vars bs env) = env_with p w'.cells A bs env (env_on w.cells w'.cells e env el) bl in
-          code_goes k b (with_vars bs env) d (passing (with_vars bs env) w') (pass (with_vars bs env) w' g' el') el' (met_back p A (act_flows p (to t) o) (code_flows p k b) m) (λ e. ev (or_right (act_evals o) (code_evals b) e))))
+          code_goes k b (with_vars bs env) d (passing (with_vars bs env) w') (pass (with_vars bs env) w' g' el') el' (met_back p A (act_flows p (to t) o) (code_flows p k b) m) (λ e. ev (true_right (act_evals o) (code_evals b) e))))
 
       arms_go : (k : Sink) (v : Val) (as' : Arms) (env : Env) (d : ℕ) (x : Value) (w : World) → Good w → EnvLies p w.cells A env → ValueIn p w.cells (ValueGives (tables p) A v) x → Narrow (width (value v)) x → AllMet (tables p) A (arms_flow p k v as') → (IsTrue (arms_eval as') → IsTrue (has_eval p)) → Goes (At_sink k) w (arms p c env d x as' w)
       arms_go k v no_arm env d x w g el l nw m ev = g
@@ -383,8 +376,8 @@ module _ (p : Program) (A : Solution) where
           let m1 : AllMet (tables p) A (code_flows p k b ++ arms_flow p k v as') = met_back p A (shape_flows v s) (code_flows p k b ++ arms_flow p k v as') m in
           choose_goes (At_sink k) (fit_of p s x) w _ _ g (fit_lies w.cells v s x (met_front p A (shape_flows v s) (code_flows p k b ++ arms_flow p k v as') m) l nw)
           (λ bs bl. let el' : EnvLies p w.cells A (with_vars bs env) = env_with p w.cells A bs env el bl in
-          code_goes k b (with_vars bs env) d (passing (with_vars bs env) w) (pass (with_vars bs env) w g el') el' (met_front p A (code_flows p k b) (arms_flow p k v as') m1) (λ e. ev (or_left (code_evals b) (arms_eval as') e)))
-          (arms_go k v as' env d x w g el l nw (met_back p A (code_flows p k b) (arms_flow p k v as') m1) (λ e. ev (or_right (code_evals b) (arms_eval as') e)))
+          code_goes k b (with_vars bs env) d (passing (with_vars bs env) w) (pass (with_vars bs env) w g el') el' (met_front p A (code_flows p k b) (arms_flow p k v as') m1) (λ e. ev (true_left (code_evals b) (arms_eval as') e)))
+          (arms_go k v as' env d x w g el l nw (met_back p A (code_flows p k b) (arms_flow p k v as') m1) (λ e. ev (true_right (code_evals b) (arms_eval as') e)))
 
   spend_goes : (Y : List HeapCell → Value → Type 0) (l : ℕ) (w : World) (k : ℕ → Answer) → Good w → ((m : ℕ) → Goes Y w (k m)) → Goes Y w (spend l w k)
   spend_goes Y zero w k g f = g
@@ -398,8 +391,8 @@ module _ (p : Program) (A : Solution) where
 
   body_evals : (qs : List Procedure) (f : ℕ) → IfSome (slice_get qs f) (λ q. IsTrue (code_evals q.body) → IsTrue (procs_eval qs))
   body_evals [] f = tt
-  body_evals (q ∷ qs) zero = λ e. or_left (code_evals q.body) (procs_eval qs) e
-  body_evals (q ∷ qs) (suc f) = if_map (λ r. IsTrue (code_evals r.body) → IsTrue (procs_eval qs)) (λ r. IsTrue (code_evals r.body) → IsTrue (procs_eval (q ∷ qs))) (slice_get qs f) (body_evals qs f) (λ r g e. or_right (code_evals q.body) (procs_eval qs) (g e))
+  body_evals (q ∷ qs) zero = λ e. true_left (code_evals q.body) (procs_eval qs) e
+  body_evals (q ∷ qs) (suc f) = if_map (λ r. IsTrue (code_evals r.body) → IsTrue (procs_eval qs)) (λ r. IsTrue (code_evals r.body) → IsTrue (procs_eval (q ∷ qs))) (slice_get qs f) (body_evals qs f) (λ r g e. true_right (code_evals q.body) (procs_eval qs) (g e))
 
   -- calls, by any number of units
   calls_go : AllMet (tables p) A (procs_flow p 0 p.procs) → (n : ℕ) → CallsGo (calls p n)

@@ -1,6 +1,6 @@
 -- Sets by their numbers, and their rows of readers.
 use Rattle.std.proofs.Common.{◌≡◌, ◌+◌, ◌<◌, ◌≤◌, ℕ, zero, suc, Bool, true, false, cond, ◌||◌, List, [], ◌∷◌, ◌++◌, length, get_or, slice_set, take, replicate, Option, Some, None, Result, Ok, Err, slice_get, refl, sym, ap, ◌∙◌, subst, inl, inr, ⊎_elim, arith, append-nil, append_assoc}
-use Rattle.std.specs.Prelude.{◌⊎◌, ◌↔◌, nat_eq, unwrap_or}
+use Rattle.std.specs.Prelude.{◌⊎◌, ◌↔◌, unwrap_or}
 use Rattle.std.specs.List.{flat_map, fold}
 use Rattle.std.specs.Option.{option_map, is_some}
 use Rattle.std.specs.Result.{is_err, OnOk}
@@ -9,9 +9,12 @@ use Rattle.std.specs.declared.cmp.Ordering.TheVariants.{Less, Equal, Greater}
 use Rattle.std.specs.Ordering.{nat_cmp, is_eq}
 use Rattle.std.proofs.lemmas.Bool.{cases_eq, false≢true}
 use Rattle.std.proofs.lemmas.Bool.Decides.{nat_tests}
-use Rattle.std.proofs.lemmas.List.{get_or-set_same, get_or-set_other, length-set, length-replicate, get_or-replicate, take_more, map-append, length-map, length-take-le}
+use Rattle.std.proofs.lemmas.List.{get_or-set_other, length-set, length-replicate, get_or-replicate, take_more, map-append, length-map, length-take-le}
 use Rattle.std.proofs.lemmas.List.Elements.{All-nil, All-cons}
 use Rattle.std.proofs.lemmas.Option.{slice_get_within, slice_get-get_or, get_or_from_slice_get}
+use Rattle.seq.proofs.Order.{eq_from, eq_self}
+use Rattle.seq.proofs.Truth.{or_true, or_false}
+use Rattle.seq.proofs.Lists.{get_last, get_set}
 use Rattle.flow_system.specs.Inclusions.{Place, site, var, result, Inclusion}
 use Rattle.flow_system.specs.declared.inclusion.Inclusion as TheInclusion
 use Rattle.flow_system.specs.Written.{inclusion_of, shown}
@@ -30,12 +33,6 @@ nat_equal m n e = grind (arith, nat_tests)
 nat_self : (n : ℕ) → nat_cmp n n ≡ Equal
 nat_self n = grind (arith, nat_tests)
 
-nat_same : (m n : ℕ) → nat_eq m n ≡ true → m ≡ n
-nat_same m n e = grind (arith, nat_tests)
-
-nat_itself : (n : ℕ) → nat_eq n n ≡ true
-nat_itself n = grind (arith, nat_tests)
-
 place_equal : (p q : Place) → place_order p q ≡ Equal → p ≡ q
 place_equal (site s) (site t) e = ap site (nat_equal s t e)
 place_equal (site s) (var t) e = cc
@@ -53,30 +50,22 @@ place_self (var x) = nat_self x
 place_self (result f) = nat_self f
 
 same_equal : (p q : Place) → same_place p q ≡ true → p ≡ q
-same_equal (site s) (site t) e = ap site (nat_same s t e)
+same_equal (site s) (site t) e = ap site (eq_from s t e)
 same_equal (site s) (var t) e = cc
 same_equal (site s) (result t) e = cc
 same_equal (var s) (site t) e = cc
-same_equal (var s) (var t) e = ap var (nat_same s t e)
+same_equal (var s) (var t) e = ap var (eq_from s t e)
 same_equal (var s) (result t) e = cc
 same_equal (result s) (site t) e = cc
 same_equal (result s) (var t) e = cc
-same_equal (result s) (result t) e = ap result (nat_same s t e)
+same_equal (result s) (result t) e = ap result (eq_from s t e)
 
 same_self : (p : Place) → same_place p p ≡ true
-same_self (site s) = nat_itself s
-same_self (var x) = nat_itself x
-same_self (result f) = nat_itself f
+same_self (site s) = eq_self s
+same_self (var x) = eq_self x
+same_self (result f) = eq_self f
 
 -- ---- lists of places
-
-or_true : (a : Bool) → (a || true) ≡ true
-or_true true = refl
-or_true false = refl
-
-or_false : (a : Bool) → (a || false) ≡ a
-or_false true = refl
-or_false false = refl
 
 there_one_of : (ps : List Place) (q : Place) (n : ℕ) → slice_get ps n ≡ Some q → is_one_of ps q ≡ true
 there_one_of [] q n e = cc
@@ -100,10 +89,6 @@ one_of_push (x ∷ ps) q p = ap (λ b. same_place p x || b) (one_of_push ps q p)
     grouped : (a b c : Bool) → (a || (b || c)) ≡ ((a || b) || c)
     grouped true b c = refl
     grouped false b c = refl
-
-at_end : {X : Type 0} (ps : List X) (q : X) → slice_get (ps ++ q ∷ []) (length ps) ≡ Some q
-at_end [] q = refl
-at_end (p ∷ ps) q = at_end ps q
 
 in_front : {X : Type 0} (ps : List X) (q p : X) (n : ℕ) → slice_get ps n ≡ Some p → slice_get (ps ++ q ∷ []) n ≡ Some p
 in_front [] q p n e = cc
@@ -152,7 +137,7 @@ numbers_more table table' ps q n many h none now = record { number = λ p k. (th
         let found : table' p ≡ Some n = now p ∙ ap (λ o. cond (is_eq o) (Some n) (table p)) e in
         let k_is : k ≡ length ps = cc in
         let p_is : q ≡ p = place_equal q p e in
-        ap (slice_get (ps ++ q ∷ [])) k_is ∙ at_end ps q ∙ ap Some p_is
+        ap (slice_get (ps ++ q ∷ [])) k_is ∙ get_last ps q ∙ ap Some p_is
     there p k Less e t =
         let found : table' p ≡ table p = now p ∙ ap (λ o. cond (is_eq o) (Some n) (table p)) e in
         in_front ps q p k ((h.number p k).0 (sym found ∙ t))
@@ -172,11 +157,6 @@ numbers_more table table' ps q n many h none now = record { number = λ p k. (th
         (front_or_end ps q p k e)
 
 -- ---- rows
-
-set_same : {X : Type 0} (xs : List X) (i : ℕ) (y : X) → i < length xs → slice_get (slice_set xs i y) i ≡ Some y
-set_same xs i y lt =
-    let l : i < length (slice_set xs i y) = omega (arith, lt, length-set xs i y) in
-    slice_get-get_or (slice_set xs i y) i y l ∙ ap Some (get_or-set_same xs i y y lt)
 
 set_other : {X : Type 0} (xs : List X) (i j : ℕ) (y x : X) → (j ≡ i → ⊥) → slice_get xs j ≡ Some x → slice_get (slice_set xs i y) j ≡ Some x
 set_other xs i j y x apart e =
@@ -216,9 +196,9 @@ module _ (ps : List Place) (n : ℕ) (q : Place) (o : Option ℕ) (number : (k :
           let p_is : q ≡ p = cc in
           let before : row ≡ with_reader of n qs q = cc (h.row at q here) in
           let after : row' ≡ of q ++ n ∷ [] = ends.ends (of q) (is_one_of qs q) (earlier q) before in
-          let one : is_one_of (qs ++ q ∷ []) q ≡ true = there_one_of (qs ++ q ∷ []) q (length qs) (at_end qs q) in
+          let one : is_one_of (qs ++ q ∷ []) q ≡ true = there_one_of (qs ++ q ∷ []) q (length qs) (get_last qs q) in
           let now : row' ≡ with_reader of n (qs ++ q ∷ []) q = after ∙ sym (ap (λ b. of q ++ cond b (n ∷ []) []) one) in
-          ap (slice_get (slice_set old at row')) same ∙ set_same old at row' (slice_get_within old at row there) ∙ ap Some now ∙ ap (λ p. Some (with_reader of n (qs ++ q ∷ []) p)) p_is
+          ap (slice_get (slice_set old at row')) same ∙ get_set old at row' (slice_get_within old at row there) ∙ ap Some now ∙ ap (λ p. Some (with_reader of n (qs ++ q ∷ []) p)) p_is
 
   -- where it has none
   pub none_noted : (old : List (List ℕ)) → o ≡ None → NotesSet ps n q old old

@@ -1,8 +1,10 @@
 -- What loops over statements and alternatives have done so far.
-use Rattle.std.proofs.Common.{◌≡◌, ℕ, zero, suc, ◌+◌, ◌<◌, ◌≤◌, Bool, true, false, ◌||◌, List, [], ◌∷◌, ◌++◌, map, take, length, get_or, append_assoc, refl, sym, ap, ◌∙◌, subst, arith}
+use Rattle.std.proofs.Common.{◌≡◌, ℕ, zero, suc, ◌+◌, ◌<◌, ◌≤◌, Bool, false, ◌||◌, List, [], ◌∷◌, ◌++◌, map, take, length, get_or, append_assoc, refl, sym, ap, ◌∙◌, subst, arith}
 use Rattle.std.specs.Prelude.{slice_get}
 use Rattle.std.specs.Option.{option_map}
 use Rattle.std.proofs.lemmas.List.{take_all}
+use Rattle.seq.proofs.Truth.{or_assoc, or_false}
+use Rattle.seq.proofs.Lists.{append_nil, take_next}
 use Rattle.grin_syntax.specs.declared.program.Stmt.{Stmt}
 use Rattle.grin_syntax.specs.declared.program.Alt.{Alt}
 use Rattle.grin_syntax.specs.declared.program.Val.{Val}
@@ -14,7 +16,7 @@ use Rattle.grin_syntax.specs.declared.program.Target.{Target}
 use Rattle.grin_syntax.specs.declared.program.Op.{Op}
 use Rattle.grin_syntax.specs.declared.program.Stmt.TheVariants.{Store, Bind}
 use Rattle.grin_syntax.proofs.TreeOf.{before_of-Store, before_of-Bind, code_of-parts, arm_of-parts, act_of-Case}
-use Rattle.grin_syntax.proofs.Pieces.{take_next, all_before_push}
+use Rattle.grin_syntax.proofs.Pieces.{all_before_push}
 use Rattle.grin_syntax.specs.declared.program.Cell.{Cell}
 use Rattle.grin_syntax.specs.declared.program.Proc.{Proc}
 use Rattle.grin_syntax.specs.declared.program.GlobalCell.{GlobalCell}
@@ -33,14 +35,6 @@ no_statements = record { by = λ c. refl }
 
 pub no_alternatives : ArmsEvalSoFar [] false
 no_alternatives = record { by = λ rest. refl }
-
-or_assoc : (a b c : Bool) → (a || (b || c)) ≡ ((a || b) || c)
-or_assoc true b c = refl
-or_assoc false b c = refl
-
-or_false : (a : Bool) → (a || false) ≡ a
-or_false true = refl
-or_false false = refl
 
 pub arms_snoc : (as' : List Alt) (a : Alt) (rest : List (Shape × Code)) → map arm_of (as' ++ a ∷ []) ++ rest ≡ map arm_of as' ++ (arm_of a ∷ rest)
 arms_snoc [] a rest = refl
@@ -78,10 +72,6 @@ alternative_next as' i a found here both lt e b f h = rw (take_next as' i a lt e
 
 pub block_done : (b : Block) (i : ℕ) (found here both : Bool) → length b.stmts ≤ i → EvalsSoFar (take i b.stmts) found → here ≡ act_evals (act_of b.last.value) → both ≡ (found || here) → both ≡ code_evals (code_of b)
 block_done b i found here both le f h e = e ∙ block_evals b found here (subst (λ ss. EvalsSoFar ss found) (take_all i b.stmts le) f) h
-
-append_nil : {X : Type 0} (l : List X) → l ++ [] ≡ l
-append_nil [] = refl
-append_nil (x ∷ l) = ap (λ k. x ∷ k) (append_nil l)
 
 pub alternatives_done : (as' : List Alt) (i : ℕ) (found : Bool) → length as' ≤ i → ArmsEvalSoFar (take i as') found → found ≡ arms_eval (arms_of (map arm_of as'))
 unfolding act_evals

@@ -1,11 +1,11 @@
 -- A well-formed program can be started.
 use Rattle.std.proofs.Common.{◌≡◌, ℕ, ◌<◌, ◌≤◌, Option, Some, None, IfSome, slice_get, get_or, length, refl, ap, ◌∙◌, arith}
 use Rattle.std.proofs.lemmas.Option.{slice_get_cases}
+use Rattle.seq.proofs.Lists.{all_get}
 use mathlib.Core.Logic.{◌⊎◌, inl, inr}
 use Rattle.grin_syntax.specs.declared.program.GlobalCell.{GlobalCell}
 use Rattle.grin_syntax.specs.Tree.{Program}
 use Rattle.grin_syntax.specs.Formed.{GlobalFormed, ArgumentKnown, Formed}
-use Rattle.grin_syntax.proofs.Scopes.{all_get}
 use Rattle.grin_meaning.specs.Values.{and_then, fields_of}
 use Rattle.flow_system.specs.Covers.{FormedProgramsAreStarted}
 

@@ -1,5 +1,6 @@
 -- A compiled program, from its stages and the layers below the last of them.
-use Rattle.std.proofs.Common.{◌≡◌, ℕ, ◌*◌, ◌≤◌, ◌<◌, List, [], ◌∷◌, length, sym, ap, ◌∙◌, subst, arith}
+use Rattle.std.proofs.Common.{◌≡◌, ℕ, ◌*◌, ◌≤◌, ◌<◌, List, length, sym, ap, ◌∙◌, subst, arith}
+use Rattle.seq.proofs.Order.{more_times}
 use Rattle.arity_check.specs.Accepted.{IsValid}
 use Rattle.arity_check.specs.Program as core
 use Rattle.elf32.specs.File.{file_of, program, FitsLayout}
@@ -19,7 +20,7 @@ use Rattle.grin_compile.specs.Limits.{HeapOver, FramesOver, heap_bytes, whole_wo
 use Rattle.grin_compile.specs.Made.{Made}
 use Rattle.grin_compile.specs.Parts.{HasStages, made_of, AreSizes, HasLayers}
 use Rattle.grin_compile.specs.Stages.{passes, AreStages}
-use Rattle.grin_compile.proofs.Frames.{more_times, few_frame_words}
+use Rattle.grin_compile.proofs.Frames.{few_frame_words}
 use Rattle.grin_compile.proofs.FromLayers.{image, never_missing}
 use Rattle.grin_compile.proofs.Layered.{low_code_is_carried}
 

@@ -1,6 +1,7 @@
 -- No frame of low code has more words than the bound says.
 use Rattle.std.proofs.Common.{◌≡◌, ℕ, zero, suc, ◌+◌, ◌*◌, ◌≤◌, ◌<◌, List, [], ◌∷◌, length, Option, None, Some, slice_get, slice_index_or, refl, subst, arith}
 use Rattle.std.proofs.Math.Nat.{mul_comm, mul_assoc}
+use Rattle.seq.proofs.Order.{more_times}
 use Rattle.grin_syntax.specs.Tree as grin
 use Rattle.grin_syntax.specs.Formed.{AllOf}
 use Rattle.grin_meaning.specs.Slim.{procedure_words, Slim}
@@ -9,11 +10,6 @@ use Rattle.low_code.specs.Formed.{variables}
 use Rattle.low_translate.specs.Lowers.{EachPair, LowersSmall}
 use Rattle.register_alloc.specs.Assignment.{Assignment, words_at}
 use Rattle.register_alloc.specs.Fits.{Fits}
-
-pub more_times : (m n k : ℕ) → m ≤ n → m * k ≤ n * k
-more_times zero n k h = omega arith
-more_times (suc m) zero k h = absurd (omega (arith, h))
-more_times (suc m) (suc n) k h = omega (arith, more_times m n k (omega (arith, h)))
 
 -- so many words for each of x levels are more than the stack only where they are so for y levels
 pub over : (stack d x y most : ℕ) → stack < 4 * d → d ≤ x * most → x ≤ y → stack < 4 * most * y

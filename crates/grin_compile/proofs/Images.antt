@@ -2,6 +2,8 @@
 use Rattle.std.proofs.Common.{◌≡◌, ◌⊎◌, ℕ, zero, suc, ◌+◌, ◌-◌, ◌*◌, ◌≤◌, ◌<◌, ◌||◌, Bool, true, false, nat_eq, List, [], ◌∷◌, ◌++◌, length, replicate, Option, Some, None, slice_get, unwrap_or, refl, sym, ap, ◌∙◌, subst, arith}
 use mathlib.Core.Logic.{inl, inr}
 use Rattle.std.proofs.lemmas.Bool.Decides.{nat_tests}
+use Rattle.seq.proofs.Lists.{append_nil}
+use Rattle.seq.proofs.Order.{compared}
 use Rattle.elf32.specs.File.{words as words_bytes, program}
 use Rattle.rv32_machine.specs.Memory.{Stretch, stretch_of, end_of}
 use Rattle.rv32_machine.specs.Steps.{start_of}
@@ -21,21 +23,6 @@ length_words : (numbers : List ℕ) → length (words_bytes numbers) ≡ 4 * len
 length_words [] = refl
 length_words (x ∷ xs) = let e = length_words xs in omega (arith, e)
 
-nothing_more : {A : Type 0} (xs : List A) → xs ++ [] ≡ xs
-nothing_more [] = refl
-nothing_more (x ∷ xs) = ap (λ l. x ∷ l) (nothing_more xs)
-
-order : (m n : ℕ) → (m < n) ⊎ ((m ≡ n) ⊎ (n < m))
-order zero zero = inr (inl refl)
-order zero (suc n) = inl (omega arith)
-order (suc m) zero = inr (inr (omega arith))
-order (suc m) (suc n) = up (order m n)
-  where
-    up : (m < n) ⊎ ((m ≡ n) ⊎ (n < m)) → (suc m < suc n) ⊎ ((suc m ≡ suc n) ⊎ (suc n < suc m))
-    up (inl h) = inl (omega arith)
-    up (inr (inl h)) = inr (inl (ap suc h))
-    up (inr (inr h)) = inr (inr (omega arith))
-
 module _ (items : List Item) (words : List ℕ) (placed : Placed items words) where
   abbrev lay : Layout
   lay = placed.lay
@@ -44,7 +31,7 @@ module _ (items : List Item) (words : List ℕ) (placed : Placed items words) wh
   code_is =
       let n : 4 * length words - length (words_bytes words) ≡ 0 = let e = length_words words in omega (arith, e) in
       let b : words_bytes words ++ replicate (4 * length words - length (words_bytes words)) 0 ≡ lay.code.bytes =
-      ap (λ k. words_bytes words ++ replicate k 0) n ∙ nothing_more (words_bytes words) ∙ sym placed.code in
+      ap (λ k. words_bytes words ++ replicate k 0) n ∙ append_nil (words_bytes words) ∙ sym placed.code in
       parts lay.code placed.at_first placed.rises.fixed placed.rises.runs b
     where
       parts : (c : Stretch) → c.first ≡ 65536 → c.write ≡ false → c.exec ≡ true → words_bytes words ++ replicate (4 * length words - length (words_bytes words)) 0 ≡ c.bytes
@@ -125,13 +112,13 @@ module _ (items : List Item) (words : List ℕ) (placed : Placed items words) wh
         (omega (arith, low, first, at, f), omega (arith, high, last, ends, f, same, on))
 
     apart : (b c : ℕ) → is_one_of begins b ≡ true → is_one_of begins c ≡ true → (b ≡ c → ⊥) → address_of lay items b ≡ address_of lay items c → ⊥
-    apart b c one two differ e = go (stands_at b one) (stands_at c two) (order (stands_at b one).item (stands_at c two).item)
+    apart b c one two differ e = go (stands_at b one) (stands_at c two) (compared (stands_at b one).item (stands_at c two).item)
       where
         same_label : Some (Label b) ≡ Some (Label c) → b ≡ c
         same_label h = cc
 
         before : (x y : ℕ) (s : At x) (t : At y) → address_of lay items x ≡ address_of lay items y → s.item < t.item → ⊥
-        before x y s t e less = far (order t.item (suc s.item))
+        before x y s t e less = far (compared t.item (suc s.item))
           where
             far : (t.item < suc s.item) ⊎ ((t.item ≡ suc s.item) ⊎ (suc s.item < t.item)) → ⊥
             far (inl h) = omega arith

@@ -1,6 +1,7 @@
 -- Placed items that were selected for low code are code for what the low code tells.
-use Rattle.std.proofs.Common.{◌≡◌, ℕ, suc, ◌+◌, ◌*◌, ◌≤◌, None, List, [], ◌∷◌, ◌++◌, map, length, refl, sym, ap, ◌∙◌, subst, arith}
+use Rattle.std.proofs.Common.{◌≡◌, ℕ, ◌+◌, ◌*◌, ◌≤◌, None, List, [], ◌∷◌, ◌++◌, length, refl, sym, ap, ◌∙◌, subst, arith}
 use Rattle.std.proofs.lemmas.Grind.{common_steps}
+use Rattle.seq.proofs.Lists.{length_map}
 use Rattle.headline.specs.Carries.{IsBytes, Begins, Told, Meaning, Reaches, Comes, Carries, Tells}
 use Rattle.elf32.specs.File.{program}
 use Rattle.low_code.specs.Tree.{Program}
@@ -28,10 +29,6 @@ use Rattle.grin_compile.specs.Layers.{LowCodeIsCarried, LayersCompose}
 use Rattle.grin_compile.proofs.Composed.{reaches_kept, comes_kept}
 use Rattle.grin_compile.proofs.Selected.{comes, reaches}
 use Rattle.grin_compile.proofs.Images.{starts, below_heap, different, in_code}
-
-mapped_length : {A B : Type 0} (f : A → B) (xs : List A) → length (map f xs) ≡ length xs
-mapped_length f [] = refl
-mapped_length f (x ∷ xs) = ap suc (mapped_length f xs)
 
 -- a front that is as long as the whole
 whole : (xs ys : List ℕ) → Begins xs ys → length ys ≤ length xs → ys ≡ xs
@@ -119,7 +116,7 @@ module _ (told : Meaning) (entered : List ℕ → ℕ → List ℕ) (StackFull :
 
   pub code_for : IsCodeFor (HeapOver cells) StackFull told entered (length l.procs) words image addresses
   code_for = record {
-    one_each = mapped_length _ s.begins ∙ s.one_each;
+    one_each = length_map _ s.begins ∙ s.one_each;
     different = different items words placed s.begins s.stand s.flows.instruction_behind s.different;
     in_code = in_code items words placed s.begins s.stand s.flows.instruction_behind;
     carries = subst (λ t. Carries (HeapOver cells) StackFull told (of_machine t)) begun (record {

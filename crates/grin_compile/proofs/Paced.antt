@@ -6,8 +6,9 @@
 use Rattle.std.proofs.Common.{◌≡◌, inl, inr, ℕ, ◌+◌, ◌-◌, ◌*◌, ◌≤◌, List, ◌++◌, length, Some, refl, sym, ap, ◌∙◌, subst, append_assoc, arith}
 use Rattle.std.specs.Prelude.{true}
 use Rattle.std.proofs.Math.Nat.{mul_comm}
+use Rattle.seq.proofs.Order.{more_times}
 use Rattle.headline.specs.Carries as told
-use Rattle.headline.specs.Carries.{IsBytes, Begins, Told, Seen, Meaning, runs, exits, Matches, IsFull, Reaches, KeepsPace, Tells}
+use Rattle.headline.specs.Carries.{IsBytes, Begins, Told, Seen, Meaning, runs, exits, Matches, Reaches, KeepsPace, Tells}
 use Rattle.elf32.specs.File.{program}
 use Rattle.low_code.specs.Tree.{Program}
 use Rattle.low_code.specs.Run.{limited, world_of, NeverMissing}
@@ -27,7 +28,6 @@ use Rattle.rv32_items.proofs.Pace.{items_keep_pace}
 use Rattle.rv32_select.specs.Selects.{Selects, start_at}
 use Rattle.grin_compile.specs.Layers.{LayersKeepPace}
 use Rattle.grin_compile.proofs.Composed.{reaches_kept}
-use Rattle.grin_compile.proofs.Frames.{more_times}
 use Rattle.grin_compile.proofs.Selected.{reaches}
 use Rattle.grin_compile.proofs.Images.{starts, below_heap}
 

@@ -6,6 +6,7 @@ use Rattle.std.proofs.lemmas.List.{length-take, length-take-le, take_all}
 use mathlib.Core.Logic.{◌⊎◌, inl, inr}
 use Rattle.std.proofs.lemmas.Bool.{ltb-true, ltb-false}
 use Rattle.std.proofs.lemmas.Option.{same_Some}
+use Rattle.seq.proofs.Order.{le_or_lt}
 use Rattle.grin_io.specs.Causes.{Rose}
 use Rattle.grin_io.specs.Content.{Files, Fills, file_named, rest_of, moved_on}
 use Rattle.grin_io.specs.Changes.{ShelfChange, of_shelf}
@@ -182,13 +183,6 @@ unread_on content faults old mid new OutOfMemory stay later h = stay_join (conte
 unread_on content faults old mid new _ stay later h = absurd h
 
 -- ---- what was read of a file
-
-le_or_lt : (a b : ℕ) → (a ≤ b) ⊎ (b < a)
-le_or_lt a b = go (nat_lt b a) refl
-  where
-    go : (t : Bool) → nat_lt b a ≡ t → (a ≤ b) ⊎ (b < a)
-    go true e = inr (ltb-true b a e)
-    go false e = inl (ltb-false b a e)
 
 -- what holds of the bytes that were read holds of the file, if it does so where the file has more than the most that are read
 pub of_file : {F : Type 0} (f : ShelfChange F) (most : ℕ) (file front : List ℕ) (outcome : List ℕ → Type 0)

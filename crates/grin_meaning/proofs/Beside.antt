@@ -1,5 +1,6 @@
 -- Two runs side by side: where one goes on, so does the other, and with values that are related.
 use Rattle.std.proofs.Common.{◌≡◌, ℕ, zero, suc, max, ◌≤◌, Bool, true, false, cond, List, length, Option, Some, None, refl, sym, ap, subst, arith}
+use Rattle.seq.proofs.Truth.{false_not_true}
 use Rattle.grin_meaning.specs.Values.{Value, HeapCell, State, World, Stop, missing, Answer, gives, stops, then_do, need}
 use Rattle.grin_meaning.specs.Run.{looking, looking_at, spend}
 use Rattle.grin_meaning.specs.Keeps.{world_of}
@@ -48,8 +49,6 @@ abbrev pub Seen : Bool → Bool → Type 0
 Seen looks b = looks ≡ true → b ≡ true
 
 -- a run that does not look has
-pub seen_in : {A : Type 0} → false ≡ true → A
-seen_in h = cc
 
 pub need_is : {A : Type 0} (o : Option A) (a : A) (w : World) (k : A → Answer) → o ≡ Some a → k a ≡ need o w k
 need_is o a w k e = ap (λ q. need q w k) (sym e)
@@ -86,7 +85,7 @@ module _ (P : State → Type 0) (K : Compared) where
   cond_sim V false x y x' y' hx hy = hy
 
   pub looking_sim : (V : Value → Value → Type 0) (looks b b' : Bool) (w w' : World) (a a' : Answer) → (Seen looks b → Seen looks b' × Sim V a a') → Sim V (looking looks b w a) (looking looks b' w' a')
-  looking_sim V false b b' w w' a a' h = (h (λ e. seen_in e)).1
+  looking_sim V false b b' w w' a a' h = (h (λ e. false_not_true e)).1
   looking_sim V true true b' w w' a a' h = let x : Seen true b' × Sim V a a' = h (λ _. refl) in subst (λ q. Sim V a (cond q a' (stops missing w'))) (sym (x.0 refl)) x.1
   looking_sim V true false b' w w' a a' h = λ _. free
 
@@ -110,7 +109,7 @@ module _ (P : State → Type 0) (K : Compared) where
 
   pub given_sim : (U V : Value → Value → Type 0) (looks : Bool) (f f' : Value → Bool) (a a' : Answer) → Sim U a a' → ((v v' : Value) → U v v' → Seen looks (f v) → Seen looks (f' v') × V v v')
       → Sim V (looking_at looks f a) (looking_at looks f' a')
-  given_sim U V false f f' a a' s h = sim_more U V a a' (λ v v' u. (h v v' u (λ e. seen_in e)).1) s
+  given_sim U V false f f' a a' s h = sim_more U V a a' (λ v v' u. (h v v' u (λ e. false_not_true e)).1) s
   given_sim U V true f f' a a' s h = then_sim U V a a' _ _ (λ v w. back (f v) v w) s (λ v v' w b e u. looking_sim V true (f v) (f' v') w (beside b) (gives v w) (gives v' (beside b)) (λ seen.
       let x : Seen true (f' v') × V v v' = h v v' u seen in (x.0, λ _. gives_too b x.1)))
     where
@@ -123,7 +122,7 @@ module _ (P : State → Type 0) (K : Compared) where
       → ((a : A) → o ≡ Some a → Seen looks b → Every P (world_of (k a)).seen → Seen looks b' × (a' : A') × (o' ≡ Some a') × Likewise K V (k a) (k' a'))
       → Sim V (looking looks b w (need o w k)) (looking looks b' w' (need o' w' k'))
   looked_need_sim V false b b' None o' w w' k k' h = λ _. free
-  looked_need_sim V false b b' (Some a) o' w w' k k' h = λ all. let x : Seen false b' × (a' : _) × (o' ≡ Some a') × Likewise K V (k a) (k' a') = h a refl (λ e. seen_in e) all in subst (λ q. Likewise K V (k a) (need q w' k')) (sym x.2) x.3
+  looked_need_sim V false b b' (Some a) o' w w' k k' h = λ all. let x : Seen false b' × (a' : _) × (o' ≡ Some a') × Likewise K V (k a) (k' a') = h a refl (λ e. false_not_true e) all in subst (λ q. Likewise K V (k a) (need q w' k')) (sym x.2) x.3
   looked_need_sim V true false b' o o' w w' k k' h = λ _. free
   looked_need_sim V true true b' None o' w w' k k' h = λ _. free
   looked_need_sim V true true b' (Some a) o' w w' k k' h = λ all. let x : Seen true b' × (a' : _) × (o' ≡ Some a') × Likewise K V (k a) (k' a') = h a refl (λ _. refl) all in
@@ -133,7 +132,7 @@ module _ (P : State → Type 0) (K : Compared) where
       → ((a : A) → o ≡ Some a → Seen looks b → Every P (world_of (k a)).seen → Seen looks b' × (a' : A') × (o' ≡ Some a') × Likewise K V (k a) (k' a'))
       → Sim V (need o w (λ a. looking looks b w (k a))) (need o' w' (λ a. looking looks b' w' (k' a)))
   need_looked_sim V looks b b' None o' w w' k k' h = λ _. free
-  need_looked_sim V false b b' (Some a) o' w w' k k' h = λ all. let x : Seen false b' × (a' : _) × (o' ≡ Some a') × Likewise K V (k a) (k' a') = h a refl (λ e. seen_in e) all in subst (λ q. Likewise K V (k a) (need q w' k')) (sym x.2) x.3
+  need_looked_sim V false b b' (Some a) o' w w' k k' h = λ all. let x : Seen false b' × (a' : _) × (o' ≡ Some a') × Likewise K V (k a) (k' a') = h a refl (λ e. false_not_true e) all in subst (λ q. Likewise K V (k a) (need q w' k')) (sym x.2) x.3
   need_looked_sim V true false b' (Some a) o' w w' k k' h = λ _. free
   need_looked_sim V true true b' (Some a) o' w w' k k' h = λ all. let x : Seen true b' × (a' : _) × (o' ≡ Some a') × Likewise K V (k a) (k' a') = h a refl (λ _. refl) all in
       subst (λ q. Likewise K V (k a) (need q w' (λ a. cond b' (k' a) (stops missing w')))) (sym x.2) (subst (λ q. Likewise K V (k a) (cond q (k' x.1) (stops missing w'))) (sym (x.0 refl)) x.3)

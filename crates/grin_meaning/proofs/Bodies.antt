@@ -1,5 +1,6 @@
 -- Programs whose procedures have the same parameters, and bodies that follow each other, keep each other.
 use Rattle.std.proofs.Common.{◌≡◌, ℕ, suc, false, List, [], ◌∷◌, map, Some, refl, sym, ap, ◌∙◌, subst}
+use Rattle.seq.proofs.Truth.{false_not_true}
 use Rattle.grin_syntax.specs.Tree.{Code, Procedure, Program}
 use Rattle.grin_meaning.specs.Values.{Datum, State, one_each, Binding, with_vars}
 use Rattle.grin_meaning.specs.Run.{Calls, run, run_by}
@@ -7,7 +8,7 @@ use Rattle.grin_meaning.specs.Rewritten.{rewritten, rewritten_procedure}
 use Rattle.grin_meaning.specs.Keeps.{world_of, Keeps}
 use Rattle.grin_meaning.specs.Follows.{Same, same, Every}
 use Rattle.grin_meaning.proofs.Back.{CallsBack}
-use Rattle.grin_meaning.proofs.Beside.{Compared, Likewise, no_deeper, seen_in}
+use Rattle.grin_meaning.proofs.Beside.{Compared, Likewise, no_deeper}
 use Rattle.grin_meaning.proofs.Rules.{Plan, CallsFollow, Setting, CodeFollows}
 use Rattle.grin_meaning.proofs.Procedures.{nothing, BodiesFollow, no_more, one_more, side_by_side, run_follows}
 use Rattle.grin_meaning.proofs.Plain.{Has, IsPlain}
@@ -39,7 +40,7 @@ module _ (K : Compared) (P : State → Type 0) (Ok : ℕ → Type 0) (g : Progra
     V = Same;
     enters = λ heap xs xs' bs a h known. enters_same Ok q r bs b.0 a h;
     body = b.1;
-    given = λ v v' u seen. ((λ e. seen_in e), u);
+    given = λ v v' u seen. ((λ e. false_not_true e), u);
   }) (bodies c c' cb cf (suc f) qs rs b.2)
 
   module _ (each : (c c' : Calls) (cb : CallsBack P c) (cf : CallsFollow (plain K P g procs) c c') → BodiesLike Ok (side_by_side (plain K P g procs) c c' cb cf) g.procs procs) where

@@ -1,6 +1,7 @@
 -- What a looking run looks at says what runs are asked for.
-use Rattle.std.proofs.Common.{◌≡◌, ℕ, ℤ, pos, negsuc, Bool, true, false, cond, not, ◌&&◌, nat_eq, List, [], ◌∷◌, drop, Option, Some, None, slice_get, refl, sym, ap, ◌∙◌, subst, arith}
+use Rattle.std.proofs.Common.{◌≡◌, ℕ, ℤ, pos, negsuc, Bool, true, false, cond, not, nat_eq, List, [], ◌∷◌, drop, Option, Some, None, slice_get, refl, sym, ap, ◌∙◌, subst, arith}
 use Rattle.std.proofs.lemmas.Bool.Decides.{nat_tests}
+use Rattle.seq.proofs.Truth.{true_not_false, and_from, and_left, and_right}
 use Rattle.grin_syntax.specs.declared.program.TagKind.{TagKind}
 use Rattle.grin_syntax.specs.declared.program.TagKind.TheVariants as kind
 use Rattle.grin_syntax.specs.declared.program.Tag.{Tag}
@@ -15,27 +16,11 @@ use Rattle.grin_meaning.specs.Values.{Datum, number, tag, cell, Node, Value, nod
 use Rattle.grin_meaning.specs.Checks.{is_some_and, is_none_or, is_zero, all_zero, number_then_zeros, plain_after, plain_number, is_delayed, not_delayed, is_given, is_filled, fills, all_fill}
 use Rattle.grin_meaning.specs.Ready.{IsDelayed, NotDelayed, NumberThenZeros, PlainNumber, Given, Filled, ValFilled}
 
-pub true_not_false : {A : Type 0} → true ≡ false → A
-true_not_false h = cc
-
 some_is : {A : Type 0} {a b : A} → ◌≡◌ {A = Option A} (Some a) (Some b) → a ≡ b
 some_is h = cc
 
 pub none_is_some : {A B : Type 0} {a : A} → ◌≡◌ {A = Option A} None (Some a) → B
 none_is_some h = cc
-
-pub both_true : (x y : Bool) → x ≡ true → y ≡ true → (x && y) ≡ true
-both_true true true h k = refl
-both_true true false h k = k
-both_true false y h k = h
-
-pub left_true : (x y : Bool) → (x && y) ≡ true → x ≡ true
-left_true true y h = refl
-left_true false y h = h
-
-pub right_true : (x y : Bool) → (x && y) ≡ true → y ≡ true
-right_true true y h = h
-right_true false y h = true_not_false (sym h)
 
 -- ---- zeros
 
@@ -50,11 +35,11 @@ datum_zero (cell a) h = true_not_false (sym h)
 
 pub zeros_are : (ds : List Datum) → all_zero ds ≡ true → AllOf (λ d. d ≡ number (pos 0)) ds
 zeros_are [] h = tt
-zeros_are (d ∷ ds) h = (datum_zero d (left_true (is_zero d) (all_zero ds) h), zeros_are ds (right_true (is_zero d) (all_zero ds) h))
+zeros_are (d ∷ ds) h = (datum_zero d (and_left (is_zero d) (all_zero ds) h), zeros_are ds (and_right (is_zero d) (all_zero ds) h))
 
 pub are_zeros : (ds : List Datum) → AllOf (λ d. d ≡ number (pos 0)) ds → all_zero ds ≡ true
 are_zeros [] h = refl
-are_zeros (d ∷ ds) h = both_true (is_zero d) (all_zero ds) (subst (λ x. is_zero x ≡ true) (sym h.0) refl) (are_zeros ds h.1)
+are_zeros (d ∷ ds) h = and_from (is_zero d) (all_zero ds) (subst (λ x. is_zero x ≡ true) (sym h.0) refl) (are_zeros ds h.1)
 
 -- ---- values
 
@@ -122,10 +107,10 @@ module _ (g : Program) where
   plain_number-so (words (tag t ∷ ds)) h = is_after t ds (λ e. h ds (ap (λ u. tag u ∷ ds) e))
 
   pub given_is : (v : Value) → is_given g v ≡ true → Given g v
-  given_is v h = (delayed_not v (left_true (not_delayed g v) (plain_number v) h), number_plain v (right_true (not_delayed g v) (plain_number v) h))
+  given_is v h = (delayed_not v (and_left (not_delayed g v) (plain_number v) h), number_plain v (and_right (not_delayed g v) (plain_number v) h))
 
   pub is_given-so : (v : Value) → Given g v → is_given g v ≡ true
-  is_given-so v h = both_true (not_delayed g v) (plain_number v) (not_delayed-so v h.0) (plain_number-so v h.1)
+  is_given-so v h = and_from (not_delayed g v) (plain_number v) (not_delayed-so v h.0) (plain_number-so v h.1)
 
   -- ---- vectors
 
@@ -160,8 +145,8 @@ module _ (g : Program) where
 
   pub filled_cells : (env : Env) (cs : List Cell) → all_fill g env cs ≡ true → AllOf (λ c. ValFilled g env c.val) cs
   filled_cells env [] h = tt
-  filled_cells env (c ∷ cs) h = (filled_val env c.val (left_true (fills g env c.val) (all_fill g env cs) h), filled_cells env cs (right_true (fills g env c.val) (all_fill g env cs) h))
+  filled_cells env (c ∷ cs) h = (filled_val env c.val (and_left (fills g env c.val) (all_fill g env cs) h), filled_cells env cs (and_right (fills g env c.val) (all_fill g env cs) h))
 
   pub all_fill-so : (env : Env) (cs : List Cell) → AllOf (λ c. ValFilled g env c.val) cs → all_fill g env cs ≡ true
   all_fill-so env [] h = refl
-  all_fill-so env (c ∷ cs) h = both_true (fills g env c.val) (all_fill g env cs) (fills-so env c.val h.0) (all_fill-so env cs h.1)
+  all_fill-so env (c ∷ cs) h = and_from (fills g env c.val) (all_fill g env cs) (fills-so env c.val h.0) (all_fill-so env cs h.1)

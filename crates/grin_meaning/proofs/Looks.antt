@@ -1,15 +1,16 @@
 -- A looking run of an inlined program that runs well is its run.
 use Rattle.std.proofs.Common.{◌≡◌, ℕ, zero, suc, Bool, true, false, cond, ◌&&◌, not, List, length, Option, Some, None, slice_get, refl, sym, ap, ◌∙◌}
+use Rattle.seq.proofs.Lists.{all_get}
+use Rattle.seq.proofs.Truth.{true_not_false, and_from}
 use Rattle.grin_syntax.specs.declared.program.Target.{Target}
 use Rattle.grin_syntax.specs.declared.program.Target.TheVariants as to
 use Rattle.grin_syntax.specs.Tree.{Code, end, store, bind, Act, unit, fetch, fetch_word, update, eval, apply, call, prim, read, write, case, nested, fail, Arms, no_arm, arm, Procedure, Program}
-use Rattle.grin_syntax.proofs.Scopes.{all_get}
 use Rattle.grin_meaning.specs.Values.{Datum, Value, Env, World, missing, Answer, gives, stops, then_do, need, and_then, Binding, with_vars, one_each, Fit, fits, fits_not, unclear, fit_of, word_of, words_of, value_of, node_of, bindings_of}
 use Rattle.grin_meaning.specs.Checks.{has_block, is_fetch, is_node_target, is_given, not_delayed, is_bound_well}
 use Rattle.grin_meaning.specs.Run.{act, act_by, code, code_by, arms, arms_by, calls, calls_by, run, run_by, looking, looking_at, choose, spend, spent, passing, places, place_of, cells_of, with_cells, start_words, start_world}
 use Rattle.grin_meaning.specs.Reached.{Called, begins, by_call, Runs, entered, stored, bound, within, chosen, Does, first, last, Tries, of_case, next}
 use Rattle.grin_meaning.specs.Ready.{IsInlined, EachAct, EachCode, EachArms, HasBlock, NotFetch, RunsWell, inlined_kind}
-use Rattle.grin_meaning.proofs.Checked.{true_not_false, both_true, is_given-so, not_delayed-so, fills-so, all_fill-so}
+use Rattle.grin_meaning.proofs.Checked.{is_given-so, not_delayed-so, fills-so, all_fill-so}
 
 -- ---- the same where the parts are the same
 
@@ -59,7 +60,7 @@ module _ (g : Program) where
 module _ (g : Program) (i : List ℕ) (n : ℕ) (inlined : IsInlined g) (well : RunsWell g i n) where
   -- a bound value is as it should be
   bound_well : (m d : ℕ) (env : Env) (t : Target) (o : Act) (b : Code) (w w' : World) (v : Value) → Runs g i n m env d (bind t o b) w → act g (calls g m) env (suc d) o w ≡ gives v w' → is_bound_well g t o v ≡ true
-  bound_well m d env t o b w w' v r e = both_true _ _ (true_where (has_block o) _ (λ h. is_given-so g v (well.blocks m d env t o b w w' v r (blocks g o h) e))) (true_where (is_node_target t && not (is_fetch o)) _ (of_target t r))
+  bound_well m d env t o b w w' v r e = and_from _ _ (true_where (has_block o) _ (λ h. is_given-so g v (well.blocks m d env t o b w w' v r (blocks g o h) e))) (true_where (is_node_target t && not (is_fetch o)) _ (of_target t r))
     where
       of_target : (t : Target) → Runs g i n m env d (bind t o b) w → (is_node_target t && not (is_fetch o)) ≡ true → not_delayed g v ≡ true
       of_target (to.Node x) r h = not_delayed-so g v (well.node_variables m d env x o b w w' v r (not_fetch g o h) e)

@@ -1,5 +1,6 @@
 -- A looking run that is never missing is the run, which runs well.
 use Rattle.std.proofs.Common.{◌≡◌, ◌≢◌, ℕ, zero, suc, Bool, true, false, cond, not, List, [], ◌∷◌, ◌++◌, length, Option, Some, None, slice_get, refl, sym, ap, ◌∙◌, subst}
+use Rattle.seq.proofs.Truth.{true_not_false, and_left, and_right}
 use Rattle.grin_syntax.specs.declared.program.ProcId.{ProcId}
 use Rattle.grin_syntax.specs.declared.program.Shape.{Shape}
 use Rattle.grin_syntax.specs.declared.program.Cell.{Cell}
@@ -14,7 +15,7 @@ use Rattle.grin_meaning.specs.Run.{Calls, act, act_by, code, code_by, arms, arms
 use Rattle.grin_meaning.specs.Keeps.{ended, end_of}
 use Rattle.grin_meaning.specs.Reached.{Called, begins, by_call, Runs, entered, stored, bound, within, chosen, Does, first, last, Tries, of_case, next}
 use Rattle.grin_meaning.specs.Ready.{HasBlock, NotFetch, RunsWell}
-use Rattle.grin_meaning.proofs.Checked.{true_not_false, left_true, right_true, given_is, delayed_not, filled_val, filled_cells}
+use Rattle.grin_meaning.proofs.Checked.{given_is, delayed_not, filled_val, filled_cells}
 
 abbrev pub Goes : Answer → Type 0
 Goes a = end_of a ≢ ended missing
@@ -309,9 +310,9 @@ module _ (g : Program) (i : List ℕ) (n : ℕ) (never : Goes (run_by g true i n
   pub well : RunsWell g i n
   well = record {
     node_variables = λ m d env x o b w w' v r k e.
-        delayed_not g v (where_true (not (is_fetch o)) _ (right_true _ _ (looked_at m d env (to.Node x) o b w w' v r e)) (is_fetch-not o k));
+        delayed_not g v (where_true (not (is_fetch o)) _ (and_right _ _ (looked_at m d env (to.Node x) o b w w' v r e)) (is_fetch-not o k));
     results = λ m f d xs w w' v r e. given_is g v (given_by m f d xs w w' v ((calls_agree g m).by f xs d w (called_goes r) ∙ e));
-    blocks = λ m d env t o b w w' v r k e. given_is g v (where_true (has_block o) _ (left_true _ _ (looked_at m d env t o b w w' v r e)) (has_block-so o k));
+    blocks = λ m d env t o b w w' v r k e. given_is g v (where_true (has_block o) _ (and_left _ _ (looked_at m d env t o b w w' v r e)) (has_block-so o k));
     units = λ m d env v w r. filled_val g env v (unit_looked m d env v w (does_goes r));
     updates = λ m d env a v w r. filled_val g env v (update_looked m d env a v w (does_goes r));
     stores = λ m d env cs b w r. filled_cells g (with_vars (places (length w.cells) cs) env) cs (store_looked m d env cs b w (runs_goes r));

@@ -1,16 +1,15 @@
 -- Steps that one of two programs takes alone, and blocks that are put in another block's place.
 use Rattle.std.proofs.Common.{◌≡◌, ℕ, suc, List, [], ◌∷◌, ◌++◌, Bool, true, false, cond, Option, Some, None, slice_get, refl, sym, ap, ◌∙◌, subst}
+use Rattle.seq.proofs.Truth.{false_not_true}
 use Rattle.grin_syntax.specs.declared.program.Shape.{Shape}
 use Rattle.grin_syntax.specs.declared.program.Target.{Target}
 use Rattle.grin_syntax.specs.declared.program.Val.{Val}
-use Rattle.grin_syntax.specs.Tree.{Code, end, store, bind, Act, unit, fetch, fetch_word, update, eval, apply, call, prim, read, write, case, nested, fail, Arms, no_arm, arm}
-use Rattle.grin_meaning.specs.Values.{words, Value, Env, HeapCell, State, World, missing, Answer, gives, stops, then_do, need, and_then, Binding, with_vars, Fit, fits, fits_not, unclear, fit_of, word_of, value_of, bindings_of}
-use Rattle.grin_meaning.specs.Run.{Calls, act_by, code_by, arms_by, looking, choose, passing, place_of, on_numbers}
+use Rattle.grin_syntax.specs.Tree.{Code, bind, Act, unit, fetch, fetch_word, update, eval, apply, call, prim, read, write, case, nested, fail, Arms, no_arm, arm}
+use Rattle.grin_meaning.specs.Values.{Value, Env, HeapCell, World, missing, Answer, gives, stops, then_do, need, and_then, Binding, with_vars, Fit, fits, fits_not, unclear, fit_of, word_of, value_of, bindings_of}
+use Rattle.grin_meaning.specs.Run.{act_by, code_by, arms_by, looking, choose, passing, place_of, on_numbers}
 use Rattle.grin_meaning.specs.Checks.{is_bound_well}
-use Rattle.grin_meaning.specs.Keeps.{world_of}
-use Rattle.grin_meaning.specs.Follows.{Every}
 use Rattle.grin_meaning.proofs.Back.{code_by_back, every_last}
-use Rattle.grin_meaning.proofs.Beside.{Compared, Beside, beside, free, Seen, seen_in, Sim, need_first}
+use Rattle.grin_meaning.proofs.Beside.{beside, free, Seen, Sim, need_first}
 use Rattle.grin_meaning.proofs.Rules.{Relation, Here, Setting, h, ActFollows, CodeFollows, ArmsFollow}
 
 -- an operation that changes nothing but what it gives: it gives a value in the same world, or something is missing
@@ -54,7 +53,7 @@ module _ (s : Setting) where
   still env d fail w l = absurd l
 
   looked_first : {A : Type 0} (V : Value → Value → Type 0) (looks b : Bool) (o : Option A) (w : World) (k : A → Answer) (a' : Answer) → ((a : A) → o ≡ Some a → Seen looks b → Sim P K V (k a) a') → Sim P K V (looking looks b w (need o w k)) a'
-  looked_first V false b o w k a' f = need_first P K V o w k a' (λ a e. f a e (λ l. seen_in l))
+  looked_first V false b o w k a' f = need_first P K V o w k a' (λ a e. f a e (λ l. false_not_true l))
   looked_first V true true o w k a' f = need_first P K V o w k a' (λ a e. f a e (λ l. refl))
   looked_first V true false o w k a' f = λ _. free
 

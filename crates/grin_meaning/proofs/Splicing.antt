@@ -1,16 +1,16 @@
 -- A nested block whose value is bound, against a block into which it is spliced.
-use Rattle.std.proofs.Common.{◌≡◌, ℕ, suc, List, [], ◌∷◌, ◌++◌, length, Bool, true, false, cond, Option, Some, None, refl, ap, subst}
+use Rattle.std.proofs.Common.{◌≡◌, ℕ, suc, List, [], ◌∷◌, ◌++◌, length, Bool, true, false, Option, Some, None, refl, ap, subst}
 use Rattle.grin_syntax.specs.declared.program.Cell.{Cell}
 use Rattle.grin_syntax.specs.declared.program.Target.{Target}
 use Rattle.grin_syntax.specs.Tree.{Code, end, store, bind, Act, nested}
-use Rattle.grin_meaning.specs.Values.{Value, Env, HeapCell, State, World, Answer, gives, stops, missing, then_do, need, Binding, with_vars, bindings_of}
+use Rattle.grin_meaning.specs.Values.{Value, Env, HeapCell, State, World, Answer, gives, stops, then_do, need, Binding, with_vars, bindings_of}
 use Rattle.grin_meaning.specs.Checks.{all_fill, is_bound_well}
 use Rattle.grin_meaning.specs.Run.{act_by, code_by, looking, passing, places, cells_of, with_cells}
 use Rattle.grin_meaning.specs.Keeps.{world_of}
 use Rattle.grin_meaning.specs.Follows.{Every}
-use Rattle.grin_meaning.proofs.Back.{Back, then_back, code_by_back, every_front, every_last}
-use Rattle.grin_meaning.proofs.Beside.{Compared, Beside, beside, Likewise, free, Seen, seen_in, Sim, then_sim, looked_need_sim, need_looked_sim}
-use Rattle.grin_meaning.proofs.Rules.{Relation, Here, Setting, h, ActFollows, CodeFollows, Stored, StoresToo, BindsToo, Given, rest, rest_back, enter}
+use Rattle.grin_meaning.proofs.Back.{then_back, code_by_back, every_last}
+use Rattle.grin_meaning.proofs.Beside.{Compared, Beside, beside, Likewise, Seen, Sim, then_sim, looked_need_sim, need_looked_sim}
+use Rattle.grin_meaning.proofs.Rules.{Relation, Here, Setting, h, ActFollows, CodeFollows, Stored, StoresToo, BindsToo, rest, rest_back, enter}
 
 then_need : {A : Type 0} (o : Option A) (w : World) (k : A → Answer) (r : Value → World → Answer) → need o w (λ a. then_do (k a) r) ≡ then_do (need o w k) r
 then_need None w k r = refl

@@ -1,6 +1,7 @@
 -- What the loops have counted so far.
-use Rattle.std.proofs.Common.{◌≡◌, ℕ, suc, ◌+◌, ◌<◌, ◌≤◌, List, [], ◌∷◌, ◌++◌, map, take, length, get_or, refl, sym, ap, ◌∙◌, subst, arith}
+use Rattle.std.proofs.Common.{◌≡◌, ℕ, ◌+◌, ◌<◌, ◌≤◌, List, [], ◌∷◌, ◌++◌, map, take, length, get_or, sym, ap, ◌∙◌, arith}
 use Rattle.std.proofs.lemmas.List.{take_all}
+use Rattle.seq.proofs.Lists.{take_next}
 use Rattle.grin_syntax.specs.declared.program.Stmt.{Stmt}
 use Rattle.grin_syntax.specs.declared.program.Stmt.TheVariants.{Store, Bind}
 use Rattle.grin_syntax.specs.declared.program.Alt.{Alt}
@@ -10,7 +11,7 @@ use Rattle.grin_syntax.specs.declared.program.Cell.{Cell}
 use Rattle.grin_syntax.specs.declared.program.Target.{Target}
 use Rattle.grin_syntax.specs.Tree.{Code, end, Arms, no_arm, arm, act_of, before_of, arm_of, code_of, all_before, arms_of}
 use Rattle.grin_syntax.proofs.TreeOf.{code_of-parts, before_of-Store, before_of-Bind}
-use Rattle.grin_syntax.proofs.Pieces.{take_next, all_arms, all_arms_none, all_arms_push, all_before_push}
+use Rattle.grin_syntax.proofs.Pieces.{all_arms, all_arms_none, all_arms_push, all_before_push}
 use Rattle.grin_meaning.specs.Slim.{val_weight, cells_weight, node_words, end_words}
 use Rattle.apply_inline.specs.Size.{val_size, cells_size}
 use Rattle.grin_measure.specs.declared.counts.Counts.{Counts}

@@ -1,11 +1,11 @@
 -- What the loops over procedures have counted so far.
-use Rattle.std.proofs.Common.{◌≡◌, ℕ, zero, suc, ◌+◌, ◌-◌, ◌*◌, ◌^◌, ◌<◌, ◌≤◌, min, max, List, [], ◌∷◌, ◌++◌, map, take, drop, length, get_or, refl, sym, ap, ◌∙◌, subst, arith}
+use Rattle.std.proofs.Common.{◌≡◌, ℕ, zero, suc, ◌+◌, ◌-◌, ◌*◌, ◌^◌, ◌<◌, ◌≤◌, max, List, [], ◌∷◌, ◌++◌, map, take, drop, length, get_or, refl, sym, ap, ◌∙◌, subst, arith}
 use Rattle.std.proofs.lemmas.List.{take_all}
+use Rattle.seq.proofs.Lists.{take_next, map_push}
 use Rattle.grin_syntax.specs.declared.program.Proc.{Proc}
 use Rattle.grin_syntax.specs.declared.program.Grin.{Grin}
 use Rattle.grin_syntax.specs.Tree.{Procedure, procedure_of, program_of}
 use Rattle.grin_syntax.specs.Formed.{AllOf}
-use Rattle.grin_syntax.proofs.Pieces.{take_next, map_push}
 use Rattle.grin_meaning.specs.Slim.{Slim, code_weight, code_calls, code_words, procs_weight, procs_calls, procedure_words}
 use Rattle.apply_inline.specs.Size.{code_size, procedure_size, total, largest}
 use Rattle.grin_measure.specs.declared.counts.Counts.{Counts}

@@ -1,6 +1,7 @@
 -- Solutions with the same facts inline a program alike.
-use Rattle.std.proofs.Common.{◌≡◌, ℕ, zero, suc, ◌+◌, Bool, true, false, IsTrue, nat_eq, nat_le, not, ◌||◌, ◌&&◌, List, [], ◌∷◌, ◌++◌, map, length, Option, Some, None, slice_get, refl, sym, ap, ◌∙◌, subst, arith}
-use Rattle.std.proofs.lemmas.Bool.Decides.{nat_tests}
+use Rattle.std.proofs.Common.{◌≡◌, ℕ, zero, suc, ◌+◌, Bool, true, false, IsTrue, nat_eq, nat_le, not, ◌||◌, ◌&&◌, List, [], ◌∷◌, ◌++◌, map, length, Option, Some, None, slice_get, refl, sym, ap, ◌∙◌, subst}
+use Rattle.seq.proofs.Order.{eq_self, eq_from}
+use Rattle.seq.proofs.Truth.{true_left, true_right}
 use Rattle.grin_syntax.specs.declared.program.ProcId.{ProcId}
 use Rattle.grin_syntax.specs.declared.program.Tag.{Tag}
 use Rattle.grin_syntax.specs.declared.program.GlobalCell.{GlobalCell}
@@ -32,26 +33,12 @@ use Rattle.grin_stages.specs.Stage.{Analyses, OneExpandedSize, IsStage, translat
 use Rattle.eval_inline.specs.Inlining.{those, some_of, cells_in, site_of, sites_of, tags_of, fields_at, call_body, eval_arm, eval_arms, evaluation, eval_bound, eval_ended, eval_act, eval_code, eval_all, eval_procs, act_room, code_room, all_room, arms_room, eval_inlined}
 use Rattle.apply_inline.specs.Inlining.{word_has, value_has, is_part_tag, part_tags_of, others_of, with_one_more, apply_body, part_body, apply_arm, apply_arms, else_fail, apply_act, apply_code, apply_all, apply_procs, apply_act_room, apply_code_room, apply_arms_room, parts_room, apply_inlined, inlined}
 
-nat_eq-refl : (x : ℕ) → nat_eq x x ≡ true
-nat_eq-refl x = grind (arith, nat_tests)
-
-nat_eq-true : (x y : ℕ) → nat_eq x y ≡ true → x ≡ y
-nat_eq-true x y h = grind (arith, nat_tests)
-
 -- two tests that imply each other are one
 both_ways : (x y : Bool) → (IsTrue x → IsTrue y) → (IsTrue y → IsTrue x) → x ≡ y
 both_ways true true f g = refl
 both_ways true false f g = sym (f refl)
 both_ways false true f g = g refl
 both_ways false false f g = refl
-
-or_left : (x y : Bool) → IsTrue x → IsTrue (x || y)
-or_left true y h = refl
-or_left false y h = cc
-
-or_right : (x y : Bool) → IsTrue y → IsTrue (x || y)
-or_right true y h = refl
-or_right false y h = h
 
 those_same : (test test' : ℕ → Bool) → ((t : ℕ) → test t ≡ test' t) → (i k : ℕ) → those test i k ≡ those test' i k
 those_same test test' e i zero = refl
@@ -68,8 +55,8 @@ some_in p A test s [] m t = cc
 some_in p A test s (cell_of s' ∷ us) m t = on (nat_eq s s') refl m (λ m. some_in p A test s us m t)
   where
     on : (b : Bool) → nat_eq s s' ≡ b → IsTrue (b || among (cell_of s) us) → (IsTrue (among (cell_of s) us) → IsTrue (some_of test (cells_in p A us))) → IsTrue (test s' || some_of test (cells_in p A us))
-    on true q m rest = or_left (test s') (some_of test (cells_in p A us)) (subst (λ x. test x ≡ true) (nat_eq-true s s' q) t)
-    on false q m rest = or_right (test s') (some_of test (cells_in p A us)) (rest m)
+    on true q m rest = true_left (test s') (some_of test (cells_in p A us)) (subst (λ x. test x ≡ true) (eq_from s s' q) t)
+    on false q m rest = true_right (test s') (some_of test (cells_in p A us)) (rest m)
 some_in p A test s (tag t' ∷ us) m t = some_in p A test s us m t
 some_in p A test s (num ∷ us) m t = some_in p A test s us m t
 
@@ -78,9 +65,9 @@ some_out p A test [] h = cc
 some_out p A test (cell_of s ∷ us) h = on (test s) refl h (λ h. some_out p A test us h)
   where
     on : (b : Bool) → test s ≡ b → IsTrue (b || some_of test (cells_in p A us)) → (IsTrue (some_of test (cells_in p A us)) → Passing test us) → Passing test (cell_of s ∷ us)
-    on true q h rest = record { place = s; there = or_left (nat_eq s s) (among (cell_of s) us) (nat_eq-refl s); passes = q }
+    on true q h rest = record { place = s; there = true_left (nat_eq s s) (among (cell_of s) us) (eq_self s); passes = q }
     on false q h rest = let found : Passing test us = rest h in
-        record { place = found.place; there = or_right (nat_eq found.place s) (among (cell_of found.place) us) found.there; passes = found.passes }
+        record { place = found.place; there = true_right (nat_eq found.place s) (among (cell_of found.place) us) found.there; passes = found.passes }
 some_out p A test (tag t ∷ us) h = let found : Passing test us = some_out p A test us h in record { place = found.place; there = found.there; passes = found.passes }
 some_out p A test (num ∷ us) h = let found : Passing test us = some_out p A test us h in record { place = found.place; there = found.there; passes = found.passes }
 

@@ -2,6 +2,7 @@
 use Rattle.std.proofs.Common.{◌≡◌, ℕ, zero, suc, ◌+◌, ◌<◌, ◌≤◌, max, List, [], ◌∷◌, ◌++◌, map, take, length, get_or, refl, sym, ap, ◌∙◌, subst, arith}
 use Rattle.std.proofs.lemmas.List.{take_more}
 use Rattle.std.proofs.lemmas.List.{take_all}
+use Rattle.seq.proofs.Lists.{take_next, map_push}
 use Rattle.grin_syntax.specs.declared.program.VarId.{VarId}
 use Rattle.grin_syntax.specs.declared.program.Cell.{Cell}
 use Rattle.grin_syntax.specs.declared.program.Alt.{Alt}
@@ -10,7 +11,7 @@ use Rattle.grin_syntax.specs.declared.program.Block.{Block}
 use Rattle.grin_syntax.specs.declared.program.Proc.{Proc}
 use Rattle.grin_syntax.specs.Tree.{Code, end, Arms, no_arm, arm, Procedure, act_of, before_of, arm_of, code_of, all_before, arms_of, procedure_of}
 use Rattle.grin_syntax.proofs.TreeOf.{code_of-parts}
-use Rattle.grin_syntax.proofs.Pieces.{take_next, all_arms, all_arms_none, all_arms_push, all_before_push, map_push}
+use Rattle.grin_syntax.proofs.Pieces.{all_arms, all_arms_none, all_arms_push, all_before_push}
 use Rattle.grin_syntax.specs.Fresh.{variable, variables, past_vars, past_shape, past_cells, past_act, past_code, past_arms, past_procs}
 
 -- ---- variables and cells

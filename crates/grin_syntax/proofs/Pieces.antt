@@ -1,17 +1,10 @@
 -- Lists of statements and alternatives that grow at their end.
-use Rattle.std.proofs.Common.{◌≡◌, ℕ, suc, ◌+◌, ◌<◌, ◌≤◌, List, [], ◌∷◌, ◌++◌, map, take, length, get_or, refl, sym, ap, ◌∙◌, subst, arith}
-use Rattle.std.proofs.Math.Seq.{take-suc}
+use Rattle.std.proofs.Common.{◌≡◌, ◌+◌, List, [], ◌∷◌, ◌++◌, map, refl, ap}
 use Rattle.grin_syntax.specs.declared.program.Alt.{Alt}
 use Rattle.grin_syntax.specs.declared.program.Stmt.{Stmt}
 use Rattle.grin_syntax.specs.declared.program.Shape.{Shape}
 use Rattle.grin_syntax.specs.Tree.{Code, Arms, no_arm, arm, before_of, arm_of, code_of, all_before, arms_of}
 use Rattle.grin_syntax.proofs.TreeOf.{arm_of-parts}
-
-pub take_next : {X : Type 0} (xs : List X) (i : ℕ) (x : X) → i < length xs → x ≡ get_or xs i x → take (i + 1) xs ≡ take i xs ++ x ∷ []
-take_next xs i x h e =
-    let f : take (suc i) xs ≡ take i xs ++ get_or xs i x ∷ [] = take-suc xs i x h in
-    let q : suc i ≡ i + 1 = omega arith in
-    subst (λ n. take n xs ≡ take i xs ++ x ∷ []) q (f ∙ ap (λ y. take i xs ++ y ∷ []) (sym e))
 
 -- alternatives before further ones
 abbrev pub all_arms : List (Shape × Code) → Arms → Arms
@@ -29,7 +22,3 @@ all_arms_push (b ∷ as') a r = ap (arm (arm_of b).0 (arm_of b).1) (all_arms_pus
 pub all_before_push : (ss : List Stmt) (s : Stmt) (c : Code) → all_before (map before_of (ss ++ s ∷ [])) c ≡ all_before (map before_of ss) (before_of s c)
 all_before_push [] s c = refl
 all_before_push (x ∷ ss) s c = ap (before_of x) (all_before_push ss s c)
-
-pub map_push : {X Y : Type 0} (f : X → Y) (xs : List X) (x : X) → map f (xs ++ x ∷ []) ≡ map f xs ++ f x ∷ []
-map_push f [] x = refl
-map_push f (y ∷ xs) x = ap (λ l. f y ∷ l) (map_push f xs x)

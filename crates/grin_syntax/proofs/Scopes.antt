@@ -85,11 +85,6 @@ target_within (to.Node x) scope scope' w = record { nodes = fewer_both (x.0 ∷ 
 target_within (to.One x) scope scope' w = words_within (x.0 ∷ []) scope scope' w
 target_within (to.Vector xs) scope scope' w = words_within (numbers_of xs) scope scope' w
 
-pub all_get : {X : Type 0} (P : X → Type 0) (xs : List X) (i : ℕ) (x : X) → AllOf P xs → slice_get xs i ≡ Some x → P x
-all_get P [] i x h e = cc
-all_get P (y ∷ xs) zero x h e = let q : y ≡ x = cc in subst P q h.0
-all_get P (y ∷ xs) (suc i) x h e = all_get P xs i x h.1 e
-
 module _ (p : Program) (procs : List Procedure) (same_count : length procs ≡ length p.procs) where
   abbrev pub with_procs : Program
   with_procs = record p { procs = procs }

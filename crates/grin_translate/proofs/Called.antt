@@ -1,5 +1,6 @@
 -- Whatever the bound, the procedures of what is delayed do what evaluation does.
 use Rattle.std.proofs.Common.{◌≡◌, ℕ, zero, suc, ◌+◌, max, Bool, true, false, cond, List, [], ◌∷◌, ◌++◌, length, Some, None, slice_get, refl, sym, ap, subst}
+use Rattle.seq.proofs.Truth.{not_both}
 use mathlib.Core.Logic.{inl, inr}
 use Rattle.arity_check.specs.Program.{Program}
 use Rattle.core_meaning.specs.Heap.{Delayed}
@@ -13,7 +14,7 @@ use Rattle.grin_translate.specs.declared.tags.Delay.{Delay}
 use Rattle.grin_translate.specs.Tags.{delays, proc, same_delay, first_place, delay_name, delay_params}
 use Rattle.grin_translate.specs.Translation.{tr, procedure, delay_body, delayed_procs, print_procs, span}
 use Rattle.grin_translate.specs.WellFormed.{WellFormed}
-use Rattle.grin_translate.proofs.Places.{Has, true_not_false}
+use Rattle.grin_translate.proofs.Places.{Has}
 use Rattle.grin_translate.proofs.Found.{delay_sound, delay_itself}
 use Rattle.grin_translate.proofs.Alike.{delay_of, args_of, IsDelayed, Alike, Match, both_go}
 use Rattle.grin_translate.proofs.Forcing.{CallsMatch, delay_there}
@@ -39,7 +40,7 @@ module _ (p : Program) where
       at_first : (b : Bool) → same_delay d e ≡ b → Has d (e ∷ ds) → (Has d ds → ProcIn (delayed_procs p (base + span p e) ds ++ others) (first_place (same_delay d) ds) d)
           → ProcIn (procedure p base (delay_name p e) (delay_params p e) (delay_body p base e) ∷ (delayed_procs p (base + span p e) ds ++ others)) (cond b 0 (suc (first_place (same_delay d) ds))) d
       at_first true q h ih = record { base = base; is = ap (λ x. Some (procedure p base (delay_name p x) (delay_params p x) (delay_body p base x))) (sym (delay_sound d e q)) }
-      at_first false q (inl i) ih = true_not_false (same_delay d e) (subst (λ x. same_delay d x ≡ true) i (delay_itself d)) q
+      at_first false q (inl i) ih = not_both (same_delay d e) (subst (λ x. same_delay d x ≡ true) i (delay_itself d)) q
       at_first false q (inr h) ih = let r = ih h in record { base = r.base; is = r.is }
 
   proc_found : (d : Delay) → Has d (delays p) → ProcIn (tr p).procs (proc p d).0 d

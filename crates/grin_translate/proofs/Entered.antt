@@ -2,14 +2,16 @@
 use Rattle.std.proofs.Common.{◌≡◌, ◌≢◌, ℕ, negsuc, zero, suc, ◌+◌, ◌≤◌, ◌<◌, pos, cond, List, [], ◌∷◌, map, length, Some, None, slice_get, slice_index, refl, sym, ap, ◌∙◌, subst, arith, length-append}
 use Rattle.std.proofs.lemmas.Bool.{eq-eqb}
 use Rattle.std.proofs.lemmas.Option.{same_Some, none-some}
+use Rattle.seq.proofs.Lists.{all_get}
+use Rattle.seq.proofs.Order.{eq_false}
 use mathlib.Core.Logic.{inl, inr}
 use Rattle.arity_check.specs.declared.normal.Var.TheVariants.{Local}
 use Rattle.arity_check.specs.Program.{Program, Function}
 use Rattle.core_meaning.specs.Heap as core
-use Rattle.core_meaning.specs.Heap.{Value, Int, Con, Part, Delayed, Call, Apply, Prim, Global, Input, Known, Waiting, Heap, with_local, with_locals}
+use Rattle.core_meaning.specs.Heap.{Int, Con, Delayed, Call, Apply, Prim, Global, Input, Known, Waiting, Heap, with_local, with_locals}
 use Rattle.core_meaning.specs.Evaluation as core'
-use Rattle.core_meaning.specs.Evaluation.{State, Gives, OutOfBound, Onward, append, taken, nil, cons, spend_of, params, name, names, parameters, next_byte, enter_body, proceed, within}
-use Rattle.grin_meaning.specs.Values.{Datum, number, cell, Node, node, words, World, Env, HeapCell, with_vars, one_each, need}
+use Rattle.core_meaning.specs.Evaluation.{State, Onward, append, taken, nil, cons, params, names, parameters, next_byte, enter_body, proceed}
+use Rattle.grin_meaning.specs.Values.{Datum, number, cell, node, words, World, Env, with_vars, one_each, need}
 use Rattle.grin_meaning.specs.Values as grin
 use Rattle.grin_meaning.specs.Run.{Calls, act, code, passing, byte_or_end, after_read}
 use Rattle.grin_translate.specs.declared.tags.Delay.{Delay}
@@ -23,7 +25,7 @@ use Rattle.grin_translate.proofs.Places.{Has, has_number_from}
 use Rattle.grin_translate.proofs.Found.{has_number}
 use Rattle.grin_translate.proofs.Alike.{delay_of, args_of, value_node, Names, IsDelayed, heaps_long, Alike, alike_passing, alike_append, Match, both_give}
 use Rattle.grin_translate.proofs.Forcing.{CallsMatch, params_are, value_made, delayed_made}
-use Rattle.grin_translate.proofs.Scoping.{Knows, KnowsFields, knows_fields, eqb_no}
+use Rattle.grin_translate.proofs.Scoping.{Knows, KnowsFields, knows_fields}
 use Rattle.grin_translate.proofs.Forms.{apply_match, prim_match}
 use Rattle.grin_translate.proofs.Expressions.{Waits as WaitsAll, any_has, tag_zero, eval_match}
 
@@ -31,11 +33,6 @@ has_at : {A : Type 0} (xs : List A) (i : ℕ) (x : A) → slice_get xs i ≡ Som
 has_at [] i x e = absurd (none-some x e)
 has_at (y ∷ xs) zero x e = inl (sym (same_Some y x e))
 has_at (y ∷ xs) (suc i) x e = inr (has_at xs i x e)
-
-all_at : {A : Type 0} (P : A → Type 0) (xs : List A) (i : ℕ) (x : A) → AllOf P xs → slice_get xs i ≡ Some x → P x
-all_at P [] i x a e = absurd (none-some x e)
-all_at P (y ∷ xs) zero x a e = subst P (same_Some y x e) a.0
-all_at P (y ∷ xs) (suc i) x a e = all_at P xs i x a.1 e
 
 length-numbers_from : (k n : ℕ) → length (numbers_from k n) ≡ n
 length-numbers_from k zero = refl
@@ -48,7 +45,7 @@ numbers_before zero k xs env x lt = refl
 numbers_before (suc n) k [] env x lt = refl
 numbers_before (suc n) k (a ∷ xs) env x lt =
     let ne : x ≢ k = λ e. omega (arith, lt, e) in
-    numbers_before n (suc k) xs (with_local env k a) x (omega (arith, lt)) ∙ ap (λ b. cond b a (env x)) (eqb_no x k ne)
+    numbers_before n (suc k) xs (with_local env k a) x (omega (arith, lt)) ∙ ap (λ b. cond b a (env x)) (eq_false x k ne)
 
 numbers_at : (n k j : ℕ) (xs : List ℕ) (env : core.Env) → length xs ≡ n → j < n → with_locals env (numbers_from k n) xs (k + j) ≡ slice_index xs j
 numbers_at zero k j xs env e lt = absurd (omega (arith, lt))
@@ -145,10 +142,10 @@ module _ (p : Program) where
             eq-eqb (temp p base 1).0 (temp p base 1).0 refl,
             tag_zero p Number (has_number p),
             heaps_long p (length s.heap) s.heap w.cells al.heaps,
-            eqb_no (temp p base 0).0 (local p base 1).0 zero_one,
-            eqb_no (temp p base 0).0 (local p base 0).0 zero_zero,
-            eqb_no (temp p base 0).0 (temp p base 1).0 apart,
-            eqb_no (local p base 0).0 (local p base 1).0 two,
+            eq_false (temp p base 0).0 (local p base 1).0 zero_one,
+            eq_false (temp p base 0).0 (local p base 0).0 zero_zero,
+            eq_false (temp p base 0).0 (temp p base 1).0 apart,
+            eq_false (local p base 0).0 (local p base 1).0 two,
             eq-eqb (local p base 0).0 (local p base 0).0 refl,
             eq-eqb (local p base 1).0 (local p base 1).0 refl,
             eq-eqb (temp p base 0).0 (temp p base 0).0 refl,
@@ -169,7 +166,7 @@ module _ (p : Program) where
       fun_entered : (base f : ℕ) (fun : Function) (xs : List ℕ) (bs : List grin.Binding) (d : ℕ) (out : List ℕ) (s : State) (w : World) → Alike p out s w → slice_get p.funs f ≡ Some fun → Knows p base (λ x. x < fun.params) (length s.heap) (parameters xs) (with_vars bs nothing)
           → Match p (length s.heap) out (enter_body p o (slice_get p.funs f) xs d s) (code (tr p) c (with_vars bs nothing) d (fun_body p base (slice_get p.funs f)) (passing (with_vars bs nothing) w))
       fun_entered base f fun xs bs d out s w al is knows =
-          rw is (eval_match p o c on base fun.body (λ x. x < fun.params) (parameters xs) 0 d out s (passing _ w) (with_vars bs nothing) (alike_passing p out s w _ al) knows (all_at (FunOk p) p.funs f fun ok.bodies is) (waits_all f fun is))
+          rw is (eval_match p o c on base fun.body (λ x. x < fun.params) (parameters xs) 0 d out s (passing _ w) (with_vars bs nothing) (alike_passing p out s w _ al) knows (all_get (FunOk p) p.funs f fun ok.bodies is) (waits_all f fun is))
 
       pub entered : (t : Delayed) (base d : ℕ) (out : List ℕ) (s : State) (w' w : World) → Alike p out s w → IsDelayed p (length s.heap) t → Match p (length s.heap) out (proceed p o t d s) (Enters base (delay_of p t) (args_of p t) d w' w)
       entered (Call f xs) base d out s w' w al g =

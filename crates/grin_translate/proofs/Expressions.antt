@@ -1,8 +1,10 @@
 -- The block of an expression does what the expression does.
-use Rattle.std.proofs.Common.{◌≡◌, ◌≢◌, ℕ, suc, ◌+◌, Bool, true, false, ◌||◌, cond, nat_eq, List, [], ◌∷◌, map, length, Some, None, refl, sym, ap, ◌∙◌, subst, arith, eqb-true, length-append}
+use Rattle.std.proofs.Common.{◌≡◌, ◌≢◌, ℕ, suc, ◌+◌, Bool, true, false, cond, nat_eq, List, [], ◌∷◌, map, length, Some, None, refl, sym, ap, ◌∙◌, subst, arith, eqb-true, length-append}
 use Rattle.std.specs.List.{list_any}
 use Rattle.std.proofs.lemmas.List.{length-map}
 use Rattle.std.proofs.lemmas.Option.{same_Some, none-some}
+use Rattle.seq.proofs.Truth.{or_left, or_right}
+use Rattle.seq.proofs.Order.{eq_false}
 use mathlib.Core.Logic.{◌⊎◌, inl, inr}
 use Rattle.numbers.specs.Numbers.{same_number}
 use Rattle.arity_check.specs.declared.normal.Bound.{Bound}
@@ -14,8 +16,8 @@ use Rattle.core_meaning.specs.Evaluation.{State, Onward, append, binding, with_g
 use Rattle.grin_syntax.specs.declared.program.VarId.{VarId}
 use Rattle.grin_syntax.specs.declared.program.Val.TheVariants.{NodeVar}
 use Rattle.grin_syntax.specs.Tree as tree
-use Rattle.grin_syntax.specs.Tree.{Code, Act, end, store, bind}
-use Rattle.grin_meaning.specs.Values.{Datum, number, cell, Node, node, words, World, Env, Fit, fits, fits_not, fields_fit, one_each, with_vars}
+use Rattle.grin_syntax.specs.Tree.{Code, end, store, bind}
+use Rattle.grin_meaning.specs.Values.{Datum, cell, node, words, World, Env, fits, fits_not, fields_fit, one_each, with_vars}
 use Rattle.grin_meaning.specs.Values as grin
 use Rattle.grin_meaning.specs.Run.{Calls, act, code, arms, choose, passing, places, with_cells}
 use Rattle.grin_translate.specs.declared.tags.Delay.{Delay}
@@ -26,25 +28,17 @@ use Rattle.grin_translate.specs.Blocks.{local, temp, cell_of, as_act, block, tem
 use Rattle.grin_translate.specs.Blocks as blocks
 use Rattle.grin_translate.specs.Translation.{tr}
 use Rattle.grin_translate.specs.WellFormed.{AllOf, InLocals, InGroup, HasFields, FormOk, TermOk, BranchesOk}
-use Rattle.grin_translate.proofs.Places.{Has, true_not_false}
+use Rattle.grin_translate.proofs.Places.{Has}
 use Rattle.grin_translate.proofs.Found.{has_number, has_constructor, tags_tell}
 use Rattle.grin_translate.proofs.Alike.{value_kind, value_node, IsValue, value_grows, Heaps, heaps_long, Alike, alike_passing, alike_append, Match, none_accepts, match_then, match_less}
 use Rattle.grin_translate.proofs.Forcing.{CallsMatch, kind_there}
-use Rattle.grin_translate.proofs.Scoping.{Knows, KnowsFields, KnowsCells, knows_later, knows_temp, knows_local, knows_group, knows_fields, knows_cells, eqb_no}
+use Rattle.grin_translate.proofs.Scoping.{Knows, KnowsFields, KnowsCells, knows_later, knows_temp, knows_local, knows_group, knows_fields, knows_cells}
 use Rattle.grin_translate.proofs.Forms.{temp_itself, form_match}
-
-pub or_first : (a b : Bool) → a ≡ true → (a || b) ≡ true
-or_first true b e = refl
-or_first false b e = true_not_false false e refl
-
-pub or_second : (a b : Bool) → b ≡ true → (a || b) ≡ true
-or_second true b e = refl
-or_second false b e = e
 
 pub any_has : {A : Type 0} (test : A → Bool) (xs : List A) (x : A) → Has x xs → test x ≡ true → list_any test xs ≡ true
 any_has test [] x h e = absurd h
-any_has test (y ∷ xs) x (inl i) e = or_first (test y) _ (subst (λ z. test z ≡ true) i e)
-any_has test (y ∷ xs) x (inr h) e = or_second (test y) _ (any_has test xs x h e)
+any_has test (y ∷ xs) x (inl i) e = or_left (test y) _ (subst (λ z. test z ≡ true) i e)
+any_has test (y ∷ xs) x (inr h) e = or_right (test y) _ (any_has test xs x h e)
 
 fields_fit_all : (xs : List VarId) (ds : List Datum) (bs : List grin.Binding) → one_each xs ds ≡ Some bs → fields_fit xs ds ≡ fits bs
 fields_fit_all [] [] bs e = ap fits (same_Some [] bs e)
@@ -114,7 +108,7 @@ module _ (p : Program) where
         let ne : (temp p base u).0 ≢ (local p base x).0 = λ e. omega (arith, e) in
         let k' : Knows p base (λ y. S y ⊎ (y ≡ x)) (suc (length s.heap)) env' genv' = knows_local p base x (length s.heap) (omega arith) (knows_later p base (omega arith) k) in
         let al' : Alike p out (append s (Known v ∷ [])) (with_cells (hc ∷ []) w) = alike_append p out s w (Known v ∷ []) (hc ∷ []) al (refl, value_grows p (length s.heap) (length s.heap + 1) (omega arith) v g, tt) in
-        rw (heaps_long p (length s.heap) s.heap w.cells al.heaps, eqb_no (temp p base u).0 (local p base x).0 ne, at)
+        rw (heaps_long p (length s.heap) s.heap w.cells al.heaps, eq_false (temp p base u).0 (local p base x).0 ne, at)
         (match_less p (omega (arith, long)) (h env' (append s (Known v ∷ [])) _ genv' (alike_passing p out (append s (Known v ∷ [])) (with_cells (hc ∷ []) w) genv' al') (knows_later p base (omega (arith, long)) k')))
 
     -- a constructor's branch, where the constructors are told apart already
@@ -140,15 +134,15 @@ module _ (p : Program) where
       eval_match (App f) S env t d out s w genv al k ok waits = form_match p o c on base S env f t d out s w genv al k ok
       eval_match (Let group e) S env t d out s w genv al k ok waits =
           let_match group (block p base t e) S env d out s w genv (λ env s. eval p o e env d s) al k ok.0
-          (λ b h d i. waits d (or_first _ _ (any_has (λ b. binds d b.flat) group b h i)))
-          (λ env' s' w' genv' al' k'. eval_match e (λ x. S x ⊎ InGroup group x) env' t d out s' w' genv' al' k' ok.1 (λ d i. waits d (or_second (list_any (λ b. binds d b.flat) group) _ i)))
+          (λ b h d i. waits d (or_left _ _ (any_has (λ b. binds d b.flat) group b h i)))
+          (λ env' s' w' genv' al' k'. eval_match e (λ x. S x ⊎ InGroup group x) env' t d out s' w' genv' al' k' ok.1 (λ d i. waits d (or_right (list_any (λ b. binds d b.flat) group) _ i)))
       eval_match (Case e branches) S env t d out s w genv al k ok waits =
           rw (as_act_same (block p base (suc t) e) genv (suc d) w)
-          (match_then p (λ v s. select p o branches v env d s) _ (eval_match e S env (suc t) (suc d) out s w genv al k ok.0 (λ d i. waits d (or_first _ _ i)))
+          (match_then p (λ v s. select p o branches v env d s) _ (eval_match e S env (suc t) (suc d) out s w genv al k ok.0 (λ d i. waits d (or_left _ _ i)))
           (λ v s' w' le g al'.
           let genv' : Env = with_vars (((temp p base t).0, node (value_node p v)) ∷ []) genv in
           let at : genv' (temp p base t).0 ≡ Some (node (value_node p v)) = temp_itself p o c on base t (node (value_node p v)) genv in
-          rw at (match_less p le (select_match branches v S env t (suc t + temps e) d out s' (passing genv' w') genv' (alike_passing p out s' w' genv' al') (knows_temp p base t (node (value_node p v)) (knows_later p base le k)) ok.1 (λ d i. waits d (or_second (delays_in d e) _ i)) g at))))
+          rw at (match_less p le (select_match branches v S env t (suc t + temps e) d out s' (passing genv' w') genv' (alike_passing p out s' w' genv' al') (knows_temp p base t (node (value_node p v)) (knows_later p base le k)) ok.1 (λ d i. waits d (or_right (delays_in d e) _ i)) g at))))
 
       pub select_match : (bs : Branches) (v : Value) (S : ℕ → Type 0) (env : core.Env) (u t d : ℕ) (out : List ℕ) (s : State) (w : World) (genv : Env) → Alike p out s w → Knows p base S (length s.heap) env genv → BranchesOk p S bs → WaitsIn bs
           → IsValue p (length s.heap) v → genv (temp p base u).0 ≡ Some (node (value_node p v))
@@ -156,28 +150,28 @@ module _ (p : Program) where
       select_match NoMore v S env u t d out s w genv al k ok waits g at = none_accepts (alike_passing p out s w genv al)
       select_match (OnCon x xs e rest) (Int i) S env u t d out s w genv al k ok waits g at =
           rw (tags_tell p (value_kind p (Int i)) (Constructor x) (kind_there p (length s.heap) (Int i) g) (has_constructor p x (length xs) ok.0))
-          (select_match rest (Int i) S env u (t + temps e) d out s w genv al k ok.2 (λ d i. waits d (or_second (delays_in d e) _ i)) g at)
+          (select_match rest (Int i) S env u (t + temps e) d out s w genv al k ok.2 (λ d i. waits d (or_right (delays_in d e) _ i)) g at)
       select_match (OnCon x xs e rest) (Part f ys) S env u t d out s w genv al k ok waits g at =
           rw (tags_tell p (value_kind p (Part f ys)) (Constructor x) (kind_there p (length s.heap) (Part f ys) g) (has_constructor p x (length xs) ok.0))
-          (select_match rest (Part f ys) S env u (t + temps e) d out s w genv al k ok.2 (λ d i. waits d (or_second (delays_in d e) _ i)) g at)
+          (select_match rest (Part f ys) S env u (t + temps e) d out s w genv al k ok.2 (λ d i. waits d (or_right (delays_in d e) _ i)) g at)
       select_match (OnCon x xs e rest) (Con y ys) S env u t d out s w genv al k ok waits g at =
           rw (tags_tell p (value_kind p (Con y ys)) (Constructor x) (kind_there p (length s.heap) (Con y ys) g) (has_constructor p x (length xs) ok.0))
           (con_match x xs y ys (nat_eq y x) refl (block p base t e) (blocks.arms p base (temp p base u) (t + temps e) rest) S env d out s w genv (λ env. eval p o e env d s) (select p o rest (Con y ys) env d s) al k ok.0 g
-          (λ env' genv' al' k'. eval_match e (λ z. S z ⊎ InLocals xs z) env' t d out s _ genv' al' k' ok.1 (λ d i. waits d (or_first _ _ i)))
-          (select_match rest (Con y ys) S env u (t + temps e) d out s w genv al k ok.2 (λ d i. waits d (or_second (delays_in d e) _ i)) g at))
+          (λ env' genv' al' k'. eval_match e (λ z. S z ⊎ InLocals xs z) env' t d out s _ genv' al' k' ok.1 (λ d i. waits d (or_left _ _ i)))
+          (select_match rest (Con y ys) S env u (t + temps e) d out s w genv al k ok.2 (λ d i. waits d (or_right (delays_in d e) _ i)) g at))
       select_match (OnInt i e rest) (Int j) S env u t d out s w genv al k ok waits g at =
           rw (tag_zero Number (has_number p))
           (choose_match (length s.heap) out (same_number i j) _ _ w _ _
-          (eval_match e S env t d out s (passing genv w) genv (alike_passing p out s w genv al) k ok.0 (λ d i. waits d (or_first _ _ i)))
-          (select_match rest (Int j) S env u (t + temps e) d out s w genv al k ok.1 (λ d i. waits d (or_second (delays_in d e) _ i)) g at))
+          (eval_match e S env t d out s (passing genv w) genv (alike_passing p out s w genv al) k ok.0 (λ d i. waits d (or_left _ _ i)))
+          (select_match rest (Int j) S env u (t + temps e) d out s w genv al k ok.1 (λ d i. waits d (or_right (delays_in d e) _ i)) g at))
       select_match (OnInt i e rest) (Con y ys) S env u t d out s w genv al k ok waits g at =
           rw (tag_zero (Constructor y) (kind_there p (length s.heap) (Con y ys) g))
-          (select_match rest (Con y ys) S env u (t + temps e) d out s w genv al k ok.1 (λ d i. waits d (or_second (delays_in d e) _ i)) g at)
+          (select_match rest (Con y ys) S env u (t + temps e) d out s w genv al k ok.1 (λ d i. waits d (or_right (delays_in d e) _ i)) g at)
       select_match (OnInt i e rest) (Part f ys) S env u t d out s w genv al k ok waits g at =
           rw (tag_zero (value_kind p (Part f ys)) (kind_there p (length s.heap) (Part f ys) g))
-          (select_match rest (Part f ys) S env u (t + temps e) d out s w genv al k ok.1 (λ d i. waits d (or_second (delays_in d e) _ i)) g at)
+          (select_match rest (Part f ys) S env u (t + temps e) d out s w genv al k ok.1 (λ d i. waits d (or_right (delays_in d e) _ i)) g at)
       select_match (OnAny None e rest) v S env u t d out s w genv al k ok waits g at =
-          eval_match e S env t d out s (passing genv w) genv (alike_passing p out s w genv al) k ok.0 (λ d i. waits d (or_first _ _ i))
+          eval_match e S env t d out s (passing genv w) genv (alike_passing p out s w genv al) k ok.0 (λ d i. waits d (or_left _ _ i))
       select_match (OnAny (Some x) e rest) v S env u t d out s w genv al k ok waits g at =
           named_match (block p base t e) x u v S env d out s (passing genv w) genv (λ env s. eval p o e env d s) (alike_passing p out s w genv al) k g at
-          (λ env' s' w' genv' al' k'. eval_match e (λ y. S y ⊎ (y ≡ x)) env' t d out s' w' genv' al' k' ok.0 (λ d i. waits d (or_first _ _ i)))
+          (λ env' s' w' genv' al' k'. eval_match e (λ y. S y ⊎ (y ≡ x)) env' t d out s' w' genv' al' k' ok.0 (λ d i. waits d (or_left _ _ i)))

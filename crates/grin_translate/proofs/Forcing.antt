@@ -2,25 +2,20 @@
 use Rattle.std.proofs.Common.{◌≡◌, ℕ, zero, suc, ◌+◌, ◌-◌, ◌≤◌, ◌<◌, Bool, true, false, nat_lt, List, [], ◌∷◌, ◌++◌, map, length, Some, slice_get, slice_set, refl, sym, ap, ◌∙◌, subst, arith, length-append}
 use Rattle.std.proofs.lemmas.Bool.{lt-ltb, ltb-true, eq-eqb}
 use Rattle.std.proofs.lemmas.List.{length-set, length-map, map-append}
+use Rattle.seq.proofs.Lists.{all_push}
 use Rattle.arity_check.specs.Program.{Program, Function}
 use Rattle.core_meaning.specs.Heap.{Value, Int, Con, Part, Delayed, Call, Apply, Prim, Global, Input, Binding, Known, Waiting}
 use Rattle.core_meaning.specs.Evaluation.{State, Gives, Onward, update, params, params_of, force_binding, force, give}
 use Rattle.grin_meaning.specs.Values.{Datum, cell, node, World, need, made_node}
 use Rattle.grin_meaning.specs.Run.{Calls, eval_cell, eval_tag, updated, is_fun_kind, apply_node, apply_part}
-use Rattle.grin_translate.specs.declared.tags.Delay.TheVariants.{Applies, Operates, Reads}
 use Rattle.grin_translate.specs.declared.tags.Kind.{Kind}
 use Rattle.grin_translate.specs.declared.tags.Kind.TheVariants.{Waits, Lacks}
 use Rattle.grin_translate.specs.Tags.{delays, kinds, tag, tag_of, con_tag, proc, delay_params}
 use Rattle.grin_translate.specs.declared.tags.Delay.TheVariants as tags
 use Rattle.grin_translate.specs.Translation.{tr}
-use Rattle.grin_translate.specs.WellFormed.{AllOf}
 use Rattle.grin_translate.proofs.Places.{Has}
 use Rattle.grin_translate.proofs.Found.{has_calls, has_number, has_constructor, has_waits, has_lacks, tag_found, part_found}
 use Rattle.grin_translate.proofs.Alike.{value_kind, value_fields, value_node, delay_of, args_of, binding_node, Names, IsValue, IsDelayed, IsBinding, At, heaps_at, Alike, alike_update, Match, both_give, none_accepts, match_then}
-
-pub all_snoc : {A : Type 0} (P : A → Type 0) (xs : List A) (x : A) → AllOf P xs → P x → AllOf P (xs ++ x ∷ [])
-all_snoc P [] x a h = (h, tt)
-all_snoc P (y ∷ xs) x a h = (a.0, all_snoc P xs x a.1 h)
 
 module _ (p : Program) where
   pub params_are : (f : ℕ) (fun : Function) → slice_get p.funs f ≡ Some fun → params p f ≡ fun.params
@@ -115,7 +110,7 @@ module _ (p : Program) where
         let long : length (xs ++ b ∷ []) ≡ suc (length xs) = omega (arith, length-append xs (b ∷ [])) in
         let full : fun.params ≡ length (xs ++ b ∷ []) = omega (arith, many, params_are f fun is, long) in
         rw (not_less (suc (length xs)) (params p f) (omega (arith, many)), sym (map-append cell xs (b ∷ [])))
-        (on.by (Call f (xs ++ b ∷ [])) d out s w al ((fun, is, full), all_snoc _ xs b g lt))
+        (on.by (Call f (xs ++ b ∷ [])) d out s w al ((fun, is, full), all_push _ xs b g lt))
       where
         not_less : (m n : ℕ) → n ≤ m → nat_lt m n ≡ false
         not_less m n le = by_test (nat_lt m n) refl
@@ -127,8 +122,8 @@ module _ (p : Program) where
         let long : length (xs ++ b ∷ []) ≡ suc (length xs) = omega (arith, length-append xs (b ∷ [])) in
         let less : length (xs ++ b ∷ []) < fun.params = omega (arith, many, params_are f fun is, long) in
         let rest : params p f - length (xs ++ b ∷ []) ≡ suc r = omega (arith, many, long) in
-        rw (lt-ltb (suc (length xs)) (params p f) (omega (arith, many)), part_found p f fun r is (omega (arith, many, params_are f fun is)), sym (map-append cell xs (b ∷ [])), sym rest, value_made (length s.heap) (Part f (xs ++ b ∷ [])) ((fun, is, less), all_snoc _ xs b g lt))
-        (both_give {v = Part f (xs ++ b ∷ [])} {s = s} (omega arith) ((fun, is, less), all_snoc _ xs b g lt) al)
+        rw (lt-ltb (suc (length xs)) (params p f) (omega (arith, many)), part_found p f fun r is (omega (arith, many, params_are f fun is)), sym (map-append cell xs (b ∷ [])), sym rest, value_made (length s.heap) (Part f (xs ++ b ∷ [])) ((fun, is, less), all_push _ xs b g lt))
+        (both_give {v = Part f (xs ++ b ∷ [])} {s = s} (omega arith) ((fun, is, less), all_push _ xs b g lt) al)
 
     -- a value is given b, and its node is applied to the cell b
     pub give_match : (v : Value) (b d : ℕ) (out : List ℕ) (s : State) (w : World) → Alike p out s w → IsValue p (length s.heap) v → b < length s.heap → Match p (length s.heap) out (give p o v b d s) (apply_node (tr p) c d (value_node p v) (cell b) w)

@@ -2,6 +2,8 @@
 use Rattle.std.proofs.Common.{◌≡◌, ◌≢◌, ℕ, suc, ◌+◌, ◌≤◌, ℤ, true, false, List, [], ◌∷◌, map, length, Some, refl, sym, ◌∙◌, arith}
 use Rattle.std.proofs.lemmas.Bool.{eq-eqb}
 use Rattle.std.proofs.lemmas.List.{length-map}
+use Rattle.seq.proofs.Order.{eq_false}
+use Rattle.seq.proofs.Truth.{not_both}
 use Rattle.arity_check.specs.declared.normal.Var.{Var}
 use Rattle.arity_check.specs.declared.normal.Flat.{Flat}
 use Rattle.arity_check.specs.declared.normal.Flat.TheVariants as flat
@@ -9,31 +11,30 @@ use Rattle.arity_check.specs.declared.normal.PrimOp.{PrimOp}
 use Rattle.arity_check.specs.declared.normal.PrimOp.TheVariants.{Add, Sub, Mul, Quot, Rem, Eq, Lt}
 use Rattle.arity_check.specs.Program.{Program}
 use Rattle.core_meaning.specs.Heap as core
-use Rattle.core_meaning.specs.Heap.{Value, Int, Con, Part, Delayed, Call, Apply, Prim}
+use Rattle.core_meaning.specs.Heap.{Value, Int, Con, Part, Call, Apply, Prim}
 use Rattle.core_meaning.specs.Numbers.{operate}
 use Rattle.core_meaning.specs.Evaluation as core'
-use Rattle.core_meaning.specs.Evaluation.{State, Gives, NoAlternative, OutOfBound, Onward, and_then, with_number, params, name, names, binding, force, give, give_all, apply, prim, form}
+use Rattle.core_meaning.specs.Evaluation.{State, Gives, Onward, and_then, with_number, name, names, force, give_all, apply, prim, form}
 use Rattle.grin_syntax.specs.declared.program.VarId.{VarId}
 use Rattle.grin_syntax.specs.declared.program.Word.TheVariants as word
 use Rattle.grin_syntax.specs.Tree.{Code, bind, end, unit}
 use Rattle.grin_syntax.specs.declared.program.Val.TheVariants as val
 use Rattle.grin_syntax.specs.declared.program.Target.TheVariants as to
 use Rattle.grin_syntax.specs.Tree as tree
-use Rattle.grin_meaning.specs.Values.{Datum, number, cell, Node, node, words, World, Env, gives, stops, with_vars}
+use Rattle.grin_meaning.specs.Values.{number, Node, node, words, World, Env, with_vars}
 use Rattle.grin_meaning.specs.Values as grin
 use Rattle.grin_meaning.specs.Run.{Calls, act, code, arithmetic, passing}
 use Rattle.grin_translate.specs.declared.tags.Delay.{Delay}
 use Rattle.grin_translate.specs.declared.tags.Kind.TheVariants.{Number, Constructor}
 use Rattle.grin_translate.specs.Tags.{tag, is_delayed}
-use Rattle.grin_translate.specs.Blocks.{operation, local, temp, on_number, give_block, apply_block, prim_block, form_block}
+use Rattle.grin_translate.specs.Blocks.{operation, temp, on_number, give_block, apply_block, prim_block, form_block}
 use Rattle.grin_translate.specs.Blocks as blocks
 use Rattle.grin_translate.specs.Translation.{tr}
 use Rattle.grin_translate.specs.WellFormed.{AllOf, VarOk, FormOk}
-use Rattle.grin_translate.proofs.Places.{true_not_false}
 use Rattle.grin_translate.proofs.Found.{has_number, tags_tell}
 use Rattle.grin_translate.proofs.Alike.{value_kind, value_node, IsValue, Alike, alike_passing, Match, both_give, none_accepts, match_then, match_less}
 use Rattle.grin_translate.proofs.Forcing.{CallsMatch, kind_there, value_made, force_match, give_match}
-use Rattle.grin_translate.proofs.Scoping.{Knows, knows_later, knows_temp, word_known, name_below, words_known, names_below, value_known, binding_good, eqb_no}
+use Rattle.grin_translate.proofs.Scoping.{Knows, knows_later, knows_temp, word_known, name_below, words_known, names_below, value_known, binding_good}
 
 same_arithmetic : (op : PrimOp) (i j : ℤ) → operate op i j ≡ arithmetic (operation op) i j
 same_arithmetic Add i j = refl
@@ -49,7 +50,7 @@ module _ (p : Program) (o : Onward) (c : Calls) (on : CallsMatch p o c) (base : 
   temp_itself t v genv = rw (eq-eqb (temp p base t).0 (temp p base t).0 refl) refl
 
   pub temp_other : (t u : ℕ) → t ≢ u → (v : grin.Value) (genv : Env) → with_vars (((temp p base u).0, v) ∷ []) genv (temp p base t).0 ≡ genv (temp p base t).0
-  temp_other t u ne v genv = let ne' : (temp p base t).0 ≢ (temp p base u).0 = λ e. ne (omega (arith, e)) in rw (eqb_no (temp p base t).0 (temp p base u).0 ne') refl
+  temp_other t u ne v genv = let ne' : (temp p base t).0 ≢ (temp p base u).0 = λ e. ne (omega (arith, e)) in rw (eq_false (temp p base t).0 (temp p base u).0 ne') refl
 
   -- where a value is a number
   pub number_match : (n : ℕ) (out : List ℕ) (s : State) (w : World) (val : Value) (genv : Env) (v i : VarId) (d : ℕ) (b : Code) (go : ℤ → core'.Answer) → Alike p out s w → IsValue p (length s.heap) val → genv v.0 ≡ Some (node (value_node p val))
@@ -134,7 +135,7 @@ module _ (p : Program) (o : Onward) (c : Calls) (on : CallsMatch p o c) (base : 
         (λ i. second op i y t d out (length s.heap) s1 (passing genv1 w1) genv1 le1 (alike_passing p out s1 w1 genv1 al1) k1 hy)))
 
     nothing_waits : (d : Delay) → false ≡ true → is_delayed p d ≡ true
-    nothing_waits d e = true_not_false false e refl
+    nothing_waits d e = not_both false e refl
 
     pub form_match : (f : Flat) (t d : ℕ) (out : List ℕ) (s : State) (w : World) (genv : Env) → Alike p out s w → K (length s.heap) genv → FormOk p S f
         → Match p (length s.heap) out (form p o env f d s) (code (tr p) c genv d (form_block p base t f) w)

@@ -1,7 +1,9 @@
 -- The tags and procedures of the translated program are found by what they stand for.
-use Rattle.std.proofs.Common.{◌≡◌, ℕ, zero, suc, ◌+◌, ◌≤◌, ◌<◌, Bool, true, false, cond, ◌&&◌, nat_eq, List, [], ◌∷◌, ◌++◌, map, filter, length, Option, Some, None, slice_get, refl, sym, ap, ◌∙◌, subst, arith, eqb-true}
+use Rattle.std.proofs.Common.{◌≡◌, ℕ, zero, suc, ◌+◌, ◌≤◌, ◌<◌, Bool, true, false, cond, nat_eq, List, [], ◌∷◌, ◌++◌, map, filter, length, Option, Some, None, slice_get, refl, sym, ap, ◌∙◌, subst, arith, eqb-true}
 use Rattle.std.proofs.lemmas.Bool.{eq-eqb}
 use Rattle.std.proofs.lemmas.Option.{same_Some, none-some, slice_get_within}
+use Rattle.seq.proofs.Truth.{and_left, and_right, not_both}
+use Rattle.seq.proofs.Lists.{all_append}
 use mathlib.Core.Logic.{inl, inr}
 use Rattle.arity_check.specs.declared.normal.PrimOp.{PrimOp}
 use Rattle.arity_check.specs.declared.normal.PrimOp.TheVariants.{Add, Sub, Mul, Quot, Rem, Eq, Lt}
@@ -13,7 +15,7 @@ use Rattle.grin_translate.specs.declared.tags.Kind.{Kind}
 use Rattle.grin_translate.specs.declared.tags.Kind.TheVariants.{Number, Constructor, Waits, Lacks}
 use Rattle.grin_translate.specs.Tags.{operations, op_number, same_delay, same_kind, first_place, numbers_from, is_delayed, takes_input, delays, kinds, parts, function_parts, tag, tag_of, con_tag, proc}
 use Rattle.grin_translate.specs.WellFormed.{AllOf, HasFields}
-use Rattle.grin_translate.proofs.Places.{Has, true_not_false, has_left, has_right, has_map, has_filter, has_number_from, all_append, all_map, found, places_tell}
+use Rattle.grin_translate.proofs.Places.{Has, has_left, has_right, has_map, has_filter, has_number_from, all_map, found, places_tell}
 
 nth_operation : ℕ → PrimOp
 nth_operation zero = Add
@@ -61,14 +63,6 @@ delay_itself (Applies n) = eq-eqb n n refl
 delay_itself (Operates op) = eq-eqb _ _ refl
 delay_itself Reads = refl
 
-both_left : (a b : Bool) → (a && b) ≡ true → a ≡ true
-both_left true b e = refl
-both_left false b e = e
-
-both_right : (a b : Bool) → (a && b) ≡ true → b ≡ true
-both_right true b e = e
-both_right false b e = cc
-
 pub kind_sound : (a b : Kind) → same_kind a b ≡ true → a ≡ b
 kind_sound Number Number e = refl
 kind_sound Number (Constructor d) e = cc
@@ -86,8 +80,8 @@ kind_sound (Lacks f r) Number e = cc
 kind_sound (Lacks f r) (Constructor d) e = cc
 kind_sound (Lacks f r) (Waits b) e = cc
 kind_sound (Lacks f r) (Lacks g q) e =
-    let i : f ≡ g = eqb-true f g (both_left _ _ e) in
-    let j : r ≡ q = eqb-true r q (both_right (nat_eq f g) _ e) in
+    let i : f ≡ g = eqb-true f g (and_left _ _ e) in
+    let j : r ≡ q = eqb-true r q (and_right (nat_eq f g) _ e) in
     cc
 
 pub kind_itself : (a : Kind) → same_kind a a ≡ true
@@ -130,7 +124,7 @@ module _ (p : Program) where
 
   has_reads_if : (b : Bool) → b ≡ true → Has Reads (cond b (Reads ∷ []) [])
   has_reads_if true e = inl refl
-  has_reads_if false e = true_not_false false e refl
+  has_reads_if false e = not_both false e refl
 
   pub has_reads : takes_input p ≡ true → Has Reads (delays p)
   unfolding delays
@@ -158,7 +152,7 @@ module _ (p : Program) where
 
       at_first : (b : Bool) → nat_eq r n ≡ b → (r < n → Has (Lacks f (suc r)) (function_parts f n)) → Has (Lacks f (suc r)) (Lacks f (suc n) ∷ function_parts f n)
       at_first true e ih = inl (ap (λ k. Lacks f (suc k)) (eqb-true r n e))
-      at_first false e ih = inr (ih (below (λ q. true_not_false _ (eq-eqb r n q) e)))
+      at_first false e ih = inr (ih (below (λ q. not_both _ (eq-eqb r n q) e)))
 
   has_part : (gs : List Function) (f i : ℕ) (g : Function) (r : ℕ) → slice_get gs i ≡ Some g → r < g.params → Has (Lacks (f + i) (suc r)) (parts gs f)
   has_part [] f i g r e lt = absurd (none-some g e)
@@ -221,8 +215,8 @@ module _ (p : Program) where
           by_test : (x : Bool) → nat_eq a b ≡ x → (y : Bool) → nat_eq b a ≡ y → x ≡ y
           by_test true e true f = refl
           by_test false e false f = refl
-          by_test true e false f = true_not_false _ (eq-eqb b a (sym (eqb-true a b e))) f
-          by_test false e true f = true_not_false _ (eq-eqb a b (sym (eqb-true b a f))) e
+          by_test true e false f = not_both _ (eq-eqb b a (sym (eqb-true a b e))) f
+          by_test false e true f = not_both _ (eq-eqb a b (sym (eqb-true b a f))) e
 
   part_from_found : (F f r : ℕ) (ks : List Kind) (i : ℕ) → AllOf (λ k. is_part F r (tag_of p k) ≡ same_kind (Lacks f r) k) ks → Has (Lacks f r) ks
       → part_from i (map (tag_of p) ks) F r ≡ Some (i + first_place (same_kind (Lacks f r)) ks)
@@ -232,7 +226,7 @@ module _ (p : Program) where
       at_first : (b : Bool) → same_kind (Lacks f r) k ≡ b → Has (Lacks f r) (k ∷ ks) → (Has (Lacks f r) ks → part_from (suc i) (map (tag_of p) ks) F r ≡ Some (suc i + first_place (same_kind (Lacks f r)) ks))
           → cond b (Some i) (part_from (suc i) (map (tag_of p) ks) F r) ≡ Some (i + cond b 0 (suc (first_place (same_kind (Lacks f r)) ks)))
       at_first true e h ih = let q : i ≡ i + 0 = omega arith in ap Some q
-      at_first false e (inl j) ih = true_not_false (same_kind (Lacks f r) k) (subst (λ z. same_kind (Lacks f r) z ≡ true) j (kind_itself (Lacks f r))) e
+      at_first false e (inl j) ih = not_both (same_kind (Lacks f r) k) (subst (λ z. same_kind (Lacks f r) z ≡ true) j (kind_itself (Lacks f r))) e
       at_first false e (inr j) ih = let q : suc i + first_place (same_kind (Lacks f r)) ks ≡ i + suc (first_place (same_kind (Lacks f r)) ks) = omega arith in ih j ∙ ap Some q
 
   all_tell : (f r : ℕ) (ks : List Kind) → Has (Calls f) (delays p) → AllOf Good ks → AllOf (λ k. is_part (proc p (Calls f)).0 r (tag_of p k) ≡ same_kind (Lacks f r) k) ks

@@ -1,6 +1,7 @@
 -- The lists of tags, global cells and procedures grow by one function or by what waits.
 use Rattle.std.proofs.Common.{◌≡◌, ℕ, zero, suc, ◌+◌, ◌<◌, ◌≤◌, Bool, cond, nat_eq, List, [], ◌∷◌, ◌++◌, map, length, drop, Some, None, slice_get, codes, refl, sym, ap, ◌∙◌, arith, append_assoc, append-nil}
 use Rattle.std.proofs.lemmas.List.{map-append}
+use Rattle.seq.proofs.Lists.{drop_past}
 use Rattle.arity_check.specs.Program.{Program, Function}
 use Rattle.core_meaning.specs.Evaluation.{params, params_of, global}
 use Rattle.grin_syntax.specs.declared.program.Tag.{Tag}
@@ -15,7 +16,6 @@ use Rattle.grin_translate.specs.declared.tags.Kind.TheVariants.{Number, Construc
 use Rattle.grin_translate.specs.Tags.{numbers_from, parts, function_parts, kinds, delays, takes_input, tag, tag_of, fun_name, delay_name, delay_params}
 use Rattle.grin_translate.specs.Translation.{global_cells, procedure, delay_body, span, spans, delayed_procs, rest, print, print_body, tr}
 use Rattle.grin_translate.specs.Pieces.{shared_of, start_if}
-use Rattle.grin_translate.proofs.Pushed.{drop_all}
 
 record FunctionAt (fs : List Function) (f : ℕ) : Type 0 where
   function : Function
@@ -68,7 +68,7 @@ module _ (p : Program) where
       ∙ w
 
   pub parts_end : (f : ℕ) (made whole : List Tag) → length p.funs ≤ f → made ++ map (tag_of p) (parts (drop f p.funs) f) ≡ whole → made ≡ whole
-  parts_end f made whole le w = sym (append-nil made) ∙ ap (λ gs. made ++ map (tag_of p) (parts gs f)) (sym (drop_all p.funs f le)) ∙ w
+  parts_end f made whole le w = sym (append-nil made) ∙ ap (λ gs. made ++ map (tag_of p) (parts gs f)) (sym (drop_past p.funs f le)) ∙ w
 
   -- all tags, from their groups
   pub tags_made : (nc : ℕ) (ds : List Delay) (number : Tag) (a b c d : List Tag) → nc ≡ length p.cons → ds ≡ delays p → number ≡ tag_of p Number → a ≡ number ∷ []
@@ -104,7 +104,7 @@ module _ (p : Program) where
       ∙ w
 
   pub cells_end : (f : ℕ) (made whole : List GlobalCell) → length p.funs ≤ f → made ++ global_cells p (drop f p.funs) f ≡ whole → made ≡ whole
-  cells_end f made whole le w = sym (append-nil made) ∙ ap (λ gs. made ++ global_cells p gs f) (sym (drop_all p.funs f le)) ∙ w
+  cells_end f made whole le w = sym (append-nil made) ∙ ap (λ gs. made ++ global_cells p gs f) (sym (drop_past p.funs f le)) ∙ w
 
   -- ---- procedures
 
@@ -126,10 +126,10 @@ module _ (p : Program) where
   spans_more i base next ds d whole e n w = let f = ap (spans p) e in omega (arith, f, n, w)
 
   pub procs_end : (i base : ℕ) (ds : List Delay) (made : List Proc) (whole : List Procedure) → length ds ≤ i → map procedure_of made ++ delayed_procs p base (drop i ds) ≡ whole → map procedure_of made ≡ whole
-  procs_end i base ds made whole le w = sym (append-nil (map procedure_of made)) ∙ ap (λ xs. map procedure_of made ++ delayed_procs p base xs) (sym (drop_all ds i le)) ∙ w
+  procs_end i base ds made whole le w = sym (append-nil (map procedure_of made)) ∙ ap (λ xs. map procedure_of made ++ delayed_procs p base xs) (sym (drop_past ds i le)) ∙ w
 
   pub spans_end : (i base : ℕ) (ds : List Delay) (whole : ℕ) → length ds ≤ i → base + spans p (drop i ds) ≡ whole → base ≡ whole
-  spans_end i base ds whole le w = let f = ap (spans p) (drop_all ds i le) in omega (arith, f, w)
+  spans_end i base ds whole le w = let f = ap (spans p) (drop_past ds i le) in omega (arith, f, w)
 
   pub procs_made : (base : ℕ) (made pushed : List Proc) (q : Proc) → map procedure_of made ≡ delayed_procs p (length p.funs) (delays p) → base ≡ rest p → pushed ≡ made ++ q ∷ []
       → procedure_of q ≡ procedure p base (codes "@print") 1 (print_body p base) → map procedure_of pushed ++ start_if p base ≡ (tr p).procs

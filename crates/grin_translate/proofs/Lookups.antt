@@ -4,6 +4,9 @@ use Rattle.std.specs.List.{count_by}
 use Rattle.std.proofs.lemmas.Bool.{eq-eqb}
 use Rattle.std.proofs.lemmas.List.{length-map, map-append}
 use Rattle.std.proofs.lemmas.Option.{same_Some, none-some}
+use Rattle.seq.proofs.Order.{eq_false}
+use Rattle.seq.proofs.Lists.{all_filter, all_append}
+use Rattle.seq.proofs.Truth.{not_both}
 use Rattle.arity_check.specs.Program.{Program, Function}
 use Rattle.core_meaning.specs.Evaluation.{params, params_of, global}
 use Rattle.grin_translate.specs.declared.tags.Delay.{Delay}
@@ -14,14 +17,7 @@ use Rattle.grin_translate.specs.Tags.{operations, same_delay, same_kind, first_p
 use Rattle.grin_translate.specs.Numbered.{NoCall, starts, after, shared_before, shared_in, one_if_none, params_each}
 use Rattle.grin_translate.specs.WellFormed.{AllOf}
 use Rattle.core_meaning.proofs.Shared.{count_more}
-use Rattle.grin_translate.proofs.Places.{true_not_false, all_append, all_map}
-
-eqb_no : (a b : ℕ) → a ≢ b → nat_eq a b ≡ false
-eqb_no a b ne = by_test (nat_eq a b) refl
-  where
-    by_test : (x : Bool) → nat_eq a b ≡ x → x ≡ false
-    by_test true e = absurd (ne (eqb-true a b e))
-    by_test false e = refl
+use Rattle.grin_translate.proofs.Places.{all_map}
 
 -- ---- first places
 
@@ -76,11 +72,11 @@ number_at (suc n) k zero lt = let z : k + 0 ≡ k = omega arith in rw (z, eq-eqb
 number_at (suc n) k (suc j) lt =
     let z : k + suc j ≡ suc k + j = omega arith in
     let ne : suc k + j ≢ k = λ e. omega (arith, e) in
-    subst (λ m. first_place (nat_eq m) (numbers_from k (suc n)) ≡ suc j) (sym z) (rw (eqb_no (suc k + j) k ne) (ap suc (number_at n (suc k) j (omega (arith, lt)))))
+    subst (λ m. first_place (nat_eq m) (numbers_from k (suc n)) ≡ suc j) (sym z) (rw (eq_false (suc k + j) k ne) (ap suc (number_at n (suc k) j (omega (arith, lt)))))
 
 pub number_absent : (n k f : ℕ) → k + n ≤ f → AllOf (λ x. nat_eq f x ≡ false) (numbers_from k n)
 number_absent zero k f le = tt
-number_absent (suc n) k f le = let ne : f ≢ k = λ e. omega (arith, le, e) in (eqb_no f k ne, number_absent n (suc k) f (omega (arith, le)))
+number_absent (suc n) k f le = let ne : f ≢ k = λ e. omega (arith, le, e) in (eq_false f k ne, number_absent n (suc k) f (omega (arith, le)))
 
 pub numbers_more : (n k : ℕ) → numbers_from k (suc n) ≡ numbers_from k n ++ (k + n) ∷ []
 numbers_more zero k = let z : k + 0 ≡ k = omega arith in rw z refl
@@ -102,14 +98,6 @@ zero_pushed f n before made pushed x e g h = let z : n ≡ 0 + n = omega arith i
 pub all_fail : {A : Type 0} (t : A → Bool) (P : A → Type 0) → ((x : A) → P x → t x ≡ false) → (xs : List A) → AllOf P xs → AllOf (λ x. t x ≡ false) xs
 all_fail t P h [] a = tt
 all_fail t P h (x ∷ xs) a = (h x a.0, all_fail t P h xs a.1)
-
-all_filter : {A : Type 0} (P : A → Type 0) (t : A → Bool) (xs : List A) → AllOf P xs → AllOf P (filter t xs)
-all_filter P t [] a = tt
-all_filter P t (x ∷ xs) a = by_test (t x) (all_filter P t xs a.1)
-  where
-    by_test : (b : Bool) → AllOf P (filter t xs) → AllOf P (cond b (x ∷ filter t xs) (filter t xs))
-    by_test true r = (a.0, r)
-    by_test false r = r
 
 pub dropped : {A : Type 0} (n : ℕ) (xs ys : List A) → length xs ≡ n → drop n (xs ++ ys) ≡ ys
 dropped zero [] ys e = refl
@@ -285,7 +273,7 @@ module _ (p : Program) where
   -- no part of the functions from f on has r arguments missing
   other_function : (f r g n : ℕ) → f ≢ g → AllOf (λ l. same_kind (Lacks f r) l ≡ false) (function_parts g n)
   other_function f r g zero ne = tt
-  other_function f r g (suc n) ne = (rw (eqb_no f g ne) refl, other_function f r g n ne)
+  other_function f r g (suc n) ne = (rw (eq_false f g ne) refl, other_function f r g n ne)
 
   other_functions : (f r : ℕ) (fs : List Function) (g : ℕ) → f < g → AllOf (λ l. same_kind (Lacks f r) l ≡ false) (parts fs g)
   other_functions f r [] g lt = tt
@@ -298,17 +286,17 @@ module _ (p : Program) where
       by_test : (b : Bool) → nat_eq (suc r) (suc n) ≡ b → (r < n → first_place (same_kind (Lacks f (suc r))) (function_parts f n) ≡ n - suc r) → cond b 0 (suc (first_place (same_kind (Lacks f (suc r))) (function_parts f n))) ≡ suc n - suc r
       by_test true e ih = let i = eqb-true (suc r) (suc n) e in omega (arith, i)
       by_test false e ih =
-          let ne : r ≢ n = λ q. true_not_false (nat_eq (suc r) (suc n)) (eq-eqb (suc r) (suc n) (ap suc q)) e in
+          let ne : r ≢ n = λ q. not_both (nat_eq (suc r) (suc n)) (eq-eqb (suc r) (suc n) (ap suc q)) e in
           let h = ih (omega (arith, lt, ne)) in
           omega (arith, h, lt, ne)
 
   part_of_absent : (f n r : ℕ) → n < r → AllOf (λ l. same_kind (Lacks f r) l ≡ false) (function_parts f n)
   part_of_absent f zero r lt = tt
-  part_of_absent f (suc n) r lt = (rw (eq-eqb f f refl, eqb_no r (suc n) (λ e. omega (arith, lt, e))) refl, part_of_absent f n r (omega (arith, lt)))
+  part_of_absent f (suc n) r lt = (rw (eq-eqb f f refl, eq_false r (suc n) (λ e. omega (arith, lt, e))) refl, part_of_absent f n r (omega (arith, lt)))
 
   part_of_none : (f n : ℕ) → AllOf (λ l. same_kind (Lacks f 0) l ≡ false) (function_parts f n)
   part_of_none f zero = tt
-  part_of_none f (suc n) = (rw (eq-eqb f f refl, eqb_no 0 (suc n) (λ e. omega (arith, e))) refl, part_of_none f n)
+  part_of_none f (suc n) = (rw (eq-eqb f f refl, eq_false 0 (suc n) (λ e. omega (arith, e))) refl, part_of_none f n)
 
   part_at : (fs : List Function) (first k f r start n : ℕ) → slice_get (starts first (params_each fs)) f ≡ Some start → slice_get (params_each fs) f ≡ Some n → r < n
       → first + first_place (same_kind (Lacks (k + f) (suc r))) (parts fs k) ≡ start + (n - suc r)
@@ -408,7 +396,7 @@ module _ (p : Program) where
     where
       first : (b : Bool) → nat_eq f g ≡ b → AllOf (λ l. same_kind (Lacks f missing) l ≡ false) (function_parts g x.params)
       first true e = let i = eqb-true f g e in subst (λ k. AllOf (λ l. same_kind (Lacks f missing) l ≡ false) (function_parts k x.params)) i (h 0 x.params (omega (arith, i)) refl)
-      first false e = other_function f missing g x.params (λ i. true_not_false (nat_eq f g) (eq-eqb f g i) e)
+      first false e = other_function f missing g x.params (λ i. not_both (nat_eq f g) (eq-eqb f g i) e)
 
   lacks_absent : (f missing : ℕ) → AllOf (λ l. same_kind (Lacks f missing) l ≡ false) (parts p.funs 0) → length (kinds p) ≡ (tag p (Lacks f missing)).0
   unfolding kinds

@@ -2,16 +2,18 @@
 use Rattle.std.proofs.Common.{◌≡◌, ◌≢◌, ℕ, zero, suc, ◌+◌, ◌≤◌, ◌<◌, max, Bool, true, false, cond, not, nat_eq, List, [], ◌∷◌, ◌++◌, map, length, Some, None, slice_get, refl, sym, ap, ◌∙◌, subst, arith, eqb-true, length-append}
 use Rattle.std.specs.Prelude.{codes}
 use Rattle.std.proofs.lemmas.Bool.{eq-eqb}
+use Rattle.seq.proofs.Order.{eq_false}
+use Rattle.seq.proofs.Truth.{not_both}
 use Rattle.numbers.specs.Numbers.{low_byte}
 use Rattle.arity_check.specs.Program.{Program, Function}
 use Rattle.core_meaning.specs.Heap.{Value, Int, Con, Part, Waiting, Call, Input, Global, Heap}
 use Rattle.core_meaning.specs.Evaluation as core'
-use Rattle.core_meaning.specs.Evaluation.{State, Gives, Onward, append, force, nil, cons, spend, spend_of, params, global, globals, within, start}
+use Rattle.core_meaning.specs.Evaluation.{State, append, force, nil, cons, spend, spend_of, params, global, globals, within, start}
 use Rattle.core_meaning.specs.Printing as printing
 use Rattle.core_meaning.specs.Printing.{Printed, Done, Unaccepted, Going, on_value, on_list, on_byte, print, printed, printed_from_input}
-use Rattle.grin_meaning.specs.Values.{fits, fits_not, fields_fit, Datum, number, cell, Node, node, words, World, Env, HeapCell, with_vars, one_each, need, then_do, gives, stops, no_alternative, out_of_units}
+use Rattle.grin_meaning.specs.Values.{fits, fits_not, fields_fit, cell, node, words, World, Env, with_vars, one_each, need, then_do, gives, stops, no_alternative, out_of_units}
 use Rattle.grin_meaning.specs.Values as grin
-use Rattle.grin_meaning.specs.Run.{Calls, choose, act, code, arms, calls, run, passing, spent, written, eval_cell, global_cells as cells_at_start, start_world}
+use Rattle.grin_meaning.specs.Run.{choose, act, code, arms, calls, run, passing, spent, written, start_world}
 use Rattle.grin_meaning.specs.Run as run'
 use Rattle.grin_meaning.specs.Keeps.{end_of, world_of}
 use Rattle.grin_translate.specs.declared.tags.Delay.{Delay}
@@ -24,11 +26,9 @@ use Rattle.grin_translate.specs.Translation.{tr, procedure, delayed_procs, span,
 use Rattle.grin_translate.specs.Translation as translation
 use Rattle.grin_translate.specs.WellFormed.{WellFormed, HasFields}
 use Rattle.grin_translate.specs.Same.{TranslationDoesAs, end_as}
-use Rattle.grin_translate.proofs.Places.{true_not_false}
 use Rattle.grin_translate.proofs.Found.{has_number, has_constructor, has_reads, tags_tell}
 use Rattle.grin_translate.proofs.Alike.{value_kind, value_node, IsValue, Heaps, heaps_long, Alike, alike_passing, alike_append, Match, both_give, none_accepts, both_go}
 use Rattle.grin_translate.proofs.Forcing.{kind_there, value_made, delayed_made, force_match, params_are}
-use Rattle.grin_translate.proofs.Scoping.{eqb_no}
 use Rattle.core_meaning.proofs.Shared.{global_below}
 use Rattle.grin_translate.proofs.Expressions.{same_fields}
 use Rattle.grin_translate.proofs.Called.{alike_spent, calls_match}
@@ -42,12 +42,12 @@ pub record Agrees (r : Printed) (a : grin.Answer) : Type 0 where
   pub depth : (world_of a).depth ≡ r.depth
 
 agrees_else : (b : Bool) (x y : Printed) (a : grin.Answer) → b ≡ false → Agrees y a → Agrees (elim b [ true ↦ x | false ↦ y ]) a
-agrees_else true x y a e h = true_not_false true refl e
+agrees_else true x y a e h = not_both true refl e
 agrees_else false x y a e h = h
 
 agrees_if : (b : Bool) (x y : Printed) (a : grin.Answer) → b ≡ true → Agrees x a → Agrees (elim b [ true ↦ x | false ↦ y ]) a
 agrees_if true x y a e h = h
-agrees_if false x y a e h = true_not_false false e refl
+agrees_if false x y a e h = not_both false e refl
 
 module _ (p : Program) where
   agrees_done : (out : List ℕ) (s : State) (w : World) (v : grin.Value) → Alike p out s w → Agrees (printing.stops out Done s) (gives v w)
@@ -97,7 +97,7 @@ module _ (p : Program) where
     unfolding act
     head_match b n genv u out tl (Int k) s w al g at tail h =
         let ne : (temp p b 2).0 ≢ (temp p b 4).0 = λ e. omega (arith, e) in
-        rw (at, tags_tell p Number Number (has_number p) (has_number p), eq-eqb (temp p b 4).0 (temp p b 4).0 refl, eqb_no (temp p b 2).0 (temp p b 4).0 ne, tail)
+        rw (at, tags_tell p Number Number (has_number p) (has_number p), eq-eqb (temp p b 4).0 (temp p b 4).0 refl, eq_false (temp p b 2).0 (temp p b 4).0 ne, tail)
         (h (out ++ low_byte k ∷ []) _ (record { heaps = al.heaps; room = al.room; left = al.left; depth = al.depth; input = al.input; used = al.used; written = ap (λ xs. xs ++ low_byte k ∷ []) al.written }))
     head_match b n genv u out tl (Con x xs) s w al g at tail h = rw (at, tags_tell p (Constructor x) Number (kind_there p (length s.heap) (Con x xs) g) (has_number p)) (agrees_unaccepted out s _ (alike_passing p out s w genv al))
     head_match b n genv u out tl (Part f xs) s w al g at tail h = rw (at, tags_tell p (value_kind p (Part f xs)) Number (kind_there p (length s.heap) (Part f xs) g) (has_number p)) (agrees_unaccepted out s _ (alike_passing p out s w genv al))
@@ -120,7 +120,7 @@ module _ (p : Program) where
         let genv' : Env = with_vars (((temp p b 3).0, node (value_node p v)) ∷ []) genv in
         let itself : genv' (temp p b 3).0 ≡ Some (node (value_node p v)) = rw (eq-eqb (temp p b 3).0 (temp p b 3).0 refl) refl in
         let ne : (temp p b 2).0 ≢ (temp p b 3).0 = λ e. omega (arith, e) in
-        let other : genv' (temp p b 2).0 ≡ Some (words (cell tl ∷ [])) = rw (eqb_no (temp p b 2).0 (temp p b 3).0 ne) at' in
+        let other : genv' (temp p b 2).0 ≡ Some (words (cell tl ∷ [])) = rw (eq_false (temp p b 2).0 (temp p b 3).0 ne) at' in
         head_match b n genv' [] out tl v s' (passing genv' w') (alike_passing p out s' w' genv' al') g itself other (λ out w al. next tl out s' w al (omega (arith, le, lt')))))
 
     fields_as : (x k n : ℕ) (xs : List ℕ) (s : State) → IsValue p (length s.heap) (Con x xs) → nat_eq x k ≡ true → HasFields p k n → length xs ≡ n
@@ -146,7 +146,7 @@ module _ (p : Program) where
     cons_match b n genv out x (h ∷ tl ∷ []) s w al g false true e f next =
         let genv' : Env = with_vars (((temp p b 1).0, words (cell h ∷ [])) ∷ (((temp p b 2).0, words (cell tl ∷ [])) ∷ [])) genv in
         let ne : (temp p b 1).0 ≢ (temp p b 2).0 = λ e. omega (arith, e) in
-        let at : genv' (temp p b 1).0 ≡ Some (words (cell h ∷ [])) = rw (eqb_no (temp p b 1).0 (temp p b 2).0 ne, eq-eqb (temp p b 1).0 (temp p b 1).0 refl) refl in
+        let at : genv' (temp p b 1).0 ≡ Some (words (cell h ∷ [])) = rw (eq_false (temp p b 1).0 (temp p b 2).0 ne, eq-eqb (temp p b 1).0 (temp p b 1).0 refl) refl in
         let at' : genv' (temp p b 2).0 ≡ Some (words (cell tl ∷ [])) = rw (eq-eqb (temp p b 2).0 (temp p b 2).0 refl) refl in
         agrees_if (nat_eq x (cons p)) _ _ _ f (pair_match b n genv' out h tl s (passing genv' w) (alike_passing p out s w genv' al) g.1.0 g.1.1.0 at at' next)
     cons_match b n genv out x (h ∷ tl ∷ []) s w al g false false e f next = agrees_else (nat_eq x (cons p)) _ _ _ f (agrees_unaccepted out s _ (alike_passing p out s w genv al))
@@ -233,7 +233,7 @@ module _ (p : Program) where
         let long : length s'.heap ≡ suc (suc a) = omega (arith, length-append s.heap more) in
         let apart : (local p b 0).0 ≢ (local p b 1).0 = λ e. omega (arith, e) in
         let is_one : ok.main.0.params ≡ 1 = sym main_params ∙ one in
-        rw (heaps_long p (length s.heap) s.heap w.cells al.heaps, delayed_made p 0 Input (has_reads p reads), eqb_no (local p b 0).0 (local p b 1).0 apart, eq-eqb (local p b 0).0 (local p b 0).0 refl, delayed_made p (suc a) (Call p.main (a ∷ [])) ((ok.main.0, ok.main.1, is_one), (omega arith, tt)), eq-eqb (local p b 1).0 (local p b 1).0 refl)
+        rw (heaps_long p (length s.heap) s.heap w.cells al.heaps, delayed_made p 0 Input (has_reads p reads), eq_false (local p b 0).0 (local p b 1).0 apart, eq-eqb (local p b 0).0 (local p b 0).0 refl, delayed_made p (suc a) (Call p.main (a ∷ [])) ((ok.main.0, ok.main.1, is_one), (omega arith, tt)), eq-eqb (local p b 1).0 (local p b 1).0 refl)
         (print_match ok n (suc a) [] s' _
         (alike_passing p [] s' _ _ (alike_append p [] s w more (record { site = (local p b 0).0; node = record { tag = (tag p (Waits Reads)).0; fields = [] } } ∷ (record { site = (local p b 1).0; node = record { tag = (tag p (Waits (CallsOf p.main))).0; fields = cell a ∷ [] } } ∷ [])) al
         (refl, has_reads p reads, (refl, ((ok.main.0, ok.main.1, is_one), (omega arith, tt)), tt)))) (omega (arith, long)))
@@ -266,7 +266,7 @@ module _ (p : Program) where
         let none : params p p.main ≡ 0 = eqb-true (params p p.main) 0 e in
         print_match ok n (global p p.main) [] (start p i n) (start_world (tr p) i n) (alike_start i n) (global_below p p.main (ok.main.0, ok.main.1, sym main_params ∙ none))
     run_match false e i n =
-        let some : params p p.main ≢ 0 = λ z. true_not_false _ (eq-eqb (params p p.main) 0 z) e in
+        let some : params p p.main ≢ 0 = λ z. not_both _ (eq-eqb (params p p.main) 0 z) e in
         let one : params p p.main ≡ 1 = omega (arith, some, ok.main.2, main_params) in
         from_input n i (takes_input_is ∙ ap not e) one
 

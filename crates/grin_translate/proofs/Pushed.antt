@@ -1,15 +1,16 @@
 -- Blocks and cases that grow by one piece.
-use Rattle.std.proofs.Common.{◌≡◌, ℤ, Bool, true, false, cond, Option, ℕ, zero, suc, ◌+◌, ◌<◌, ◌≤◌, List, [], ◌∷◌, ◌++◌, map, drop, length, get_or, refl, sym, ap, ◌∙◌, arith, Some, None, slice_get}
+use Rattle.std.proofs.Common.{◌≡◌, ℤ, Bool, true, false, cond, Option, ℕ, suc, ◌+◌, ◌<◌, ◌≤◌, List, [], ◌∷◌, ◌++◌, map, drop, length, get_or, refl, sym, ap, ◌∙◌, arith, Some, None, slice_get}
 use Rattle.std.proofs.Math.Seq.{drop-cons}
 use Rattle.std.proofs.lemmas.List.{map-append}
 use Rattle.std.proofs.lemmas.Option.{same_Some, none-some}
+use Rattle.seq.proofs.Lists.{drop_past}
 use Rattle.arity_check.specs.declared.normal.PrimOp.{PrimOp}
 use Rattle.arity_check.specs.declared.normal.Var as core
 use Rattle.arity_check.specs.declared.normal.Bound.{Bound}
 use Rattle.arity_check.specs.declared.normal.Body.{Body}
 use Rattle.arity_check.specs.declared.normal.Branch.{Branch}
 use Rattle.arity_check.specs.declared.normal.Branch.TheVariants as branch'
-use Rattle.arity_check.specs.Program.{Program, Term, Branches, NoMore, term, branch, branches_of}
+use Rattle.arity_check.specs.Program.{Program, Term, Branches, term, branch, branches_of}
 use Rattle.arity_check.specs.Program as normal
 use Rattle.grin_syntax.specs.declared.program.VarId.{VarId}
 use Rattle.grin_syntax.specs.declared.program.Cell.{Cell}
@@ -36,9 +37,6 @@ use Rattle.grin_translate.proofs.TermOf.{branch-Con, branch-Int, branch-Default}
 
 pub at_item : {A : Type 0} (xs : List A) (i : ℕ) (x : A) → i < length xs → x ≡ get_or xs i x → drop i xs ≡ x ∷ drop (i + 1) xs
 at_item xs i x lt is = let e : suc i ≡ i + 1 = omega arith in drop-cons xs i x lt ∙ ap (λ y. y ∷ drop (suc i) xs) (sym is) ∙ ap (λ k. x ∷ drop k xs) e
-
-pub at_copy : {A : Type 0} (xs : List A) (i : ℕ) (d : A) → i < length xs → drop i xs ≡ get_or xs i d ∷ drop (i + 1) xs
-at_copy xs i d lt = let e : suc i ≡ i + 1 = omega arith in drop-cons xs i d lt ∙ ap (λ k. get_or xs i d ∷ drop k xs) e
 
 pub statement_pushed : (ss : List Stmt) (s : Stmt) (c : Code) → all_before (map before_of (ss ++ s ∷ [])) c ≡ all_before (map before_of ss) (before_of s c)
 statement_pushed [] s c = refl
@@ -72,12 +70,6 @@ store_block b cells e = ap as_act (code_of-parts b) ∙ nested_store b.stmts cel
 
 pub bind_block : (b : Block) (t : Target) (o : Op) → slice_get b.stmts 0 ≡ Some (Bind t o) → as_act (code_of b) ≡ nested (code_of b)
 bind_block b t o e = ap as_act (code_of-parts b) ∙ nested_bind b.stmts t o (end (act_of b.last.value)) e ∙ ap nested (sym (code_of-parts b))
-
-pub drop_all : {A : Type 0} (xs : List A) (i : ℕ) → length xs ≤ i → drop i xs ≡ []
-drop_all [] zero le = refl
-drop_all [] (suc i) le = refl
-drop_all (x ∷ xs) zero le = absurd (omega (arith, le))
-drop_all (x ∷ xs) (suc i) le = drop_all xs i (omega (arith, le))
 
 -- ---- alternatives
 
@@ -226,5 +218,5 @@ module _ (p : Program) (base : ℕ) where
   all_made alts pushed a bs i t v whole e le f w =
       sym (onto_none (map arm_of pushed)) ∙ one_more alts pushed a no_arm e
       ∙ (λ z. arms_onto (map arm_of alts) (arm (f z).0 (f z).1 no_arm))
-      ∙ ap (λ xs. arms_onto (map arm_of alts) (arms p base v t (branches_of (map branch xs)))) (sym (drop_all bs i le))
+      ∙ ap (λ xs. arms_onto (map arm_of alts) (arms p base v t (branches_of (map branch xs)))) (sym (drop_past bs i le))
       ∙ w

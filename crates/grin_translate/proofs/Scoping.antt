@@ -1,9 +1,10 @@
 -- The variables of a block stand for what the locals of its expression do.
-use Rattle.std.proofs.Common.{◌≡◌, ◌≢◌, ℕ, zero, suc, ◌+◌, ◌*◌, ◌≤◌, ◌<◌, Bool, true, false, cond, nat_eq, List, [], ◌∷◌, ◌++◌, map, take, length, Some, slice_get, refl, sym, ap, ◌∙◌, arith, eqb-true, fold}
-use Rattle.std.specs.List.{count_by}
+use Rattle.std.proofs.Common.{◌≡◌, ◌≢◌, ℕ, suc, ◌+◌, ◌*◌, ◌≤◌, ◌<◌, Bool, true, false, cond, nat_eq, List, [], ◌∷◌, ◌++◌, map, length, Some, refl, sym, ap, ◌∙◌, arith, eqb-true}
 use Rattle.std.proofs.lemmas.Bool.{eq-eqb}
 use Rattle.std.proofs.lemmas.List.{length-map}
-use Rattle.std.proofs.lemmas.Option.{same_Some, none-some}
+use Rattle.seq.proofs.Order.{eq_false}
+use Rattle.seq.proofs.Lists.{some_at}
+use Rattle.seq.proofs.Truth.{not_both}
 use mathlib.Core.Logic.{◌⊎◌, inl, inr}
 use Rattle.arity_check.specs.declared.normal.Var.{Var}
 use Rattle.arity_check.specs.declared.normal.Var.TheVariants.{Local, Global}
@@ -12,10 +13,10 @@ use Rattle.arity_check.specs.declared.normal.Flat.{Flat}
 use Rattle.arity_check.specs.declared.normal.Flat.TheVariants as flat
 use Rattle.arity_check.specs.Program.{Program, Function}
 use Rattle.core_meaning.specs.Heap as core
-use Rattle.core_meaning.specs.Heap.{Binding, Heap, with_local, with_locals}
+use Rattle.core_meaning.specs.Heap.{Binding, with_local, with_locals}
 use Rattle.core_meaning.proofs.Shared.{global_below}
 use Rattle.core_meaning.specs.Evaluation.{global, globals, name, names, binding, with_group}
-use Rattle.grin_meaning.specs.Values.{Datum, number, cell, Node, node, words, Env, HeapCell, with_vars, one_each, word_of, words_of, value_of, node_of}
+use Rattle.grin_meaning.specs.Values.{cell, node, words, Env, HeapCell, with_vars, one_each, word_of, words_of, value_of}
 use Rattle.grin_meaning.specs.Values as grin
 use Rattle.grin_meaning.specs.Run.{places, cells_of}
 use Rattle.grin_translate.specs.declared.tags.Delay.{Delay}
@@ -25,23 +26,11 @@ use Rattle.grin_translate.specs.Tags.{binds, is_delayed, tag}
 use Rattle.grin_translate.specs.Blocks.{local, temp, word, cell_of}
 use Rattle.grin_translate.specs.Blocks as blocks
 use Rattle.grin_translate.specs.Translation.{tr, global_cells}
-use Rattle.grin_translate.specs.WellFormed.{AllOf, InLocals, InGroup, HasParams, VarOk, FormOk}
-use Rattle.grin_translate.proofs.Places.{Has, true_not_false}
+use Rattle.grin_translate.specs.WellFormed.{AllOf, InLocals, InGroup, VarOk, FormOk}
+use Rattle.grin_translate.proofs.Places.{Has}
 use Rattle.grin_translate.proofs.Found.{has_applies, has_operates, delay_itself}
 use Rattle.grin_translate.proofs.Alike.{binding_node, Names, IsBinding, Heaps, shared}
 use Rattle.grin_translate.proofs.Forcing.{binding_made}
-
-pub eqb_no : (a b : ℕ) → a ≢ b → nat_eq a b ≡ false
-eqb_no a b ne = by_test (nat_eq a b) refl
-  where
-    by_test : (x : Bool) → nat_eq a b ≡ x → x ≡ false
-    by_test true e = absurd (ne (eqb-true a b e))
-    by_test false e = refl
-
-something_at : {A : Type 0} (xs : List A) (i : ℕ) → i < length xs → (x : A) × (slice_get xs i ≡ Some x)
-something_at [] i lt = absurd (omega (arith, lt))
-something_at (x ∷ xs) zero lt = (x, refl)
-something_at (x ∷ xs) (suc i) lt = something_at xs i (omega (arith, lt))
 
 module _ (p : Program) where
   -- ---- the shared bindings of the functions without parameters
@@ -61,14 +50,14 @@ module _ (p : Program) where
     -- ---- variables
 
     pub temp_no_local : (x t : ℕ) → nat_eq (base + 2 * x) (base + 2 * t + 1) ≡ false
-    temp_no_local x t = let ne : base + 2 * x ≢ base + 2 * t + 1 = λ e. omega (arith, e) in eqb_no _ _ ne
+    temp_no_local x t = let ne : base + 2 * x ≢ base + 2 * t + 1 = λ e. omega (arith, e) in eq_false _ _ ne
 
     pub locals_tell : (x y : ℕ) → nat_eq (base + 2 * x) (base + 2 * y) ≡ nat_eq x y
     locals_tell x y = by_test (nat_eq x y) refl
       where
         by_test : (b : Bool) → nat_eq x y ≡ b → nat_eq (base + 2 * x) (base + 2 * y) ≡ b
         by_test true e = eq-eqb _ _ (ap (λ z. base + 2 * z) (eqb-true x y e))
-        by_test false e = eqb_no _ _ (λ q. let i : x ≡ y = omega (arith, q) in true_not_false _ (eq-eqb x y i) e)
+        by_test false e = eq_false _ _ (λ q. let i : x ≡ y = omega (arith, q) in not_both _ (eq-eqb x y i) e)
 
     -- the locals in S have names below n, and their variables stand for these
     pub record Knows (S : ℕ → Type 0) (n : ℕ) (env : core.Env) (genv : Env) : Type 0 where
@@ -94,12 +83,12 @@ module _ (p : Program) where
         is_below : (y : ℕ) (b : Bool) → nat_eq y x ≡ b → S y ⊎ (y ≡ x) → cond b a (env y) < n
         is_below y true e h = lt
         is_below y false e (inl s) = k.below y s
-        is_below y false e (inr q) = true_not_false _ (eq-eqb y x q) e
+        is_below y false e (inr q) = not_both _ (eq-eqb y x q) e
 
         is_bound : (y : ℕ) (b : Bool) → nat_eq y x ≡ b → S y ⊎ (y ≡ x) → cond b (Some (words (cell a ∷ []))) (genv (local p base y).0) ≡ Some (words (cell (cond b a (env y)) ∷ []))
         is_bound y true e h = refl
         is_bound y false e (inl s) = k.bound y s
-        is_bound y false e (inr q) = true_not_false _ (eq-eqb y x q) e
+        is_bound y false e (inr q) = not_both _ (eq-eqb y x q) e
 
     pub knows_group : (group : List Bound) (S : ℕ → Type 0) (n a : ℕ) (env : core.Env) (genv : Env) → a + length group ≤ n → Knows S n env genv
         → Knows (λ x. S x ⊎ InGroup group x) n (with_group p env group a) (with_vars (places a (map (cell_of p base) group)) genv)
@@ -147,7 +136,7 @@ module _ (p : Program) where
     module _ (S : ℕ → Type 0) (n : ℕ) (env : core.Env) (genv : Env) (k : Knows S n env genv) (room : shared p ≤ n) where
       pub word_known : (x : Var) → VarOk p S x → word_of (tr p) genv (word p base x) ≡ Some (cell (name p env x))
       word_known (Local x) h = rw (k.bound x h) refl
-      word_known (Global f) h = let there = something_at (tr p).globals (global p f) (omega (arith, global_below p f h, as_many)) in rw there.1 refl
+      word_known (Global f) h = let there = some_at (tr p).globals (global p f) (omega (arith, global_below p f h, as_many)) in rw there.1 refl
 
       pub name_below : (x : Var) → VarOk p S x → name p env x < n
       name_below (Local x) h = k.below x h

@@ -2,6 +2,7 @@
 use Rattle.std.proofs.Common.{◌≡◌, ℕ, zero, suc, ◌<◌, ◌≤◌, ◌+◌, Bool, true, false, cond, List, [], ◌∷◌, Option, Some, None, slice_get, refl, sym, ap, ◌∙◌, subst, arith}
 use Rattle.std.specs.Prelude.{nat_eq}
 use Rattle.std.proofs.lemmas.Bool.Decides.{nat_tests}
+use Rattle.seq.proofs.Order.{eq_self}
 use Rattle.grin_syntax.specs.declared.program.ProcId.{ProcId}
 use Rattle.grin_syntax.specs.declared.program.Tag.{Tag}
 use Rattle.grin_syntax.specs.declared.program.Target.{Target}
@@ -17,12 +18,9 @@ use Rattle.eval_inline.specs.Inlining.{call_body, eval_body, eval_arms, evaluati
 use Rattle.inlined_form.proofs.Sorts.{Sort, anything, a_node, evaluated, Sorts, nothing_known, sorted, vars_sorted, cells_sorted, target_sorted, sort_of, IsNode, TargetFits, ScrutineeFits, delayed, alternative_sorted, ActFits, CodeFits, ArmsFit, ProcedureFits, ProgramFits}
 use Rattle.inlined_form.proofs.MoreSorts.{KnowsNoMore, knows_self, knows_cells, knows_target, knows_alternative, kept_known, all_known, scrutinee_known, given_known, fresh_known, Unknown, unknown_vars, unknown_cells, unknown_target, unknown_alternative}
 
-itself : (x : ℕ) → nat_eq x x ≡ true
-itself x = grind (arith, nat_tests)
-
 -- what is known of a variable
 pub has_sort : (x : ℕ) (s : Sort) (Γ : Sorts) → sorted x s Γ x ≡ s
-has_sort x s Γ = ap (λ b. cond b s (Γ x)) (itself x)
+has_sort x s Γ = ap (λ b. cond b s (Γ x)) (eq_self x)
 
 -- of a variable below some as much is known as before them
 variables_above : (y k n : ℕ) (Γ : Sorts) → n < y → vars_sorted (variables y k) Γ n ≡ Γ n

@@ -1,6 +1,7 @@
 -- How much larger a program becomes when its evaluations and its applications are inlined.
 use Rattle.std.proofs.Common.{◌≡◌, ℕ, zero, suc, ◌≤◌, ◌+◌, ◌*◌, Bool, true, false, cond, List, [], ◌∷◌, ◌++◌, map, length, length-append, Option, Some, None, slice_get, refl, arith}
 use Rattle.std.proofs.Math.Nat.{mul-add, add-mul}
+use Rattle.seq.proofs.Order.{more_times}
 use Rattle.grin_syntax.specs.declared.program.ProcId.{ProcId}
 use Rattle.grin_syntax.specs.declared.program.Tag.{Tag}
 use Rattle.grin_syntax.specs.declared.program.Target.{Target}
@@ -22,11 +23,6 @@ use Rattle.apply_inline.specs.Inlining.{with_one_more, apply_body, part_body, ap
 -- so much for each of a number of things
 pub one_more : (n m : ℕ) → suc n * m ≡ m + n * m
 one_more n m = let e : suc n ≡ n + 1 = omega arith in rw (e, add-mul n 1 m) (omega arith)
-
-pub more_times : (n k m : ℕ) → n ≤ k → n * m ≤ k * m
-more_times zero k m le = omega arith
-more_times (suc n) zero m le = absurd (omega (arith, le))
-more_times (suc n) (suc k) m le = omega (arith, one_more n m, one_more k m, more_times n k m (omega (arith, le)))
 
 pub both_grow : (g a b a' b' : ℕ) → a' ≤ g * a → b' ≤ g * b → a' + b' ≤ g * (a + b)
 both_grow g a b a' b' la lb = omega (arith, mul-add g a b)

@@ -4,6 +4,7 @@ use Rattle.std.specs.Prelude.{All, sum_by}
 use Rattle.std.proofs.lemmas.List.{length-map}
 use Rattle.std.proofs.lemmas.List.Elements.{All-head, All-tail}
 use Rattle.std.proofs.lemmas.List.Sums.{sum_by-cons, length-filter, count_by-le-length}
+use Rattle.seq.proofs.Lists.{all_filter, all_append}
 use Rattle.core_reader.specs.Tree as tree
 use Rattle.core_reader.specs.Size.{function_size}
 use Rattle.core_reader.specs.Readable.{ReadableFunction}
@@ -19,9 +20,9 @@ use Rattle.grin_translate.specs.declared.tags.Delay.{Delay}
 use Rattle.grin_translate.specs.declared.tags.Delay.TheVariants.{Calls, Applies, Operates, Reads}
 use Rattle.grin_translate.specs.Tags.{operations, numbers_from, is_delayed, takes_input, delays, delay_name, delay_params}
 use Rattle.grin_translate.specs.Translation.{procedure, fun_body, delay_body, input_body, print_body, start_body, span, delayed_procs, rest, print_procs, tr}
-use Rattle.grin_translate.proofs.Places.{all_append, all_map}
+use Rattle.grin_translate.proofs.Places.{all_map}
 use Rattle.grin_translate.proofs.Lookups.{length-numbers_from}
-use Rattle.translated_form.proofs.Lists.{all_filter, all_if, all_numbers, all_mapped}
+use Rattle.translated_form.proofs.Lists.{all_if, all_numbers, all_mapped}
 use Rattle.inlined_form.proofs.BlockSizes.{form_size, block_size}
 
 total_append : (qs rs : List Procedure) → total procedure_size (qs ++ rs) ≡ total procedure_size qs + total procedure_size rs

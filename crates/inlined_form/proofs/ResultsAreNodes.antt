@@ -2,6 +2,7 @@
 use Rattle.std.proofs.Common.{◌≡◌, ℕ, zero, suc, Bool, true, false, cond, List, [], ◌∷◌, map, length, Option, Some, None, slice_get, slice_set, refl, sym, ap, ◌∙◌, subst, arith}
 use Rattle.std.specs.Prelude.{IfSome, nat_eq}
 use Rattle.std.proofs.lemmas.Bool.Decides.{nat_tests}
+use Rattle.seq.proofs.Lists.{all_append}
 use Rattle.numbers.specs.Numbers.{same_number}
 use Rattle.grin_syntax.specs.declared.program.VarId.{VarId}
 use Rattle.grin_syntax.specs.declared.program.PrimOp.{PrimOp}
@@ -20,7 +21,6 @@ use Rattle.grin_syntax.specs.Formed.{AllOf}
 use Rattle.grin_meaning.specs.Values.{Datum, number, tag, cell, Node, Value, node, words, Env, HeapCell, World, Answer, gives, stops, then_do, need, and_then, Binding, with_vars, one_each, Fit, fits, fits_not, unclear, fit_of, fits_if, fields_fit, node_fit, number_fit, only_word, fields_of, made_node, as_node, word_of, words_of, value_of, node_of, bindings_of}
 use Rattle.grin_meaning.specs.Run.{Calls, act, code, arms, calls, choose, spend, spent, passing, places, cells_of, with_cells, place_of, number_of, on_numbers, byte_or_end, after_read, start_world}
 use Rattle.flow_system.proofs.Lying.{from_some, if_map, if_then, if_is}
-use Rattle.grin_translate.proofs.Places.{all_append}
 use Rattle.inlined_form.proofs.Sorts.{Sort, anything, a_number, a_node, evaluated, Sorts, nothing_known, sorted, vars_sorted, cells_sorted, target_sorted, sort_of, IsNode, TargetFits, IsNumber, WordsFit, KeptFits, ScrutineeFits, delayed, GivenFits, alternative_sorted, ActFits, CodeFits, ArmsFit, ProcedureFits}
 
 -- ---- lists

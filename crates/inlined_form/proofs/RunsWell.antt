@@ -1,5 +1,6 @@
 -- Whatever a run of such a program comes to is a piece of its text that fits what the variables stand for.
 use Rattle.std.proofs.Common.{◌≡◌, ℕ, suc, true, false, List, [], ◌∷◌, length, Some, None, slice_get, refl, sym, ap, ◌∙◌, subst}
+use Rattle.seq.proofs.Lists.{all_append}
 use Rattle.grin_syntax.specs.declared.program.VarId.{VarId}
 use Rattle.grin_syntax.specs.declared.program.TagKind.{TagKind}
 use Rattle.grin_syntax.specs.declared.program.TagKind.TheVariants as kind
@@ -17,7 +18,6 @@ use Rattle.grin_meaning.specs.Run.{act, calls, places, cells_of, passing, with_c
 use Rattle.grin_meaning.specs.Reached.{Called, begins, by_call, Runs, entered, stored, bound, within, chosen, Does, first, last, Tries, of_case, next}
 use Rattle.grin_meaning.specs.Ready.{IsDelayed, NumberThenZeros, Given, ValFilled, HasBlock, NotFetch, RunsWell}
 use Rattle.flow_system.proofs.Lying.{from_some}
-use Rattle.grin_translate.proofs.Places.{all_append}
 use Rattle.inlined_form.proofs.Sorts.{Sort, evaluated, Sorts, nothing_known, vars_sorted, cells_sorted, target_sorted, sort_of, IsNode, KeptFits, delayed, GivenFits, alternative_sorted, ActFits, CodeFits, ArmsFit, ProcedureFits, ProgramFits}
 use Rattle.inlined_form.proofs.ResultsAreNodes.{all_get, OneNumber, PlainCell, HasSort, Fine, Fits, words_more, places_more, all_kept, GivesSort, target_more, IsOn, FitGoes, pattern_more, scrutinee, act_goes, calls_go, start_fine}
 

@@ -1,7 +1,8 @@
 -- The size of an inlined program is a number of 64 bits.
-use Rattle.std.proofs.Common.{◌≡◌, ◌<◌, ◌≤◌, ℕ, zero, suc, ◌+◌, ◌*◌, Bool, true, false, nat_lt, List, [], ◌∷◌, ◌++◌, map, length, length-append, refl, arith}
-use Rattle.std.proofs.lemmas.Bool.{ltb-true, ltb-false}
+use Rattle.std.proofs.Common.{◌≡◌, ◌≤◌, ℕ, zero, suc, ◌+◌, ◌*◌, List, [], ◌∷◌, ◌++◌, map, length, length-append, refl, arith}
 use Rattle.std.proofs.lemmas.List.{length-map}
+use Rattle.seq.proofs.Order.{not_below, more_times}
+use Rattle.seq.proofs.Lists.{some_at}
 use Rattle.core_reader.specs.Size.{program_size}
 use Rattle.arity_check.specs.Broken.{TooManyFunctions, TooManyConstructors, CoreTooLarge}
 use Rattle.arity_check.specs.Normal.{Pairwise}
@@ -14,19 +15,11 @@ use Rattle.grin_translate.specs.declared.tags.Delay.TheVariants.{Calls}
 use Rattle.grin_translate.specs.Tags.{numbers_from, delays, kinds, parts, function_parts, tag_of}
 use Rattle.grin_translate.specs.Translation.{tr}
 use Rattle.grin_translate.proofs.Lookups.{length-numbers_from}
-use Rattle.translated_form.proofs.Lists.{item_at}
 use Rattle.translated_form.proofs.Limits.{Limited, valid_is_limited}
 use Rattle.translated_form.proofs.Bounds.{valid_few_words}
 use Rattle.inlined_form.specs.Laws.{InlinedSizesFit}
-use Rattle.inlined_form.proofs.Growth.{growth, more_times, inlined_grows}
+use Rattle.inlined_form.proofs.Growth.{growth, inlined_grows}
 use Rattle.inlined_form.proofs.ProgramSizes.{others, few_others, translated_size}
-
-at_most : (n k : ℕ) → (n < k → ⊥) → k ≤ n
-at_most n k h = on (nat_lt n k) refl
-  where
-    on : (b : Bool) → nat_lt n k ≡ b → k ≤ n
-    on true e = absurd (h (ltb-true n k e))
-    on false e = ltb-false n k e
 
 paired_length : {X Y : Type 0} (R : X → Y → Type 0) (xs : List X) (ys : List Y) → Pairwise R xs ys → length xs ≡ length ys
 paired_length R [] [] w = refl
@@ -67,9 +60,9 @@ pub sizes_fit : InlinedSizesFit
 sizes_fit q valid A =
     let t = valid.program in
     let limited : Limited q = valid_is_limited q valid in
-    let funs : length t.functions ≤ 4096 = at_most 4096 (length t.functions) (λ lt. let f = item_at t.functions 4096 lt in valid.unbroken 31 _ (TooManyFunctions f.1)) in
-    let cons : length t.constructors ≤ 1024 = at_most 1024 (length t.constructors) (λ lt. let d = item_at t.constructors 1024 lt in valid.unbroken 32 _ (TooManyConstructors d.1)) in
-    let text : program_size t ≤ 16384 = at_most 16384 (program_size t) (λ lt. valid.unbroken 35 _ (CoreTooLarge lt)) in
+    let funs : length t.functions ≤ 4096 = not_below 4096 (length t.functions) (λ lt. let f = some_at t.functions 4096 lt in valid.unbroken 31 _ (TooManyFunctions f.1)) in
+    let cons : length t.constructors ≤ 1024 = not_below 1024 (length t.constructors) (λ lt. let d = some_at t.constructors 1024 lt in valid.unbroken 32 _ (TooManyConstructors d.1)) in
+    let text : program_size t ≤ 16384 = not_below 16384 (program_size t) (λ lt. valid.unbroken 35 _ (CoreTooLarge lt)) in
     let ts = (tr q).tags in
     let g : ℕ = growth ts in
     let s : ℕ = size (tr q) in

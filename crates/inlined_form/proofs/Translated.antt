@@ -1,6 +1,7 @@
 -- A translated program fits.
 use Rattle.std.proofs.Common.{◌≡◌, ℕ, suc, ◌+◌, ◌==◌, if◌then◌else◌, Bool, true, false, cond, nat_eq, List, [], ◌∷◌, ◌++◌, map, length, codes, Option, Some, None, slice_get, refl, sym, ap, ◌∙◌, subst, arith}
 use Rattle.std.proofs.lemmas.Bool.Decides.{nat_tests}
+use Rattle.seq.proofs.Lists.{all_append}
 use Rattle.arity_check.specs.declared.normal.Con as arity
 use Rattle.arity_check.specs.declared.normal.Var.TheVariants as var
 use Rattle.arity_check.specs.declared.normal.Bound.{Bound}
@@ -27,7 +28,6 @@ use Rattle.grin_translate.specs.Tags.{same_kind, first_place, con_tag, kinds, ta
 use Rattle.grin_translate.specs.Blocks.{operation, as_act, temps, local, temp, node, cell_of, give_block, apply_block, on_number, prim_block, form_block, block, arms, word}
 use Rattle.grin_translate.specs.Translation.{global_cells, procedure, fun_body, delay_body, input_body, write_block, pair_block, print_body, start_body, span, delayed_procs, rest, print_procs, tr}
 use Rattle.inlined_form.proofs.Sorts.{Sort, anything, a_number, evaluated, Sorts, nothing_known, sorted, IsNode, WordsFit, KeptFits, delayed, alternative_sorted, ActFits, CodeFits, ArmsFit, ProcedureFits, ProgramFits}
-use Rattle.grin_translate.proofs.Places.{all_append}
 use Rattle.inlined_form.proofs.Evaluations.{has_sort}
 use Rattle.inlined_form.proofs.Applications.{FirstIsNoPart}
 

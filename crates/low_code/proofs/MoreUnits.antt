@@ -1,18 +1,16 @@
 -- More units extend a run, and each entry costs one.
-use Rattle.std.proofs.Common.{◌≡◌, ℕ, ◌+◌, ◌-◌, true, false, length, refl, sym, ◌∙◌, subst, arith, zero-add}
+use Rattle.std.proofs.Common.{◌≡◌, ℕ, ◌+◌, ◌-◌, true, length, refl, sym, ◌∙◌, subst, arith, zero-add}
+use Rattle.seq.proofs.Truth.{true_not_false}
 use Rattle.low_code.specs.Values.{World, Room, Stop, no_alternative, out_of_units, missing, heap_full, stack_full, Answer, stops}
 use Rattle.low_code.specs.Run.{start_words, run_in, start_world, world_of}
 use Rattle.low_code.specs.Laws.{with_more, Extends, MoreUnitsExtend, OneEntryAUnit}
 use Rattle.low_code.proofs.Steady.{Grows, grows_same, units_more, Later, same_words, same_stop, goes_on, goes_past, within_counts, calls_sound, steady_run}
 
-true_is_not_false : true ≡ false → ⊥
-true_is_not_false h = cc
-
 only_units : (m : ℕ) (s : Stop) → goes_past (units_more m) s ≡ true → s ≡ out_of_units
-only_units m no_alternative h = absurd (true_is_not_false (sym h))
-only_units m missing h = absurd (true_is_not_false (sym h))
-only_units m heap_full h = absurd (true_is_not_false (sym h))
-only_units m stack_full h = absurd (true_is_not_false (sym h))
+only_units m no_alternative h = absurd (true_not_false (sym h))
+only_units m missing h = absurd (true_not_false (sym h))
+only_units m heap_full h = absurd (true_not_false (sym h))
+only_units m stack_full h = absurd (true_not_false (sym h))
 only_units m out_of_units h = refl
 
 extends_like : (m : ℕ) (s : Stop) (w : World) → Extends m (stops s w) (stops s (with_more m w))

@@ -1,6 +1,8 @@
 -- What is bound in a block: the words of a join, of a target and of new cells.
 use Rattle.std.proofs.Common.{◌≡◌, inl, inr, ◌≤◌, ◌<◌, ℕ, suc, ◌+◌, Bool, true, false, cond, List, [], ◌∷◌, ◌++◌, map, length, replicate, Option, Some, None, refl, sym, ap, ◌∙◌, subst, arith}
 use Rattle.std.proofs.lemmas.List.{length-map}
+use Rattle.seq.proofs.Lists.{map_append, all_append}
+use Rattle.seq.proofs.Order.{le_or_lt}
 use Rattle.grin_syntax.specs.declared.program.Cell as C
 use Rattle.grin_syntax.specs.declared.program.Target.{Target}
 use Rattle.grin_syntax.specs.Binders.{times, target_vars, cell_vars}
@@ -8,7 +10,7 @@ use Rattle.grin_syntax.specs.Formed.{AllOf}
 use Rattle.grin_syntax.specs.Tree as grin_tree
 use Rattle.grin_syntax.specs.Tree.{Act, Code, store}
 use Rattle.grin_meaning.specs.Values as grin
-use Rattle.grin_meaning.specs.Values.{cell, Value, words, HeapCell, Binding, with_vars, bindings_of}
+use Rattle.grin_meaning.specs.Values.{cell, Value, HeapCell, Binding, with_vars, bindings_of}
 use Rattle.grin_meaning.specs.Run as grin_run
 use Rattle.grin_meaning.specs.Run.{code_by, looking, passing, cells_of}
 use Rattle.grin_meaning.specs.Checks.{all_fill, is_bound_well}
@@ -25,7 +27,7 @@ use Rattle.low_translate.proofs.Operands.{bound, with_vars_bound, Agrees, agrees
 use Rattle.low_translate.proofs.Stored.{Placed, placed, stores_run, taken_run}
 use Rattle.low_translate.proofs.Bindings.{bindings_are, target_many, agrees_target}
 use Rattle.low_translate.proofs.Matches as m
-use Rattle.low_translate.proofs.Matches.{le_or, free, Match, missed, fails, ran_out, given}
+use Rattle.low_translate.proofs.Matches.{free, Match, missed, fails, ran_out, given}
 
 -- new cells stand for their places
 pub agrees_places : (first : ℕ) (cs : List C.Cell) (a : ℕ) (scope : List ℕ) (env : grin.Env) (e : low.Env) → AllOf (λ x. x < first) (cell_vars cs) → Agrees first scope env e
@@ -36,14 +38,6 @@ agrees_places first (c ∷ cs) a scope env e lt h =
   where
     inner : (y : ℕ) → 0 < times y (cell_vars cs ++ (c.var.0 ∷ scope)) → 0 < times y (c.var.0 ∷ (cell_vars cs ++ scope))
     inner y h = omega (arith, h, times_append y (cell_vars cs) (c.var.0 ∷ scope), times_append y (cell_vars cs) scope)
-
-map_append : {A B : Type 0} (f : A → B) (xs ys : List A) → map f (xs ++ ys) ≡ map f xs ++ map f ys
-map_append f [] ys = refl
-map_append f (x ∷ xs) ys = ap (λ l. f x ∷ l) (map_append f xs ys)
-
-all_both : {A : Type 0} (P : A → Type 0) (xs ys : List A) → AllOf P xs → AllOf P ys → AllOf P (xs ++ ys)
-all_both P [] ys h k = k
-all_both P (x ∷ xs) ys h k = (h.0, all_both P xs ys h.1 k)
 
 module _ (g : grin_tree.Program) (p : low_tree.Program) (fw : ℕ → ℕ) (most : ℕ) (rs : List ℕ) (first : ℕ) (same_globals : length p.globals ≡ length g.globals) (width : ℕ) (wide : width ≡ 1 + most_fields g.tags)
     (gcalls : grin_run.Calls) (lcalls : Calls) (top : ℕ) (under : Option ℕ) where
@@ -71,7 +65,7 @@ module _ (g : grin_tree.Program) (p : low_tree.Program) (fw : ℕ → ℕ) (most
     join_goes go skip _ _ missed = missed
     join_goes go skip _ _ (fails h) = fails h
     join_goes go skip _ _ (ran_out h) = ran_out h
-    join_goes go skip _ _ (given {v = v} {w = w} {a = a} sv sw reached) = elim (le_or (length (words_of_value v)) (length xs)) [
+    join_goes go skip _ _ (given {v = v} {w = w} {a = a} sv sw reached) = elim (le_or_lt (length (words_of_value v)) (length xs)) [
       | inl le ↦
           let q = reached le in
           let path : low.then_do a after_join ≡ does (bound xs (fit (length xs) (images (words_of_value v))) e) c (world_image width q.frames w) =
@@ -151,7 +145,7 @@ module _ (g : grin_tree.Program) (p : low_tree.Program) (fw : ℕ → ℕ) (most
           taken_step ∙ run.0 ∙ (λ i. does e' c (record (world_image width frames w) { cells = sym (map_append (λ c. cell_image width c.node) w.cells hs) i })) in
           subst (Matches P k (code_by g gcalls true env' d b next)) (sym path) (rest next (record {
             agrees = agrees';
-            sound = record { cells = all_both (λ c. SoundNode g c.node) w.cells hs h.sound.cells run.1; bytes = h.sound.bytes };
+            sound = record { cells = all_append (λ c. SoundNode g c.node) w.cells hs h.sound.cells run.1; bytes = h.sound.bytes };
             within = h.within;
           }))
 

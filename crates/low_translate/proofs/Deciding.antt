@@ -1,10 +1,12 @@
 -- Values that stand for nodes, and the tests of patterns.
 use Rattle.std.proofs.Common.{◌≡◌, ◌≢◌, ◌⊎◌, inl, inr, ◌≤◌, ◌^◌, ℕ, ℤ, pos, negsuc, zero, suc, ◌-◌, Bool, true, false, cond, List, [], ◌∷◌, length, take, drop, Option, Some, None, refl, sym, ap, ◌∙◌, subst, arith}
-use Rattle.std.specs.Prelude.{nat_eq, nat_le, ◌&&◌}
+use Rattle.std.specs.Prelude.{nat_eq, nat_le}
 use Rattle.std.proofs.lemmas.Bool.{eqb-true, eq-eqb, leb-true}
 use Rattle.std.proofs.lemmas.Bool.Decides.{eqb_tells}
 use Rattle.numbers.specs.Numbers.{pattern, same_number}
 use Rattle.std.proofs.lemmas.List.{length-take}
+use Rattle.seq.proofs.Truth.{and_left, and_right}
+use Rattle.seq.proofs.Order.{eq_turned}
 use Rattle.grin_syntax.specs.declared.program.Val as V
 use Rattle.grin_syntax.specs.declared.program.Val.TheVariants as val
 use Rattle.grin_syntax.specs.declared.program.Shape as S
@@ -13,16 +15,15 @@ use Rattle.grin_syntax.specs.Binders.{shape_vars, numbers_of}
 use Rattle.grin_syntax.specs.Formed.{AllOf}
 use Rattle.grin_syntax.specs.Tree as grin_tree
 use Rattle.grin_meaning.specs.Values as grin
-use Rattle.grin_meaning.specs.Values.{Datum, number, tag, cell, Node, Value, node, words, Fit, fits, fits_not, unclear, as_node, node_of, value_of, words_of, fit_of}
+use Rattle.grin_meaning.specs.Values.{Datum, number, tag, cell, Node, Value, node, words, Fit, fits, fits_not, unclear, as_node, value_of, words_of, fit_of}
 use Rattle.grin_meaning.specs.Checks.{all_zero, is_zero, is_filled, fills, is_none_or}
 use Rattle.grin_meaning.specs.Ready.{NoNodeVar, BindsNothing}
 use Rattle.low_code.specs.declared.program.LowTest.{LowTest}
 use Rattle.low_code.specs.declared.program.Operand.{Operand}
 use Rattle.low_code.specs.declared.program.Operand.TheVariants.{Var, Num, Cell}
 use Rattle.low_code.specs.Tree as low_tree
-use Rattle.low_code.specs.Tree.{Code, take as take_cells}
 use Rattle.low_code.specs.Values as low
-use Rattle.low_code.specs.Values.{Word, Env, World, Room, need, and_then, with_vars}
+use Rattle.low_code.specs.Values.{Word, Env, and_then}
 use Rattle.low_code.specs.Run.{operand, operands, number_in, holds}
 use Rattle.low_translate.specs.Translation.{nth_operand, is_number, tested, tests}
 use Rattle.low_translate.specs.Lowered.{Has32Bits, ShapeRanged}
@@ -70,18 +71,10 @@ zero_is (number (negsuc k)) e = absurd (let z : false ≡ true = e in cc)
 zero_is (tag t) e = absurd (let z : false ≡ true = e in cc)
 zero_is (cell a) e = absurd (let z : false ≡ true = e in cc)
 
-pub left_true : (a b : Bool) → (a && b) ≡ true → a ≡ true
-left_true true b e = refl
-left_true false b e = absurd (let z : false ≡ true = e in cc)
-
-pub right_true : (a b : Bool) → (a && b) ≡ true → b ≡ true
-right_true true b e = e
-right_true false b e = absurd (let z : false ≡ true = e in cc)
-
 fit_zeros : (m : ℕ) (ds : List Datum) → all_zero ds ≡ true → fit m (images ds) ≡ fit m []
 fit_zeros zero ds e = refl
 fit_zeros (suc m) [] e = refl
-fit_zeros (suc m) (d ∷ ds) e = λ i. zero_is d (left_true (is_zero d) (all_zero ds) e) i ∷ fit_zeros m ds (right_true (is_zero d) (all_zero ds) e) i
+fit_zeros (suc m) (d ∷ ds) e = λ i. zero_is d (and_left (is_zero d) (all_zero ds) e) i ∷ fit_zeros m ds (and_right (is_zero d) (all_zero ds) e) i
 
 fit_past : (m k : ℕ) (ds : List Datum) → all_zero (drop k ds) ≡ true → fit m (images (take k ds)) ≡ fit m (images ds)
 fit_past zero k ds e = refl
@@ -150,12 +143,6 @@ pub data Decides : Fit → Option Bool → Type 0 where
 
 eqb-no : (a b : ℕ) → (a ≡ b → ⊥) → nat_eq a b ≡ false
 eqb-no a b n = elim (eqb_tells a b) [ inl h ↦ absurd (n h.1) | inr h ↦ h.0 ]
-
-eq_turned : (a b : ℕ) → nat_eq a b ≡ nat_eq b a
-eq_turned a b = elim (eqb_tells a b) [
-  | inl h ↦ h.0 ∙ sym (ap (λ x. nat_eq x a) (sym h.1) ∙ eq-eqb a a refl)
-  | inr h ↦ h.0 ∙ sym (eqb-no b a (λ e. h.1 (sym e)))
-]
 
 pattern_same : (i k : ℤ) → Has32Bits i → Has32Bits k → nat_eq (pattern i) (pattern k) ≡ same_number k i
 pattern_same (pos a) (pos b) ha hb = eq_turned a b

@@ -21,8 +21,8 @@ use Rattle.grin_syntax.specs.Formed.{AllOf}
 use Rattle.low_translate.specs.Translation.{results_of}
 use Rattle.low_translate.specs.Ends.{EndsDone}
 use Rattle.low_translate.specs.Lowered.{ActEnds, CodeEnds, ArmsEnd, ActGives, CodeGives, ArmsGive}
-use Rattle.low_translate.proofs.Operations.{take_next}
 use Rattle.std.proofs.lemmas.List.{take_all}
+use Rattle.seq.proofs.Lists.{all_push, take_next}
 
 pub stmt_kind : (s : Stmt) → ((cs : List Cell) × (before_of s ≡ store cs)) ⊎ ((t : Target) × (o : Act) × (before_of s ≡ bind t o))
 unfolding before_of
@@ -109,10 +109,6 @@ pub all_learnt : (node node' : ℕ) (old calls : List ℕ) (w : ℕ) (alts : Lis
 all_learnt node node' old calls w alts i le s = let d = s.done in record { same_node = d.same_node; known = d.known; narrow = d.narrow; before = d.before; gives = λ rs r h k. subst (λ l. ArmsGive node rs r (arms_of (map arm_of l))) (take_all i alts le) (d.gives rs r h k) }
 
 -- ---- operations
-
-pub all_push : {A : Type 0} (P : A → Type 0) (xs : List A) (x : A) → AllOf P xs → P x → AllOf P (xs ++ x ∷ [])
-all_push P [] x h p = (p, tt)
-all_push P (y ∷ xs) x h p = (h.0, all_push P xs x h.1 p)
 
 all_pop : {A : Type 0} (P : A → Type 0) (xs : List A) (x : A) → AllOf P (xs ++ x ∷ []) → AllOf P xs × P x
 all_pop P [] x h = (tt, h.0)

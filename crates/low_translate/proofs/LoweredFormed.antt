@@ -1,7 +1,9 @@
 -- What a lowered program is besides what it does: formed, small, and with the procedures of the program.
-use Rattle.std.proofs.Common.{◌≡◌, ◌≤◌, ◌<◌, ◌^◌, ◌⊎◌, inl, inr, ℕ, zero, suc, ◌+◌, List, [], ◌∷◌, map, length, Option, Some, None, slice_get, refl, sym, ap, ◌∙◌, subst, arith}
+use Rattle.std.proofs.Common.{◌≡◌, ◌≤◌, ◌<◌, ◌^◌, inl, inr, ℕ, zero, suc, ◌+◌, List, [], ◌∷◌, map, length, Option, Some, None, slice_get, refl, sym, ap, ◌∙◌, subst, arith}
 use Rattle.std.proofs.lemmas.List.{length-map}
 use Rattle.std.proofs.lemmas.Option.{slice_get_within}
+use Rattle.seq.proofs.Order.{lt_or_le}
+use Rattle.seq.proofs.Lists.{is_empty}
 use Rattle.grin_syntax.specs.declared.program.VarId.{VarId}
 use Rattle.grin_syntax.specs.declared.program.GlobalCell.{GlobalCell}
 use Rattle.grin_syntax.specs.Binders.{times, numbers_of}
@@ -30,11 +32,6 @@ results_few [] h f = omega arith
 results_few (r ∷ rs) h zero = h.0
 results_few (r ∷ rs) h (suc f) = results_few rs h.1 f
 
-less_or : (a b : ℕ) → (a < b) ⊎ (b ≤ a)
-less_or a zero = inr (omega arith)
-less_or zero (suc b) = inl (omega arith)
-less_or (suc a) (suc b) = elim (less_or a b) [ inl p ↦ inl (omega (arith, p)) | inr p ↦ inr (omega (arith, p)) ]
-
 pub procedures_many : (width : ℕ) (rs : List ℕ) (n : ℕ) (ks : List ℕ) (qs : List grin.Procedure) → length ks ≡ length qs → length (procedures_code width rs n ks qs) ≡ length qs
 procedures_many width rs n [] [] e = refl
 procedures_many width rs n [] (q ∷ qs) e = absurd (omega (arith, e))
@@ -62,10 +59,6 @@ many_vars : (xs : List VarId) → length (numbers_of xs) ≡ length xs
 many_vars [] = refl
 many_vars (x ∷ xs) = ap suc (many_vars xs)
 
-no_items : (xs : List ℕ) → length xs ≡ 0 → xs ≡ []
-no_items [] h = refl
-no_items (x ∷ xs) h = absurd (omega (arith, h))
-
 module _ (g : grin.Program) (formed : grin_formed.Formed g) (ready : Ready g) (vectorised : IsVectorised g) (rs : List ℕ) (gives : EachGives (1 + most_value_fields g.tags) rs rs g.procs) (few : AllOf (λ r. r ≤ 13) rs) (few_tags : length g.tags ≤ 2 ^ 32) where
   abbrev width : ℕ
   width = 1 + most_fields g.tags
@@ -83,7 +76,7 @@ module _ (g : grin.Program) (formed : grin_formed.Formed g) (ready : Ready g) (v
   narrow_cells = let h = ready.few_fields in omega (arith, h)
 
   once : (x : ℕ) → times x (all_variables made.procs) ≤ 1
-  once x = elim (less_or x first) [
+  once x = elim (lt_or_le x first) [
     | inl lt ↦
         let a = procedures_once x width rs (results_few rs few) narrow_cells first rs g.procs in
         let b = taken_below x first (procs_numbers width rs rs g.procs) lt in
@@ -108,7 +101,7 @@ module _ (g : grin.Program) (formed : grin_formed.Formed g) (ready : Ready g) (v
       subst (λ o. Starts made o g.argument) (sym s.is) (by g.argument s formed.start.2 formed.argument)
     where
       by : (a : Option ℕ) (s : Stands (slice_get made.procs made.start) formed.start.0) → length formed.start.0.params ≡ argument_words a → grin_formed.ArgumentKnown g a → Starts made (Some s.made) a
-      by None s e k = no_items s.made.params (ap length s.params ∙ many_vars formed.start.0.params ∙ e)
+      by None s e k = is_empty s.made.params (ap length s.params ∙ many_vars formed.start.0.params ∙ e)
       by (Some i) s e k = (ap length s.params ∙ many_vars formed.start.0.params ∙ e, subst (λ m. i < m) (sym (length-map g.globals (λ c. c.tag.0))) k)
 
   pub formed_code : AllOf (λ q. CodeRanged q.body) g.procs → Formed made

@@ -2,6 +2,7 @@
 use Rattle.std.proofs.Common.{◌≡◌, ◌≢◌, inl, inr, ◌≤◌, ◌<◌, ℕ, zero, suc, ◌+◌, ◌*◌, List, [], ◌∷◌, map, length, replicate, Option, Some, None, refl, sym, ap, subst, arith}
 use Rattle.std.specs.Prelude.{max, slice_set}
 use Rattle.std.proofs.lemmas.List.{length-map}
+use Rattle.seq.proofs.Order.{le_or_lt}
 use Rattle.headline.specs.Carries.{IsBytes, Tells}
 use Rattle.grin_syntax.specs.declared.program.GlobalCell.{GlobalCell}
 use Rattle.grin_syntax.specs.Formed.{AllOf, Formed, GlobalFormed}
@@ -9,25 +10,23 @@ use Rattle.grin_syntax.specs.Fresh.{past_procs}
 use Rattle.grin_syntax.specs.Tree as grin_tree
 use Rattle.grin_syntax.specs.Tree.{Procedure}
 use Rattle.grin_meaning.specs.Values as grin
-use Rattle.grin_meaning.specs.Values.{Datum, cell, Value, HeapCell}
+use Rattle.grin_meaning.specs.Values.{HeapCell}
 use Rattle.grin_meaning.specs.Run as grin_run
 use Rattle.grin_meaning.specs.Run.{run_by}
 use Rattle.grin_meaning.specs.Keeps as keeps
 use Rattle.grin_meaning.specs.Looking.{look, NeverMissed, LooksWell}
 use Rattle.grin_meaning.specs.Ready.{IsVectorised, Ready, most_fields}
 use Rattle.grin_meaning.specs.Told as grin_told
-use Rattle.grin_meaning.specs.Told.{of_grin, entered_by_grin}
 use Rattle.grin_meaning.proofs.Looked.{looking_law}
 use Rattle.low_code.specs.Tree as low_tree
 use Rattle.low_code.specs.Values as low
 use Rattle.low_code.specs.Run as low_run
 use Rattle.low_code.specs.Told as low_told
-use Rattle.low_code.specs.Told.{of_low, entered_by_low}
 use Rattle.low_translate.specs.Translation.{results_of, procedures_code, procedure_numbers, program_code}
 use Rattle.low_translate.specs.Lowered.{EachGives, IsLowered}
 use Rattle.low_translate.specs.Lowers.{Lowers}
 use Rattle.low_translate.proofs.Images.{images, cell_image, world_image, fit_none, InRange, SoundNode}
-use Rattle.low_translate.proofs.Matches.{le_or, free, Match, missed, fails, ran_out, given}
+use Rattle.low_translate.proofs.Matches.{free, Match, missed, fails, ran_out, given}
 use Rattle.low_translate.proofs.ProcedureRuns as calls
 
 -- ---- frames
@@ -39,7 +38,7 @@ largest fw (suc k) = max (fw k) (largest fw k)
 
 below_largest : (fw : ℕ → ℕ) (k f : ℕ) → f < k → fw f ≤ largest fw k
 below_largest fw zero f lt = absurd (omega (arith, lt))
-below_largest fw (suc k) f lt = elim (le_or k f) [
+below_largest fw (suc k) f lt = elim (le_or_lt k f) [
   | inl le ↦ let e : f ≡ k = omega (arith, lt, le) in let s : fw f ≡ fw k = ap fw e in omega (arith, s)
   | inr less ↦ let h = below_largest fw k f less in omega (arith, h)
 ]

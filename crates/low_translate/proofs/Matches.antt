@@ -1,44 +1,30 @@
 -- A run of low code does what a looking run of GRIN does: answers, and operations without blocks.
-use Rattle.std.proofs.Common.{◌≡◌, ◌⊎◌, inl, inr, ◌≤◌, ◌<◌, ℕ, ℤ, zero, suc, ◌+◌, ◌*◌, Bool, true, false, cond, List, [], ◌∷◌, ◌++◌, length, Option, Some, None, slice_get, refl, sym, ap, ◌∙◌, subst, arith, lit<}
-use Rattle.std.specs.Prelude.{slice_set}
+use Rattle.std.proofs.Common.{◌≡◌, inl, inr, ◌≤◌, ◌<◌, ℕ, ℤ, zero, suc, ◌+◌, ◌*◌, Bool, true, false, cond, List, [], ◌∷◌, ◌++◌, length, Option, Some, None, slice_get, refl, sym, ap, ◌∙◌, subst, arith, lit<}
+use Rattle.seq.proofs.Lists.{all_get, all_set, map_get}
+use Rattle.seq.proofs.Order.{le_or_lt}
 use Rattle.grin_syntax.specs.declared.program.Word as W
 use Rattle.grin_syntax.specs.declared.program.Val as V
 use Rattle.grin_syntax.specs.Binders.{times}
 use Rattle.grin_syntax.specs.Formed.{AllOf}
 use Rattle.grin_syntax.specs.Tree as grin_tree
-use Rattle.grin_syntax.specs.Tree.{Act, unit, fetch, fetch_word, update, eval, apply, call, prim, read, write, case, nested, fail}
+use Rattle.grin_syntax.specs.Tree.{Act, unit, fetch, update, write}
 use Rattle.grin_meaning.specs.Values as grin
-use Rattle.grin_meaning.specs.Values.{Datum, number, tag, cell, Node, Value, node, words, HeapCell, word_of, words_of, value_of, node_of}
+use Rattle.grin_meaning.specs.Values.{Datum, number, tag, cell, Node, Value, node, words, HeapCell, word_of, value_of, node_of}
 use Rattle.grin_meaning.specs.Run as grin_run
-use Rattle.grin_meaning.specs.Run.{act_by, looking, on_numbers, place_of, node_word, nth_or_zero, byte_or_end, after_read}
+use Rattle.grin_meaning.specs.Run.{act_by, looking, place_of, node_word, nth_or_zero}
 use Rattle.grin_meaning.specs.Checks.{fills}
 use Rattle.grin_meaning.specs.Ready.{NoNodeVar, most_fields}
 use Rattle.low_code.specs.Tree as low_tree
 use Rattle.low_code.specs.Values as low
-use Rattle.low_code.specs.Values.{Word, Room, with_var, need, and_then}
+use Rattle.low_code.specs.Values.{Word, Room, need, and_then}
 use Rattle.low_code.specs.Run.{Calls, code, written}
 use Rattle.low_translate.specs.Translation.{operand_of, operands_of, fitted, sets, loads, saves, results_of, end_words}
 use Rattle.low_translate.specs.Lowered.{WordRanged, ValRanged}
 use Rattle.low_translate.proofs.Images.{word_image, images, words_of_value, fit, nth_word, cell_image, world_image, length_fit, InRange, SoundNode, SoundValue, SoundWorld, node_fits, none_some, some_same}
 use Rattle.low_translate.proofs.Operands.{bound, Agrees, Word', operand_is, value_is}
-use Rattle.low_translate.proofs.Pieces.{sets_run, loads_run, map_get, map_set}
+use Rattle.low_translate.proofs.Pieces.{sets_run, loads_run, map_set}
 use Rattle.low_translate.proofs.Stored.{update_run}
 use Rattle.low_translate.proofs.Figures.{low_of_pattern}
-
-pub all_get : {A : Type 0} (P : A → Type 0) (xs : List A) (i : ℕ) (x : A) → AllOf P xs → slice_get xs i ≡ Some x → P x
-all_get P [] i x h e = absurd (none_some e)
-all_get P (y ∷ xs) zero x h e = subst P (some_same e) h.0
-all_get P (y ∷ xs) (suc i) x h e = all_get P xs i x h.1 e
-
-pub all_set : {A : Type 0} (P : A → Type 0) (xs : List A) (i : ℕ) (x : A) → AllOf P xs → P x → AllOf P (slice_set xs i x)
-all_set P [] i x h p = tt
-all_set P (y ∷ xs) zero x h p = (p, h.1)
-all_set P (y ∷ xs) (suc i) x h p = (h.0, all_set P xs i x h.1 p)
-
-pub le_or : (a b : ℕ) → (a ≤ b) ⊎ (b < a)
-le_or zero b = inl (omega arith)
-le_or (suc a) zero = inr (omega arith)
-le_or (suc a) (suc b) = elim (le_or a b) [ inl p ↦ inl (omega (arith, p)) | inr p ↦ inr (omega (arith, p)) ]
 
 -- no limits
 abbrev pub free : Room
@@ -113,7 +99,7 @@ module _ (g : grin_tree.Program) (p : low_tree.Program) (fw : ℕ → ℕ) (most
     module _ (P : Value → Type 0) (k n : ℕ) (xs : List ℕ) (e : low.Env) (c : low_tree.Code) (goes : Value → grin.World → grin.Answer) where
       pub finish : (o : Act) → Goes P k n xs e c goes → Skips P k xs o goes → (v : Value) (w : grin.World) (frames : ℕ) → SoundValue g v → SoundWorld g w → Wide o v → frames ≤ (w.depth + 1) * most
           → Match P k (goes v w) (does (bound xs (fit (length xs) (images (words_of_value v))) e) c (world_image width frames w))
-      finish o go skip v w frames sv sw wd wi = elim (le_or (length (words_of_value v)) (length xs)) [
+      finish o go skip v w frames sv sw wd wi = elim (le_or_lt (length (words_of_value v)) (length xs)) [
         | inl le ↦ go v w frames _ sv sw le wi (λ x lt. refl)
         | inr lt ↦ skip v w sv sw wd lt _
       ]

@@ -2,6 +2,7 @@
 use Rattle.std.proofs.Common.{◌≡◌, ◌<◌, ℕ, zero, suc, ◌+◌, Bool, true, false, cond, List, [], ◌∷◌, ◌++◌, length, Option, Some, None, slice_get, refl, sym, ap, ◌∙◌, subst, arith}
 use Rattle.std.specs.Prelude.{nat_eq}
 use Rattle.std.proofs.lemmas.Bool.{lt-ltb, eqb-true}
+use Rattle.seq.proofs.Lists.{get_within}
 use Rattle.numbers.specs.Numbers.{pattern}
 use Rattle.grin_syntax.specs.declared.program.VarId.{VarId}
 use Rattle.grin_syntax.specs.declared.program.Word as W
@@ -18,7 +19,7 @@ use Rattle.low_code.specs.declared.program.Operand.{Operand}
 use Rattle.low_code.specs.declared.program.Operand.TheVariants.{Var, Num, Cell}
 use Rattle.low_code.specs.Tree as low_tree
 use Rattle.low_code.specs.Values as low
-use Rattle.low_code.specs.Values.{Word, with_var, each, and_then}
+use Rattle.low_code.specs.Values.{Word, with_var, and_then}
 use Rattle.low_code.specs.Run.{operand, operands}
 use Rattle.low_translate.specs.Translation.{operand_of, operands_of_words, operands_of, fitted}
 use Rattle.low_translate.specs.Lowered.{WordRanged, ValRanged}
@@ -112,11 +113,6 @@ agrees_each first (x ∷ vars) (d ∷ ds) bs scope env e h r b a = go (grin.one_
         (agrees_more first _ _ _ _ inner (rec l q))
 
 -- ---- operands
-
-pub get_within : {A : Type 0} (xs : List A) (i : ℕ) (x : A) → slice_get xs i ≡ Some x → i < length xs
-get_within [] i x e = absurd (none_some e)
-get_within (y ∷ xs) zero x e = omega arith
-get_within (y ∷ xs) (suc i) x e = let h = get_within xs i x e in omega (arith, h)
 
 module _ (g : grin_tree.Program) (p : low_tree.Program) (fw : ℕ → ℕ) (same_globals : length p.globals ≡ length g.globals) where
   -- the operand of a word

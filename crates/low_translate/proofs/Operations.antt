@@ -2,7 +2,8 @@
 use Rattle.std.proofs.Common.{◌≡◌, ◌⊎◌, inl, inr, Result, Ok, Err, IfOk, ◌≤◌, ◌<◌, ℕ, zero, suc, ◌+◌, ◌-◌, true, false, List, [], ◌∷◌, ◌++◌, map, length, take, drop, get_or, refl, sym, ap, ◌∙◌, subst, arith}
 use Rattle.std.specs.declared.alloc.Global.{Global}
 use Rattle.std.specs.declared.boxed.Box.{Box}
-use Rattle.std.proofs.lemmas.List.{drop_more, take_rest, take_more, take_all}
+use Rattle.std.proofs.lemmas.List.{drop_more, take_rest, take_all}
+use Rattle.seq.proofs.Lists.{take_next}
 use Rattle.grin_syntax.specs.declared.program.Block.{Block}
 use Rattle.grin_syntax.specs.declared.program.Proc.{Proc}
 use Rattle.grin_syntax.specs.declared.program.ProcId.{ProcId}
@@ -19,7 +20,7 @@ use Rattle.grin_syntax.specs.declared.program.Stmt.TheVariants as stmt
 use Rattle.grin_syntax.specs.Binders.{numbers_of, target_vars, cell_vars}
 use Rattle.grin_syntax.specs.Formed.{AllOf}
 use Rattle.grin_syntax.specs.Tree as grin
-use Rattle.grin_syntax.specs.Tree.{Act, unit, fetch, fetch_word, update, eval, apply, call, prim, read, write, case, nested, fail, act_of, before_of, code_of, all_before}
+use Rattle.grin_syntax.specs.Tree.{Act, call, case, nested, fail, act_of, before_of, code_of, all_before}
 use Rattle.grin_syntax.proofs.TreeOf as grin_tree
 use Rattle.low_code.specs.declared.program.LowStmt.{LowStmt}
 use Rattle.low_code.specs.declared.program.LowStmt.TheVariants as low_stmt
@@ -80,9 +81,6 @@ plain_third o (inr h) = plain_as o _ (ap act_of h ∙ grin_tree.act_of-Fail) tt
 pub ok_follows : {T E : Type 0} (P Q : T → Type 0) (r : Result T E) → ((t : T) → P t → Q t) → IfOk r P → IfOk r Q
 ok_follows P Q (Ok t) f h = f t h
 ok_follows P Q (Err e) f h = tt
-
-pub take_next : {X : Type 0} (xs : List X) (i : ℕ) (x : X) → i < length xs → x ≡ get_or xs i x → take (i + 1) xs ≡ take i xs ++ x ∷ []
-take_next xs i x lt e = take_more xs i x lt ∙ ap (λ y. take i xs ++ y ∷ []) (sym e)
 
 all_before_push : (ss : List S.Stmt) (s : S.Stmt) (c : grin.Code) → all_before (map before_of (ss ++ s ∷ [])) c ≡ all_before (map before_of ss) (before_of s c)
 all_before_push [] s c = refl

@@ -3,18 +3,19 @@ use Rattle.std.proofs.Common.{◌≡◌, ◌≤◌, ◌<◌, ℕ, zero, suc, ◌
 use Rattle.std.specs.Prelude.{nat_eq, nat_lt, slice_set}
 use Rattle.std.proofs.lemmas.Bool.{ltb-true, ltb-false}
 use Rattle.std.proofs.lemmas.List.{length-take, length-replicate}
+use Rattle.seq.proofs.Lists.{get_set, length_set, some_at, get_within}
 use Rattle.grin_syntax.specs.Binders.{times}
 use Rattle.grin_syntax.specs.Formed.{AllOf}
 use Rattle.low_code.specs.declared.program.Operand.{Operand}
 use Rattle.low_code.specs.declared.program.Operand.TheVariants.{Var, Num, Cell}
 use Rattle.low_code.specs.Tree as low_tree
-use Rattle.low_code.specs.Tree.{Code, set, load, save, take as take_cells}
+use Rattle.low_code.specs.Tree.{Code, set, load, save}
 use Rattle.low_code.specs.Values as low
-use Rattle.low_code.specs.Values.{Word, Env, World, Room, Answer, need, with_var, with_vars, and_then}
+use Rattle.low_code.specs.Values.{Word, Env, World, Room, Answer, need, with_var, and_then}
 use Rattle.low_code.specs.Run.{Calls, operand, operands, cell_in, code, with_word}
 use Rattle.low_translate.specs.Translation.{sets, loads, saves}
 use Rattle.low_translate.proofs.Images.{fit, nth_word, fit_from, get_fit, nth_past, fit_none, zeros, none_some, some_same}
-use Rattle.low_translate.proofs.Operands.{bound, Avoids, get_within}
+use Rattle.low_translate.proofs.Operands.{bound, Avoids}
 
 -- ---- lists
 
@@ -28,30 +29,10 @@ set_twice [] i x y = refl
 set_twice (z ∷ xs) zero x y = refl
 set_twice (z ∷ xs) (suc i) x y = ap (λ l. z ∷ l) (set_twice xs i x y)
 
-pub get_set : {A : Type 0} (xs : List A) (i : ℕ) (x : A) → i < length xs → slice_get (slice_set xs i x) i ≡ Some x
-get_set [] i x lt = absurd (omega (arith, lt))
-get_set (y ∷ xs) zero x lt = refl
-get_set (y ∷ xs) (suc i) x lt = get_set xs i x (omega (arith, lt))
-
-pub set_many : {A : Type 0} (xs : List A) (i : ℕ) (x : A) → length (slice_set xs i x) ≡ length xs
-set_many [] i x = refl
-set_many (y ∷ xs) zero x = refl
-set_many (y ∷ xs) (suc i) x = ap suc (set_many xs i x)
-
 pub map_set : {A B : Type 0} (f : A → B) (xs : List A) (i : ℕ) (x : A) → map f (slice_set xs i x) ≡ slice_set (map f xs) i (f x)
 map_set f [] i x = refl
 map_set f (y ∷ xs) zero x = refl
 map_set f (y ∷ xs) (suc i) x = ap (λ l. f y ∷ l) (map_set f xs i x)
-
-pub map_get : {A B : Type 0} (f : A → B) (xs : List A) (i : ℕ) (x : A) → slice_get xs i ≡ Some x → slice_get (map f xs) i ≡ Some (f x)
-map_get f [] i x e = absurd (none_some e)
-map_get f (y ∷ xs) zero x e = ap (λ z. Some (f z)) (some_same e)
-map_get f (y ∷ xs) (suc i) x e = map_get f xs i x e
-
-pub some_at : {A : Type 0} (xs : List A) (i : ℕ) → i < length xs → (x : A) × (slice_get xs i ≡ Some x)
-some_at [] i lt = absurd (omega (arith, lt))
-some_at (y ∷ xs) zero lt = (y, refl)
-some_at (y ∷ xs) (suc i) lt = some_at xs i (omega (arith, lt))
 
 -- words over those of a list, from place j on
 abbrev pub over : ℕ → List Word → List Word → List Word
@@ -191,6 +172,6 @@ module _ (p : low_tree.Program) (fw : ℕ → ℕ) where
             ∙ (λ t. need (s t) w (λ ws. need (slice_get ws j) w (λ old. need (operand p fw env b) w (λ v. does env (saves a (suc j) bs c) (with_word i j v ws w)))))
             ∙ (λ t. need (old.1 t) w (λ old. need (operand p fw env b) w (λ v. does env (saves a (suc j) bs c) (with_word i j v cell w))))
             ∙ (λ t. need (q t) w (λ v. does env (saves a (suc j) bs c) (with_word i j v cell w)))
-            ∙ rec l (slice_set cell j v) next qs (get_set w.cells i (slice_set cell j v) (get_within w.cells i cell s)) (omega (arith, le, n, set_many cell j v))
+            ∙ rec l (slice_set cell j v) next qs (get_set w.cells i (slice_set cell j v) (get_within w.cells i cell s)) (omega (arith, le, n, length_set cell j v))
             ∙ (λ t. does env c (record w { cells = set_twice w.cells i (slice_set cell j v) (over (suc j) l (slice_set cell j v)) t }))
             ∙ (λ t. does env c (record w { cells = slice_set w.cells i (over j (sym e t) cell) }))

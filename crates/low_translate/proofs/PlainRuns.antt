@@ -1,6 +1,7 @@
 -- Operations without blocks, whose words go to variables.
 use Rattle.std.proofs.Common.{◌≡◌, inl, inr, ◌≤◌, ◌<◌, ℕ, suc, ◌+◌, ◌-◌, ◌*◌, true, List, [], ◌++◌, length, take, drop, Option, Some, None, refl, sym, ap, ◌∙◌, subst, arith}
 use Rattle.std.proofs.lemmas.List.{length-map}
+use Rattle.seq.proofs.Order.{le_or_lt}
 use Rattle.grin_syntax.specs.declared.program.ProcId.{ProcId}
 use Rattle.grin_syntax.specs.declared.program.Word as W
 use Rattle.grin_syntax.specs.Binders.{times}
@@ -24,7 +25,7 @@ use Rattle.low_translate.proofs.Pieces.{sets_run}
 use Rattle.low_translate.proofs.Operations.{IsPlain}
 use Rattle.low_translate.proofs.OwnVariables.{call_bound, call_many}
 use Rattle.low_translate.proofs.Matches as m
-use Rattle.low_translate.proofs.Matches.{le_or, free, Match, missed, fails, ran_out, given, CallsMatch}
+use Rattle.low_translate.proofs.Matches.{free, Match, missed, fails, ran_out, given, CallsMatch}
 use Rattle.low_translate.proofs.Singles as one
 
 module _ (g : grin_tree.Program) (p : low_tree.Program) (fw : ℕ → ℕ) (most : ℕ) (rs : List ℕ) (first : ℕ) (same_globals : length p.globals ≡ length g.globals) (width : ℕ) (wide : width ≡ 1 + most_fields g.tags)
@@ -71,7 +72,7 @@ module _ (g : grin_tree.Program) (p : low_tree.Program) (fw : ℕ → ℕ) (most
         vs = images (words_of_value v)
 
         by : m.Reached g p fw most rs first same_globals width wide (results_of rs f.0) v w a → Matches P k (goes v w) (low.then_do a (after_call (results_of rs f.0)))
-        by q = elim (le_or (length (words_of_value v)) (length xs)) [
+        by q = elim (le_or_lt (length (words_of_value v)) (length xs)) [
           | inl le ↦
               let path : low.then_do a (after_call r) ≡ does (bound (drop r xs) (fit (length (drop r xs)) []) (bound ys (fit r vs) e)) c (world_image width q.frames w) =
               ap (λ l. low.then_do l (after_call r)) q.is

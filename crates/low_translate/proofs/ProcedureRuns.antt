@@ -3,6 +3,9 @@ use Rattle.std.proofs.Common.{◌≡◌, inl, inr, ◌≤◌, ◌<◌, ℕ, zero
 use Rattle.std.specs.Prelude.{max}
 use Rattle.std.proofs.lemmas.Bool.{eq-eqb}
 use Rattle.std.proofs.lemmas.List.{length-map}
+use Rattle.seq.proofs.Order.{more_times, le_or_lt}
+use Rattle.seq.proofs.Truth.{and_left}
+use Rattle.seq.proofs.Lists.{get_within, all_get}
 use Rattle.grin_syntax.specs.Binders.{times, numbers_of, code_vars, procedure_vars, procs_vars, program_vars}
 use Rattle.grin_syntax.specs.Formed.{AllOf}
 use Rattle.grin_syntax.specs.Fresh.{past_procs}
@@ -23,12 +26,11 @@ use Rattle.low_code.specs.Run.{as_many}
 use Rattle.low_translate.specs.Translation.{results_of, procedure_code, procedure_numbers, procedures_code, program_code}
 use Rattle.low_translate.specs.Lowered.{CodeRanged, CodeGives, EachGives}
 use Rattle.low_translate.proofs.Images.{images, word_image, words_of_value, fit, length_fit, world_image, InRange, SoundWorld, none_some, some_same}
-use Rattle.low_translate.proofs.Operands.{bound, with_vars_bound, agrees_each, times_append, get_within}
-use Rattle.low_translate.proofs.Deciding.{left_true}
+use Rattle.low_translate.proofs.Operands.{bound, with_vars_bound, agrees_each, times_append}
 use Rattle.low_translate.proofs.Bindings.{each_many}
 use Rattle.low_translate.proofs.ScopedOnce.{Scoped, scoped_rest, scoped_below}
 use Rattle.low_translate.proofs.Standings.{Standing}
-use Rattle.low_translate.proofs.Matches.{all_get, le_or, free, Match, missed, fails, ran_out, given, CallsMatch}
+use Rattle.low_translate.proofs.Matches.{free, Match, missed, fails, ran_out, given, CallsMatch}
 use Rattle.low_translate.proofs.Simulates as blocks
 
 -- ---- the procedures and their translations
@@ -42,7 +44,7 @@ one_of (r ∷ qs) (suc f) q x e = let h = one_of qs f q x e in let a = times_app
 scoped_body : (g : grin_tree.Program) → ((x : ℕ) → times x (program_vars g) ≤ 1) → (f : ℕ) (q : Procedure) → slice_get g.procs f ≡ Some q → Scoped (past_procs g.procs) [] (numbers_of q.params ++ code_vars q.body)
 scoped_body g once f q e = record {
   once = λ x. let a = one_of g.procs f q x e in let b = once x in omega (arith, a, b);
-  below = λ x lt. elim (le_or (past_procs g.procs) x) [
+  below = λ x lt. elim (le_or_lt (past_procs g.procs) x) [
     | inl le ↦ absurd (let z = past_procs_none x g.procs le in let a = one_of g.procs f q x e in omega (arith, lt, z, a))
     | inr p ↦ p
   ];
@@ -65,11 +67,6 @@ translated width node all n (r ∷ rs) (s ∷ qs) (suc f) q h e =
     record { number = t.number; past = let p = t.past in omega (arith, p); there = t.there; gives = t.gives }
 
 -- ---- frames
-
-more_times : (a b m : ℕ) → a ≤ b → a * m ≤ b * m
-more_times zero b m le = omega arith
-more_times (suc a) zero m le = absurd (omega (arith, le))
-more_times (suc a) (suc b) m le = let h = more_times a b m (omega (arith, le)) in omega (arith, h)
 
 both_within : (depth d frames k most : ℕ) → frames ≤ (depth + 1) * most → k ≤ suc d * most → max frames k ≤ (max depth d + 1) * most
 both_within depth d frames k most a b =
@@ -121,7 +118,7 @@ module _ (g : grin_tree.Program) (rs : List ℕ) (fw : ℕ → ℕ) (most : ℕ)
     leaving : (r d top u : ℕ) → top ≤ suc d * most → u ≤ d * most → Standing g rs width most (λ v. is_given g v ≡ true) (record { words = r; leaves = true }) d top (Some u)
     leaving r d top u le lu = record {
       narrow = λ e. absurd (let z : true ≡ false = e in cc);
-      given = λ e v h. left_true (not_delayed g v) (plain_number v) h;
+      given = λ e v h. and_left (not_delayed g v) (plain_number v) h;
       below = λ e. (u, refl, lu);
       inside = λ e. absurd (let z : true ≡ false = e in cc);
       deeper = le;

@@ -1,6 +1,7 @@
 -- The procedures of a program, one after the other.
 use Rattle.std.proofs.Common.{◌≡◌, ◌≤◌, ◌<◌, ◌^◌, ℕ, zero, suc, ◌+◌, List, [], ◌∷◌, ◌++◌, map, length, take, drop, get_or, refl, sym, ap, ◌∙◌, subst, arith, append-nil}
 use Rattle.std.proofs.lemmas.List.{drop_more, take_more, take_all}
+use Rattle.seq.proofs.Lists.{all_push}
 use Rattle.grin_syntax.specs.declared.program.Grin.{Grin}
 use Rattle.grin_syntax.specs.declared.program.Proc.{Proc}
 use Rattle.grin_syntax.specs.Fresh.{past_procs}
@@ -13,7 +14,6 @@ use Rattle.low_code.specs.Tree as low
 use Rattle.low_translate.specs.Translation.{procedures_code, program_code}
 use Rattle.low_translate.specs.Lowered.{CodeRanged, EachGives, IsLowered}
 use Rattle.low_translate.specs.Emitted.{ProcedureDone}
-use Rattle.low_translate.proofs.LastOps.{all_push}
 
 module _ (w : ℕ) (rs : List ℕ) where
   -- the first f procedures are made

@@ -1,5 +1,6 @@
 -- A block of low code does what the block of GRIN does that it comes from, wherever the calls do.
 use Rattle.std.proofs.Common.{◌≡◌, ◌≤◌, ◌<◌, ℕ, suc, ◌+◌, ◌*◌, true, false, List, ◌++◌, length, Option, Some, None, arith}
+use Rattle.seq.proofs.Truth.{false_not_true}
 use Rattle.grin_syntax.specs.Binders.{times, target_vars, shape_vars, cell_vars, act_vars, code_vars, arms_vars}
 use Rattle.grin_syntax.specs.Tree as grin_tree
 use Rattle.grin_syntax.specs.Tree.{Act, call, case, nested, Code, end, store, bind, Arms, no_arm, arm}
@@ -26,9 +27,6 @@ use Rattle.low_translate.proofs.PlainRuns as plain
 use Rattle.low_translate.proofs.EndRuns as ends
 use Rattle.low_translate.proofs.BoundRuns as binds
 use Rattle.low_translate.proofs.Choices as choices
-
-false_true : false ≡ true → ⊥
-false_true h = cc
 
 module _ (g : grin_tree.Program) (rs : List ℕ) (width most first : ℕ) where
   -- what is known of the text of a piece, whose further numbers begin at n
@@ -79,7 +77,7 @@ module _ (g : grin_tree.Program) (rs : List ℕ) (width most first : ℕ) where
       inlined = h.inlined.1;
       vectorised = h.vectorised.1;
       ranged = h.ranged.0;
-      gives = λ e. absurd (false_true e);
+      gives = λ e. absurd (false_not_true e);
       scoped = scoped_front first scope (act_vars o) (code_vars b) (scoped_back first scope (target_vars t) (act_vars o ++ code_vars b) h.scoped);
       past = h.past;
     }
@@ -122,8 +120,8 @@ module _ (g : grin_tree.Program) (rs : List ℕ) (width most first : ℕ) where
   joining : (k d top : ℕ) → top ≤ d * most → Standing g rs width most (λ v. length (words_of_value v) ≤ k) (record { words = k; leaves = false }) d top None
   joining k d top le = record {
     narrow = λ e v p. p;
-    given = λ e. absurd (false_true e);
-    below = λ e. absurd (false_true e);
+    given = λ e. absurd (false_not_true e);
+    below = λ e. absurd (false_not_true e);
     inside = λ e. le;
     deeper = omega (arith, le);
   }

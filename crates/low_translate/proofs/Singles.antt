@@ -1,5 +1,6 @@
 -- Operations that give one word.
 use Rattle.std.proofs.Common.{◌≡◌, ◌≤◌, ◌<◌, ℕ, suc, ◌+◌, ◌*◌, true, List, [], ◌∷◌, length, Option, Some, None, slice_get, refl, sym, ap, ◌∙◌, subst, arith, lit<}
+use Rattle.seq.proofs.Lists.{map_get, all_get}
 use Rattle.headline.specs.Carries.{IsBytes}
 use Rattle.grin_syntax.specs.declared.program.PrimOp as G
 use Rattle.grin_syntax.specs.declared.program.Word as W
@@ -7,7 +8,7 @@ use Rattle.grin_syntax.specs.Binders.{times}
 use Rattle.grin_syntax.specs.Tree as grin_tree
 use Rattle.grin_syntax.specs.Tree.{Act, fetch_word, prim, read}
 use Rattle.grin_meaning.specs.Values as grin
-use Rattle.grin_meaning.specs.Values.{Datum, number, tag, cell, Node, Value, node, words, HeapCell, word_of}
+use Rattle.grin_meaning.specs.Values.{Datum, number, tag, cell, Value, node, words, HeapCell, word_of}
 use Rattle.grin_meaning.specs.Run as grin_run
 use Rattle.grin_meaning.specs.Run.{act_by, on_numbers, place_of, node_word, byte_or_end, after_read}
 use Rattle.grin_meaning.specs.Ready.{most_fields}
@@ -20,9 +21,9 @@ use Rattle.low_translate.specs.Translation.{operand_of, operation_of, sets, to_f
 use Rattle.low_translate.specs.Lowered.{Has32Bits, WordRanged}
 use Rattle.low_translate.proofs.Images.{word_image, images, fit, fit_from, cell_image, world_image, InRange, SoundNode, SoundWorld, node_fits}
 use Rattle.low_translate.proofs.Operands.{bound, operand_is}
-use Rattle.low_translate.proofs.Pieces.{sets_run, loads_run, map_get}
+use Rattle.low_translate.proofs.Pieces.{sets_run, loads_run}
 use Rattle.low_translate.proofs.Figures.{arithmetic_same, arithmetic_has}
-use Rattle.low_translate.proofs.Matches.{all_get, free, node_word_image, node_word_ranged, Match, missed, Goes, Skips, Wide, Here, finish, place_is}
+use Rattle.low_translate.proofs.Matches.{free, node_word_image, node_word_ranged, Match, missed, Goes, Skips, Wide, Here, finish, place_is}
 
 module _ (g : grin_tree.Program) (p : low_tree.Program) (fw : ℕ → ℕ) (most : ℕ) (rs : List ℕ) (first : ℕ) (same_globals : length p.globals ≡ length g.globals) (width : ℕ) (wide : width ≡ 1 + most_fields g.tags) (gcalls : grin_run.Calls) (lcalls : Calls) (top : ℕ) (under : Option ℕ) where
   abbrev does : low.Env → low_tree.Code → low.World → low.Answer

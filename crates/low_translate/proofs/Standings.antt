@@ -1,13 +1,13 @@
 -- What is known where a piece stands: how many words its ends give, and which frames lie below.
 use Rattle.std.proofs.Common.{◌≡◌, ◌≤◌, ℕ, suc, ◌+◌, ◌*◌, Bool, true, false, List, [], ◌∷◌, length, Option, Some, None, refl, sym, ap, ◌∙◌, subst, arith}
-use Rattle.std.specs.Prelude.{not}
+use Rattle.seq.proofs.Truth.{not_true}
 use Rattle.grin_syntax.specs.declared.program.Word as W
 use Rattle.grin_syntax.specs.declared.program.Val as V
 use Rattle.grin_syntax.specs.declared.program.Val.TheVariants as val
 use Rattle.grin_syntax.specs.Tree as grin_tree
-use Rattle.grin_syntax.specs.Tree.{Act, unit, fetch, fetch_word, update, eval, apply, call, prim, read, write, case, nested, fail}
+use Rattle.grin_syntax.specs.Tree.{Act, fetch, fetch_word, call, prim, read}
 use Rattle.grin_meaning.specs.Values as grin
-use Rattle.grin_meaning.specs.Values.{Datum, number, tag, cell, Node, Value, node, words, word_of, words_of, value_of}
+use Rattle.grin_meaning.specs.Values.{Datum, tag, Node, Value, node, words, word_of, words_of, value_of}
 use Rattle.grin_meaning.specs.Checks.{is_delayed, not_delayed}
 use Rattle.grin_meaning.specs.Ready.{NoNodeVar, most_value_fields, val_width}
 use Rattle.low_translate.specs.declared.blocks.Goal.{Goal}
@@ -24,10 +24,6 @@ words_many g env (w ∷ ws) ds h = go (word_of g env w) (words_of g env ws) refl
     go None os q k rec = absurd (none_some k)
     go (Some d) None q k rec = absurd (none_some k)
     go (Some d) (Some l) q k rec = ap length (sym (some_same k)) ∙ ap suc (rec l q)
-
-not_true : (b : Bool) → not b ≡ true → b ≡ false
-not_true true h = absurd (let z : false ≡ true = h in cc)
-not_true false h = refl
 
 -- a node that is no delayed call has few words
 pub node_narrow : (g : grin_tree.Program) (n : Node) → SoundNode g n → not_delayed g (node n) ≡ true → length (words_of_value (node n)) ≤ 1 + most_value_fields g.tags

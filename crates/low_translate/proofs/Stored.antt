@@ -3,20 +3,21 @@ use Rattle.std.proofs.Common.{◌≡◌, ◌≤◌, ℕ, zero, suc, ◌+◌, Boo
 use Rattle.std.specs.Prelude.{nat_eq, slice_set}
 use Rattle.std.proofs.lemmas.Bool.{eq-eqb}
 use Rattle.std.proofs.lemmas.List.{length-take, length-replicate}
+use Rattle.seq.proofs.Truth.{and_left, and_right}
 use Rattle.grin_syntax.specs.declared.program.Cell as C
 use Rattle.grin_syntax.specs.declared.program.Val as V
 use Rattle.grin_syntax.specs.Binders.{times, cell_vars}
 use Rattle.grin_syntax.specs.Formed.{AllOf}
 use Rattle.grin_syntax.specs.Tree as grin_tree
 use Rattle.grin_meaning.specs.Values as grin
-use Rattle.grin_meaning.specs.Values.{Datum, number, tag, cell, Node, Value, node, words, as_node, node_of, value_of, HeapCell}
+use Rattle.grin_meaning.specs.Values.{number, cell, Node, Value, node, words, as_node, node_of, value_of, HeapCell}
 use Rattle.grin_meaning.specs.Run.{cells_of}
 use Rattle.grin_meaning.specs.Checks.{fills, all_fill}
 use Rattle.grin_meaning.specs.Ready.{NoNodeVar, most_fields}
 use Rattle.low_code.specs.declared.program.Operand.{Operand}
 use Rattle.low_code.specs.declared.program.Operand.TheVariants.{Var}
 use Rattle.low_code.specs.Tree as low_tree
-use Rattle.low_code.specs.Tree.{Code, take as take_cells}
+use Rattle.low_code.specs.Tree.{Code}
 use Rattle.low_code.specs.Values as low
 use Rattle.low_code.specs.Values.{Word, Env, World, Room, need, and_then, with_vars, with_var}
 use Rattle.low_code.specs.Run.{Calls, operand, operands, code, places, with_cells, empty_cell, within_limit}
@@ -25,7 +26,7 @@ use Rattle.low_translate.specs.Lowered.{ValRanged}
 use Rattle.low_translate.proofs.Images.{images, words_of_value, fit, length_fit, zeros, cell_image, SoundNode, none_some, some_same}
 use Rattle.low_translate.proofs.Operands.{bound, with_vars_bound, Agrees, value_is, fitted_are}
 use Rattle.low_translate.proofs.Pieces.{over_zeros, over_all, saves_run, bound_other}
-use Rattle.low_translate.proofs.Deciding.{stands, stands_sound, same_cell, filled_value, left_true, right_true}
+use Rattle.low_translate.proofs.Deciding.{stands, stands_sound, same_cell, filled_value}
 
 -- the first operands
 operands_front : (p : low_tree.Program) (fw : ℕ → ℕ) (env : Env) (k : ℕ) (as' : List Operand) (ws : List Word) → operands p fw env as' ≡ Some ws → operands p fw env (take k as') ≡ Some (take k ws)
@@ -114,12 +115,12 @@ module _ (g : grin_tree.Program) (p : low_tree.Program) (fw : ℕ → ℕ) (same
       go None q os qs m rec = absurd (none_some m)
       go (Some n) q None qs m rec = absurd (none_some m)
       go (Some n) q (Some l) qs m rec =
-          let d = node_is first scope env e a k.val n q (left_true (fills g env k.val) (all_fill g env cs) f) nn.0 r.0 in
+          let d = node_is first scope env e a k.val n q (and_left (fills g env k.val) (all_fill g env cs) f) nn.0 r.0 in
           let ws : List Word = images (words_of_value d.value) in
           let img : List Word = cell_image width n in
           let next : List (List Word) = pre ++ img ∷ [] in
           let one : length next ≡ suc (length pre) = length-append pre (img ∷ []) ∙ omega arith in
-          let rest = rec l next qs (right_true (fills g env k.val) (all_fill g env cs) f) (subst (λ j. Placed e j cs) (sym one) pl.1) in
+          let rest = rec l next qs (and_right (fills g env k.val) (all_fill g env cs) f) (subst (λ j. Placed e j cs) (sym one) pl.1) in
           let is : hs ≡ record { site = k.site.0; node = n } ∷ l = sym (some_same m) in
           let step : runs e (stores width (k ∷ cs) c) (record w { cells = pre ++ (zeros width ∷ replicate (length cs) (zeros width)) }) ≡ runs e (stores width cs c) (record w { cells = next ++ replicate (length cs) (zeros width) }) =
           saves_run p fw room calls top under (Var k.var.0) 0 (take width (operands_of k.val)) (take width ws) (length pre) (zeros width) e (stores width cs c) (record w { cells = pre ++ (zeros width ∷ replicate (length cs) (zeros width)) })

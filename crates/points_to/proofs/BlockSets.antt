@@ -1,14 +1,13 @@
 -- Blocks as sets: those of one word, those that lie within others, and sets with the same members.
-use Rattle.std.proofs.Common.{◌≡◌, ◌≢◌, ◌+◌, ◌*◌, ◌/◌, ◌%◌, ◌<◌, ℕ, List, [], ◌∷◌, ◌++◌, map, take, length, get_or, refl, sym, ap, ◌∙◌, subst, ⊎_elim, arith}
+use Rattle.std.proofs.Common.{◌≡◌, ◌≢◌, ◌+◌, ◌*◌, ◌/◌, ◌%◌, ◌<◌, ℕ, List, [], ◌∷◌, map, sym, ap, ◌∙◌, subst, ⊎_elim, arith}
 use Rattle.std.specs.Int.{bit_at}
 use Rattle.std.specs.List.{flat_map}
 use Rattle.std.proofs.lemmas.Nat.Bits.{bit_at-zero}
 use Rattle.flow_system.specs.declared.fact.Element.{Element}
 use Rattle.points_to.specs.Held.{In}
 use Rattle.points_to.specs.Bits.{numbers, block_numbers, block_words, BitsAt, number_of, word_of}
-use Rattle.points_to.specs.Rows.{GetsAll, SameMembers}
-use Rattle.seq.proofs.Member.{in_split, in_left, in_right, in_flat, in_map, map_in}
-use Rattle.points_to.proofs.Loops.{flat_next}
+use Rattle.points_to.specs.Rows.{SameMembers}
+use Rattle.seq.proofs.Member.{in_flat, in_map, map_in}
 use Rattle.points_to.proofs.Numbers.{no_numbers, bit_in, in_bit, lowest_first}
 use Rattle.points_to.proofs.Rows.{word_number}
 

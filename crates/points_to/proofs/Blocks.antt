@@ -1,4 +1,4 @@
--- Blocks in the order of their numbers: what is found among them, and what keeps the order.
+-- Blocks in the compared of their numbers: what is found among them, and what keeps the compared.
 use Rattle.std.proofs.Common.{◌≡◌, ℕ, zero, suc, ◌+◌, ◌-◌, ◌<◌, ◌≤◌, List, [], ◌∷◌, length, get_or, refl, sym, ap, ◌∙◌, subst, inl, inr, ⊎_elim, arith}
 use Rattle.std.specs.Prelude.{◌⊎◌}
 use Rattle.std.specs.List.{insert}
@@ -7,12 +7,7 @@ use Rattle.std.proofs.lemmas.List.{get_or_default}
 use Rattle.points_to.specs.Held.{In, here, there}
 use Rattle.points_to.specs.Bits.{number_at, Ascending, BitsAt, StandsAt, GoesTo}
 use Rattle.seq.proofs.Member.{none_in, cons_in}
-
-order : (i k : ℕ) → (i < k) ⊎ ((i ≡ k) ⊎ (k < i))
-order zero zero = inr (inl refl)
-order zero (suc k) = inl (omega arith)
-order (suc i) zero = inr (inr (omega arith))
-order (suc i) (suc k) = ⊎_elim (λ a. let l : i < k = a in inl (omega (arith, l))) (λ b. ⊎_elim (λ e. inr (inl (ap suc e))) (λ a. let l : k < i = a in inr (inr (omega (arith, l)))) b) (order i k)
+use Rattle.seq.proofs.Order.{compared}
 
 in_place : {X : Type 0} (xs : List X) (i : ℕ) (d : X) → i < length xs → In (get_or xs i d) xs
 in_place [] i d lt = absurd (omega arith)
@@ -44,7 +39,7 @@ module _ (bs : List (ℕ × ℕ)) (up : Ascending bs) (q : ℕ) where
           ⊎_elim
           (λ a. let r : number_at bs p.0 < number_at bs k = up p.0 k a s.within in absurd (omega (arith, r, at_i, at_k)))
           (λ t. ⊎_elim (λ n. sym (ap (λ x. x.1) p.2) ∙ ap (λ i. (get_or bs i (0, 0)).1) n) (λ g. let r : number_at bs k < number_at bs p.0 = up k p.0 g p.1 in absurd (omega (arith, r, at_i, at_k))) t)
-          (order p.0 k)
+          (compared p.0 k)
 
   -- a place at which no block with the number stands
   module _ (k : ℕ) (p : GoesTo bs q k) where
@@ -57,7 +52,7 @@ module _ (bs : List (ℕ × ℕ)) (up : Ascending bs) (q : ℕ) where
             ⊎_elim
             (λ a. let l : number_at bs r.0 < q = p.before r.0 a in omega (arith, l, at_i))
             (λ t. let le : k ≤ r.0 = ⊎_elim (λ e. let s : r.0 ≡ k = e in omega (arith, s)) (λ g. let s : k < r.0 = g in omega (arith, s)) t in let l : q < number_at bs r.0 = p.after r.0 le r.1 in omega (arith, l, at_i))
-            (order r.0 k)
+            (compared r.0 k)
 
     -- a new block goes there
     pub still_ascending : (v : ℕ) → Ascending (insert bs k (q, v))
@@ -68,12 +63,12 @@ module _ (bs : List (ℕ × ℕ)) (up : Ascending bs) (q : ℕ) where
         (λ e. let r : number_at bs i < q = p.before i a in let s : number_at new j ≡ q = ap (number_at new) e ∙ here_now in omega (arith, r, s, low i a))
         (λ g. let r : number_at bs i < number_at bs (j - 1) = up i (j - 1) (omega (arith, a, g)) (short j g within) in omega (arith, r, low i a, high j g))
         t)
-        (order j k))
+        (compared j k))
         (λ u. ⊎_elim
         (λ e. let g : k < j = omega (arith, e, lt) in let r : q < number_at bs (j - 1) = p.after (j - 1) (omega (arith, g)) (short j g within) in let s : number_at new i ≡ q = ap (number_at new) e ∙ here_now in omega (arith, r, s, high j g))
         (λ h. let g : k < j = omega (arith, h, lt) in let r : number_at bs (i - 1) < number_at bs (j - 1) = up (i - 1) (j - 1) (omega (arith, h, lt)) (short j g within) in omega (arith, r, high i h, high j g))
         u)
-        (order i k)
+        (compared i k)
       where
         new : List (ℕ × ℕ)
         new = insert bs k (q, v)

@@ -10,7 +10,8 @@ use Rattle.points_to.specs.declared.wanted.Wanted.TheVariants.{NodeTags, Tags as
 use Rattle.points_to.specs.Held.{In, item, picked}
 use Rattle.points_to.specs.Wanted.{tag_in, site_in, wanted_of, wanted, by_parts, SameSet}
 use Rattle.seq.proofs.Member.{none_in, in_left, in_right, in_split, when_in, in_flat, flat_in}
-use Rattle.points_to.proofs.GivenItems.{eq_from, picked_in, in_picked}
+use Rattle.seq.proofs.Order.{eq_from}
+use Rattle.points_to.proofs.GivenItems.{picked_in, in_picked}
 
 module _ (w : Wanted) (f : Element → List ℕ) (q : Part) (X : List Item) {n : ℕ} where
   -- from a part, of which all that f gives is wanted

@@ -3,6 +3,8 @@ use Rattle.std.proofs.Common.{◌≡◌, ℕ, zero, suc, ◌+◌, ◌<◌, false
 use Rattle.std.specs.List.{flat_map}
 use Rattle.std.proofs.lemmas.Bool.Decides.{nat_tests}
 use Rattle.std.proofs.lemmas.List.Concat.{flat_map-append}
+use Rattle.seq.proofs.Lists.{append_nil}
+use Rattle.seq.proofs.Order.{eq_self}
 use Rattle.grin_syntax.specs.declared.program.Word as W
 use Rattle.flow_system.specs.declared.fact.Element.{Element}
 use Rattle.flow_system.specs.declared.fact.Place.{Place}
@@ -12,9 +14,7 @@ use Rattle.flow_system.specs.Tables.{Tables}
 use Rattle.points_to.specs.declared.facts.Item.{Item}
 use Rattle.points_to.specs.Held.{item, picked_one, picked, in_part, field_of_tag, fetched, as_word, elements, numbered, cell_items}
 use Rattle.points_to.specs.Asked.{fact, facts_at}
-use Rattle.points_to.proofs.GivenItems.{eq_self}
 use Rattle.points_to.proofs.Done.{flat_flat}
-use Rattle.points_to.proofs.Loops.{append_nil}
 
 pub facts_of_words : (q : Place) (part : Part) (ws : List Element) → map (λ u. fact q (item part u)) ws ≡ facts_at q (in_part part ws)
 facts_of_words q part [] = refl

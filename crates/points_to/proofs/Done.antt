@@ -2,6 +2,8 @@
 use Rattle.std.proofs.Common.{◌≡◌, ℕ, zero, suc, cond, nat_lt, List, [], ◌∷◌, ◌++◌, Option, Some, None, append_assoc, refl, sym, ap, ◌∙◌, arith}
 use Rattle.std.specs.List.{flat_map}
 use Rattle.std.proofs.lemmas.List.Concat.{flat_map-append}
+use Rattle.seq.proofs.Lists.{append_nil}
+use Rattle.seq.proofs.Order.{lt_false}
 use Rattle.flow_system.specs.declared.fact.Element.{Element}
 use Rattle.flow_system.specs.declared.fact.Element.TheVariants.{Cell as cell_of, Tag as tag, Number as num}
 use Rattle.flow_system.specs.declared.fact.Place.{Place}
@@ -12,15 +14,10 @@ use Rattle.flow_system.specs.Tables.{Tables, fields_of}
 use Rattle.grin_syntax.specs.declared.program.Word as W
 use Rattle.points_to.specs.declared.facts.Item.{Item}
 use Rattle.points_to.specs.Held.{item, picked_one, picked, node_part, field_part, made_node, node_of_words, node_of_word, done_tag, done_part, done_items, elements, cell_items, items}
-use Rattle.points_to.proofs.GivenItems.{lt_false}
 
 pub flat_flat : {X Y Z : Type 0} (g : Y → List Z) (f : X → List Y) (xs : List X) → flat_map g (flat_map f xs) ≡ flat_map (λ x. flat_map g (f x)) xs
 flat_flat g f [] = refl
 flat_flat g f (x ∷ xs) = flat_map-append g (f x) (flat_map f xs) ∙ ap (λ l. flat_map g (f x) ++ l) (flat_flat g f xs)
-
-append_nil : {X : Type 0} (l : List X) → l ++ [] ≡ l
-append_nil [] = refl
-append_nil (x ∷ l) = ap (λ k. x ∷ k) (append_nil l)
 
 pub appends_none : {X : Type 0} (out more : List X) → more ≡ [] → out ≡ out ++ more
 appends_none out more e = sym (append_nil out) ∙ ap (λ l. out ++ l) (sym e)

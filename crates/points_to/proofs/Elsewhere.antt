@@ -1,12 +1,13 @@
 -- A fact changes what is known at its place alone.
 use Rattle.std.proofs.Common.{◌≡◌, ℕ, List, slice_set, ap, ◌∙◌, sym, inl, inr, ⊎_elim}
 use Rattle.std.specs.Prelude.{◌⊎◌}
+use Rattle.seq.proofs.Order.{same_or_not}
 use Rattle.flow_system.specs.declared.fact.Place.{Place}
 use Rattle.flow_system.specs.declared.fact.Place.TheVariants.{Site, Var, Result}
 use Rattle.points_to.specs.declared.facts.Item.{Item}
 use Rattle.points_to.specs.declared.facts.Facts.{Facts}
 use Rattle.points_to.specs.Known.{items_at, held}
-use Rattle.points_to.proofs.Sets.{set_other, same_or_not}
+use Rattle.points_to.proofs.Sets.{set_other}
 
 pub items_elsewhere : (old : ℕ → List Item) (xs : List (List Item)) (n : ℕ) (s : List Item) → items_at xs ≡ old → (m : ℕ) → (m ≡ n) ⊎ (items_at (slice_set xs n s) m ≡ old m)
 items_elsewhere old xs n s e m = ⊎_elim (λ z. inl z) (λ z. inr (set_other xs n m s z ∙ ap (λ f. f m) e)) (same_or_not m n)

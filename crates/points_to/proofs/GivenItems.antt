@@ -1,7 +1,6 @@
 -- What the lists of items hold is what sources give.
-use Rattle.std.proofs.Common.{◌≡◌, ◌+◌, ◌<◌, ◌≤◌, ℕ, zero, suc, Bool, true, false, cond, not, ◌&&◌, nat_eq, nat_lt, List, [], ◌∷◌, ◌++◌, Option, Some, None, slice_get, refl, sym, ap, ◌∙◌, subst, ⊎_elim, arith}
+use Rattle.std.proofs.Common.{◌≡◌, ◌+◌, ◌<◌, ◌≤◌, ℕ, zero, suc, Bool, true, false, cond, not, nat_eq, nat_lt, List, [], ◌∷◌, ◌++◌, Option, Some, None, slice_get, refl, sym, ap, ◌∙◌, subst, ⊎_elim, arith}
 use Rattle.std.specs.List.{flat_map}
-use Rattle.std.proofs.lemmas.Bool.Decides.{nat_tests}
 use Rattle.grin_syntax.specs.declared.program.ProcId.{ProcId}
 use Rattle.grin_syntax.specs.declared.program.Tag.{Tag}
 use Rattle.grin_syntax.specs.declared.program.GlobalCell.{GlobalCell}
@@ -22,28 +21,8 @@ use Rattle.flow_system.specs.Solution.{Solution, Sets, At, OneWord, one_word, En
 use Rattle.points_to.specs.declared.facts.Item.{Item}
 use Rattle.points_to.specs.Held.{In, here, there, item, same_part, picked_one, picked, in_part, cell_at, enough, node_part, field_part, moved_part, argument_part, is_done, if_tag, if_procedure, delayed, when_one, when_more, called, longer, field_or_zero, field_of_tag, fetched, as_word, node_of_words, node_of_word, as_nodes, done_part, done_items, elements, numbered, value_items, cell_items, fetched_at, last_field, longer_node, longer_tag, after_fields, arguments_of, items}
 use Rattle.seq.proofs.Member.{none_in, cons_in, one_in, in_left, in_right, in_split, when_in, in_when, in_flat, flat_in, in_map, map_in}
-
-pub lt_from : (m n : ℕ) → nat_lt m n ≡ true → m < n
-lt_from m n e = grind (arith, nat_tests)
-
-pub lt_true : (m n : ℕ) → m < n → nat_lt m n ≡ true
-lt_true m n e = grind (arith, nat_tests)
-
-pub not_lt : (m n : ℕ) → nat_lt m n ≡ false → n ≤ m
-not_lt m n e = grind (arith, nat_tests)
-
-pub lt_false : (m n : ℕ) → n ≤ m → nat_lt m n ≡ false
-lt_false m n e = grind (arith, nat_tests)
-
-pub eq_from : (m n : ℕ) → nat_eq m n ≡ true → m ≡ n
-eq_from m n e = grind (arith, nat_tests)
-
-pub eq_self : (m : ℕ) → nat_eq m m ≡ true
-eq_self m = grind (arith, nat_tests)
-
-both_from : (a b : Bool) → (a && b) ≡ true → (a ≡ true) × (b ≡ true)
-both_from true b e = (refl, e)
-both_from false b e = cc
+use Rattle.seq.proofs.Order.{lt_from, lt_true, le_from, lt_false, eq_from, eq_self}
+use Rattle.seq.proofs.Truth.{and_parts}
 
 pub same_part-true : (a b : Part) → same_part a b ≡ true → a ≡ b
 same_part-true tags tags e = refl
@@ -51,7 +30,7 @@ same_part-true tags (field t i) e = cc
 same_part-true tags (word j) e = cc
 same_part-true (field t i) tags e = cc
 same_part-true (field t i) (field u j) e =
-    let r = both_from (nat_eq t u) (nat_eq i j) e in
+    let r = and_parts (nat_eq t u) (nat_eq i j) e in
     ap (λ x. field x i) (eq_from t u r.0) ∙ ap (λ y. field u y) (eq_from i j r.1)
 same_part-true (field t i) (word j) e = cc
 same_part-true (word i) tags e = cc
@@ -200,7 +179,7 @@ module _ (p : Tables) where
                 where
                   on : (b : Bool) → nat_lt i m ≡ b → In u (cond b (picked (field t i) X) (num ∷ [])) → Fetched p S (suc i) u
                   on true l k = a_field (only tags (tag t) x) e (lt_from i m l) (only (field t i) u (picked_in (field t i) X k))
-                  on false l k = subst (Fetched p S (suc i)) (sym (one_in num k)) (a_zero (only tags (tag t) x) e (not_lt i m l))
+                  on false l k = subst (Fetched p S (suc i)) (sym (one_in num k)) (a_zero (only tags (tag t) x) e (le_from i m l))
 
       pub as_word_means : (j : ℕ) (u : AbstractWord) → In u (as_word p j X) → AsWords p S j u
       as_word_means j u h = ⊎_elim (λ a. word_word (only (word j) u (picked_in (word j) X a))) (λ b. of j u (fetched_means j u b)) (in_split (picked (word j) X) (fetched p j X) h)

@@ -7,9 +7,9 @@ use Rattle.points_to.specs.Held.{In, here}
 use Rattle.points_to.specs.Bits.{numbers, block_numbers}
 use Rattle.points_to.specs.Waiting.{numbers_from, NoneFrom, NoneTo, Waits, Takes}
 use Rattle.seq.proofs.Member.{cons_in, in_left, in_right, in_split}
-use Rattle.points_to.proofs.Loops.{append_nil}
+use Rattle.seq.proofs.Lists.{append_nil}
+use Rattle.seq.proofs.Order.{same_or_not}
 use Rattle.points_to.proofs.Numbers.{no_numbers, bit_in, in_bit, lowest_first}
-use Rattle.points_to.proofs.Waiting.{equal_or_not}
 
 -- a group more
 from_more : (g w : ℕ) (ws : List ℕ) → numbers_from g (ws ++ w ∷ []) ≡ numbers_from g ws ++ block_numbers (g + length ws, w)
@@ -56,7 +56,7 @@ bit_put g w w' j lt one others = record {
       subst (λ x. In x (numbers 64 (g * 64) w')) (sym s.2) (bit_in 64 (g * 64) w' s.0 s.1 (⊎_elim
       (λ e. ap (bit_at w') e ∙ one)
       (λ ne. others s.0 ne ∙ s.3)
-      (equal_or_not s.0 j)));
+      (same_or_not s.0 j)));
   put = bit_in 64 (g * 64) w' j lt one;
 }
 

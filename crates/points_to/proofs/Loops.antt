@@ -1,27 +1,9 @@
 -- Loops that put what they make of each item at the end of a list.
-use Rattle.std.proofs.Common.{◌≡◌, ◌+◌, ◌<◌, ◌≤◌, ℕ, zero, suc, List, [], ◌∷◌, ◌++◌, map, take, drop, length, get_or, append_assoc, refl, sym, ap, ◌∙◌, arith}
+use Rattle.std.proofs.Common.{◌≡◌, ◌+◌, ◌<◌, ◌≤◌, ℕ, suc, List, [], ◌∷◌, ◌++◌, map, take, drop, length, get_or, append_assoc, refl, sym, ap, ◌∙◌, arith}
 use Rattle.std.specs.List.{flat_map}
 use Rattle.std.proofs.lemmas.List.{take_all, take_more}
 use Rattle.std.proofs.lemmas.List.Concat.{flat_map-append}
-
-pub append_nil : {X : Type 0} (l : List X) → l ++ [] ≡ l
-append_nil [] = refl
-append_nil (x ∷ l) = ap (λ k. x ∷ k) (append_nil l)
-
-map-append : {X Y : Type 0} (f : X → Y) (xs : List X) (x : X) → map f (xs ++ x ∷ []) ≡ map f xs ++ f x ∷ []
-map-append f [] x = refl
-map-append f (y ∷ xs) x = ap (λ l. f y ∷ l) (map-append f xs x)
-
-pub empty : {X : Type 0} (xs : List X) (i : ℕ) → length xs ≤ i → drop i xs ≡ []
-empty [] zero le = refl
-empty [] (suc i) le = refl
-empty (y ∷ ys) zero le = absurd (omega arith)
-empty (y ∷ ys) (suc i) le = empty ys i (omega arith)
-
-pub front : {X : Type 0} (xs : List X) (i : ℕ) (d : X) → i < length xs → drop i xs ≡ get_or xs i d ∷ drop (i + 1) xs
-front [] i d lt = absurd (omega arith)
-front (y ∷ ys) zero d lt = refl
-front (y ∷ ys) (suc i) d lt = let n : suc i + 1 ≡ suc (i + 1) = omega arith in front ys i d (omega arith) ∙ ap (λ m. get_or ys i d ∷ drop m (y ∷ ys)) (sym n)
+use Rattle.seq.proofs.Lists.{append_nil, map_push, drop_past, drop_next}
 
 module _ {X Y : Type 0} where
   pub flat_next : (f : X → List Y) (xs : List X) (i : ℕ) (d : X) (old now new : List Y) → i < length xs → now ≡ old ++ flat_map f (take i xs) → new ≡ now ++ f (get_or xs i d) → new ≡ old ++ flat_map f (take (i + 1) xs)
@@ -43,7 +25,7 @@ module _ {X Y : Type 0} where
   pub map_next : (f : X → Y) (xs : List X) (i : ℕ) (d : X) (old now new : List Y) → i < length xs → now ≡ old ++ map f (take i xs) → new ≡ now ++ f (get_or xs i d) ∷ [] → new ≡ old ++ map f (take (i + 1) xs)
   map_next f xs i d old now new lt h k =
       let x = get_or xs i d in
-      k ∙ ap (λ l. l ++ f x ∷ []) h ∙ append_assoc old (map f (take i xs)) (f x ∷ []) ∙ ap (λ l. old ++ l) (sym (map-append f (take i xs) x)) ∙ ap (λ l. old ++ map f l) (sym (take_more xs i d lt))
+      k ∙ ap (λ l. l ++ f x ∷ []) h ∙ append_assoc old (map f (take i xs)) (f x ∷ []) ∙ ap (λ l. old ++ l) (sym (map_push f (take i xs) x)) ∙ ap (λ l. old ++ map f l) (sym (take_more xs i d lt))
 
   pub map_done : (f : X → Y) (xs : List X) (i : ℕ) (old now : List Y) → length xs ≤ i → now ≡ old ++ map f (take i xs) → now ≡ old ++ map f xs
   map_done f xs i old now le h = h ∙ ap (λ l. old ++ map f l) (take_all i xs le)
@@ -54,10 +36,10 @@ module _ {X Y : Type 0} where
   numbered_next rest one step xs i j j' d all now new lt q h k =
       let x = get_or xs i d in
       ap (λ l. l ++ rest j' (drop (i + 1) xs)) k ∙ append_assoc now (one j x) (rest j' (drop (i + 1) xs))
-      ∙ ap (λ n. now ++ (one j x ++ rest n (drop (i + 1) xs))) next ∙ ap (λ l. now ++ l) (sym (step j x (drop (i + 1) xs))) ∙ ap (λ l. now ++ rest j l) (sym (front xs i d lt)) ∙ h
+      ∙ ap (λ n. now ++ (one j x ++ rest n (drop (i + 1) xs))) next ∙ ap (λ l. now ++ l) (sym (step j x (drop (i + 1) xs))) ∙ ap (λ l. now ++ rest j l) (sym (drop_next xs i d lt)) ∙ h
     where
       next : j' ≡ suc j
       next = omega (arith, q)
 
   pub numbered_done : (rest : ℕ → List X → List Y) → ((j : ℕ) → rest j [] ≡ []) → (xs : List X) (i j : ℕ) (all now : List Y) → length xs ≤ i → now ++ rest j (drop i xs) ≡ all → now ≡ all
-  numbered_done rest none xs i j all now le h = sym (append_nil now) ∙ ap (λ l. now ++ l) (sym (none j)) ∙ ap (λ l. now ++ rest j l) (sym (empty xs i le)) ∙ h
+  numbered_done rest none xs i j all now le h = sym (append_nil now) ∙ ap (λ l. now ++ l) (sym (none j)) ∙ ap (λ l. now ++ rest j l) (sym (drop_past xs i le)) ∙ h

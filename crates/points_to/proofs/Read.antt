@@ -1,5 +1,5 @@
 -- What tables of wanted numbers say of the facts.
-use Rattle.std.proofs.Common.{◌≡◌, ◌+◌, ◌<◌, ◌≤◌, ℕ, zero, suc, Bool, true, false, ◌||◌, nat_eq, List, [], ◌∷◌, ◌++◌, map, length, get_or, slice_get, refl, sym, ap, ◌∙◌, subst, inl, inr, ⊎_elim, arith}
+use Rattle.std.proofs.Common.{◌≡◌, ◌+◌, ◌<◌, ◌≤◌, ℕ, zero, suc, true, ◌||◌, nat_eq, List, [], ◌∷◌, ◌++◌, map, length, get_or, slice_get, refl, sym, ap, ◌∙◌, subst, inl, inr, ⊎_elim, arith}
 use Rattle.std.specs.Prelude.{◌⊎◌}
 use Rattle.std.specs.List.{Contains, dedup}
 use Rattle.std.specs.List.Sorted.{IsStrictlyIncreasing, IsPermutation}
@@ -26,7 +26,8 @@ use Rattle.points_to.specs.Known.{held}
 use Rattle.points_to.specs.Wanted.{tag_in, site_in, wanted_of, wanted, place_of, SameSet, is_in, Lists, numbers_by, IsTable}
 use Rattle.points_to.specs.Joined.{Joined}
 use Rattle.seq.proofs.Member.{none_in, cons_in, one_in, when_in, in_flat, flat_in}
-use Rattle.points_to.proofs.GivenItems.{eq_from, eq_self}
+use Rattle.seq.proofs.Truth.{or_cases, or_true, both_ways}
+use Rattle.seq.proofs.Order.{lt_or_le, eq_from, eq_self}
 
 nat_equal : (m n : ℕ) → nat_cmp m n ≡ Equal → m ≡ n
 nat_equal m n e = grind (arith, nat_tests)
@@ -70,13 +71,6 @@ pub nothing_joins : (old : List ℕ) → Joined old [] old
 nothing_joins old = record { kept = λ n h. h; put = λ n h. none_in h; only = λ n h. inl h }
 
 -- membership as a test
-or_cases : (a b : Bool) → (a || b) ≡ true → (a ≡ true) ⊎ (b ≡ true)
-or_cases true b e = inl refl
-or_cases false b e = inr e
-
-or_true : (a : Bool) → (a || true) ≡ true
-or_true true = refl
-or_true false = refl
 
 pub is_in-in : (n : ℕ) (ns : List ℕ) → is_in n ns ≡ true → In n ns
 is_in-in n [] e = cc
@@ -88,11 +82,6 @@ in-is_in n (m ∷ ns) h = ⊎_elim
     (λ e. subst (λ k. (nat_eq n k || is_in n ns) ≡ true) e (ap (λ b. b || is_in n ns) (eq_self n)))
     (λ t. ap (λ b. nat_eq n m || b) (in-is_in n ns t) ∙ or_true (nat_eq n m))
     (cons_in m ns h)
-
-pub both_ways : (a b : Bool) → (a ≡ true → b ≡ true) → (b ≡ true → a ≡ true) → a ≡ b
-both_ways true b f g = sym (f refl)
-both_ways false true f g = g refl
-both_ways false false f g = refl
 
 members : (w : Wanted) (X : List Item) (ns : List ℕ) → Lists w X ns → SameSet ns (wanted w X)
 members w X ns l = record {
@@ -153,11 +142,6 @@ module _ {X : Type 0} (number : X → ℕ) where
   entry (y ∷ table) zero xs P all last lt = all 0 (omega arith)
   entry (y ∷ table) (suc m) xs P all last lt = entry table m xs (λ m. P (suc m)) (λ m lt. all (suc m) (omega (arith, lt))) last (omega (arith, lt))
 
-pub below_or_not : (j i : ℕ) → (j < i) ⊎ (i ≤ j)
-below_or_not j zero = inr (omega arith)
-below_or_not zero (suc i) = inl (omega arith)
-below_or_not (suc j) (suc i) = ⊎_elim (λ a. inl (omega (arith, a))) (λ b. inr (omega (arith, b))) (below_or_not j i)
-
 module _ {X : Type 0} (number : X → ℕ) (f : Facts) (k : Kind) (w : Wanted) where
   pub record TableSoFar (table : List (List X)) (n : ℕ) : Type 0 where
     pub many : length table ≡ n
@@ -176,7 +160,7 @@ module _ {X : Type 0} (number : X → ℕ) (f : Facts) (k : Kind) (w : Wanted) w
   table_done table n t past m = ⊎_elim
       (λ lt. t.lists m lt)
       (λ le. subst (λ X. Lists w X (numbers_by number (slice_get table m))) (sym (past m le)) (subst (λ o. Lists w [] (numbers_by number o)) (sym (slice_get_past table m (omega (arith, t.many, le)))) (no_numbers w)))
-      (below_or_not m n)
+      (lt_or_le m n)
 
 -- what readers say
 tag_is : (u : Element) (t : ℕ) → In t (tag_in u) → u ≡ Tag t

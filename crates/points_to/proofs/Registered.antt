@@ -1,5 +1,5 @@
 -- Registering an inclusion at places, and one that fetches words for a variable.
-use Rattle.std.proofs.Common.{◌≡◌, ◌+◌, ◌<◌, ◌≤◌, ℕ, Bool, true, false, List, [], ◌∷◌, ◌++◌, take, length, get_or, sym, ap, ◌∙◌, subst, ⊎_elim}
+use Rattle.std.proofs.Common.{◌≡◌, ◌+◌, ◌<◌, ◌≤◌, ℕ, Bool, false, List, [], ◌++◌, take, length, get_or, sym, ◌∙◌, subst, ⊎_elim}
 use Rattle.std.specs.List.{flat_map}
 use Rattle.std.proofs.lemmas.List.{take_all}
 use Rattle.grin_syntax.specs.declared.program.VarId.{VarId}
@@ -14,14 +14,15 @@ use Rattle.flow_system.specs.Tables.{Tables}
 use Rattle.points_to.specs.declared.facts.Fact.{Fact}
 use Rattle.points_to.specs.declared.worklist.Worklist.{Worklist}
 use Rattle.points_to.specs.Asked.{facts_at, demands}
-use Rattle.points_to.specs.Held.{In, elements, fetched_at, picked, in_part}
+use Rattle.points_to.specs.Held.{elements, fetched_at, in_part}
 use Rattle.points_to.specs.Known.{held, Grows}
-use Rattle.points_to.specs.Reads.{word_reads, cell_reads, reads}
+use Rattle.points_to.specs.Reads.{word_reads, cell_reads}
 use Rattle.points_to.specs.Rounds.{Counted}
 use Rattle.points_to.specs.Rows.{GetsAll}
 use Rattle.points_to.specs.Worklist.{RegistersAt, Spreads, Satisfies}
 use Rattle.seq.proofs.Member.{none_in, in_split}
-use Rattle.points_to.proofs.Loops.{append_nil, flat_taken}
+use Rattle.seq.proofs.Lists.{append_nil}
+use Rattle.points_to.proofs.Loops.{flat_taken}
 use Rattle.points_to.proofs.Gets.{gets_next, gets_from_none}
 use Rattle.points_to.proofs.Direct.{picked_same}
 use Rattle.points_to.proofs.FromRuns.{alike_at}

@@ -16,13 +16,10 @@ use Rattle.points_to.specs.Held.{In, item, same_part, picked, in_part}
 use Rattle.points_to.specs.Bits.{block_numbers, block_words, number_or_tag, number_of, word_of}
 use Rattle.points_to.specs.Rows.{numbers_in, row_words, row_items, HasPart, GetsAll}
 use Rattle.seq.proofs.Member.{in_left, in_right, in_split, in_map, map_in}
+use Rattle.seq.proofs.Lists.{map_append, append_nil}
 use Rattle.points_to.proofs.GivenItems.{same_part-true, same_part-self}
 use Rattle.points_to.proofs.Gets.{gets_between}
-use Rattle.points_to.proofs.Loops.{flat_next, append_nil}
-
-map_append : {X Y : Type 0} (f : X → Y) (xs ys : List X) → map f (xs ++ ys) ≡ map f xs ++ map f ys
-map_append f [] ys = refl
-map_append f (x ∷ xs) ys = ap (λ l. f x ∷ l) (map_append f xs ys)
+use Rattle.points_to.proofs.Loops.{flat_next}
 
 -- the lower half of 128 numbers is of the number alone and the tags, the upper half of cells
 low_word : (n : ℕ) → n % 128 < 64 → word_of n ≡ number_or_tag (n / 128 * 64 + n % 64)

@@ -11,6 +11,7 @@ use Rattle.points_to.specs.Rows.{GetsAll}
 use Rattle.points_to.specs.Asked.{fact, facts_at}
 use Rattle.points_to.specs.Known.{items_in, items_at, held, Puts, Grows}
 use Rattle.seq.proofs.Member.{none_in, in_map, map_in}
+use Rattle.seq.proofs.Order.{same_or_not}
 
 pub at_some : (xs : List (List Item)) (n : ℕ) (s : List Item) → n < length xs → s ≡ get_or xs n s → items_at xs n ≡ s
 at_some xs n s lt e = ap items_in (slice_get_read xs (length xs) n s refl lt e)
@@ -46,12 +47,6 @@ set_other (x ∷ xs) zero zero s ne = absurd (ne refl)
 set_other (x ∷ xs) zero (suc m) s ne = refl
 set_other (x ∷ xs) (suc n) zero s ne = refl
 set_other (x ∷ xs) (suc n) (suc m) s ne = set_other xs n m s (λ e. ne (ap suc e))
-
-pub same_or_not : (m n : ℕ) → (m ≡ n) ⊎ (m ≡ n → ⊥)
-same_or_not zero zero = inl refl
-same_or_not zero (suc n) = inr (λ e. cc)
-same_or_not (suc m) zero = inr (λ e. cc)
-same_or_not (suc m) (suc n) = ⊎_elim (λ e. inl (ap suc e)) (λ ne. inr (λ e. ne (omega (arith, e)))) (same_or_not m n)
 
 pub puts : (old : ℕ → List Item) (xs : List (List Item)) (n : ℕ) (s s' is : List Item) → items_at xs ≡ old → n < length xs → s ≡ get_or xs n s → GetsAll s s' is → Puts old (items_at (slice_set xs n s')) n is
 puts old xs n s s' is o lt e g = subst (λ f. Puts f (items_at (slice_set xs n s')) n is) o (record { kept = kept; put = λ j h. subst (In j) (sym new) (g.put j h); only = only })

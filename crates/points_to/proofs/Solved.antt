@@ -24,7 +24,9 @@ use Rattle.points_to.specs.Rounds.{InEvery, Satisfied, AllSatisfied, Counted}
 use Rattle.points_to.specs.Rows.{SameMembers}
 use Rattle.points_to.specs.Runs.{run_facts}
 use Rattle.seq.proofs.Member.{none_in, cons_in, in_left, in_right, in_split}
-use Rattle.points_to.proofs.GivenItems.{eq_from, eq_self, picked_in, in_picked}
+use Rattle.seq.proofs.Truth.{true_left, true_right, neither_left, neither_right}
+use Rattle.seq.proofs.Order.{lt_or_le, eq_from, eq_self}
+use Rattle.points_to.proofs.GivenItems.{picked_in, in_picked}
 use Rattle.points_to.proofs.Loops.{flat_next}
 use Rattle.points_to.proofs.Exact.{demands_mean, in_demands}
 
@@ -49,21 +51,13 @@ or_cases : (a b : Bool) → IsTrue (a || b) → IsTrue a ⊎ IsTrue b
 or_cases true b e = inl refl
 or_cases false b e = inr e
 
-or_left : (a b : Bool) → IsTrue a → IsTrue (a || b)
-or_left true b e = refl
-or_left false b e = cc
-
-or_right : (a b : Bool) → IsTrue b → IsTrue (a || b)
-or_right true b e = refl
-or_right false b e = e
-
 pub among_in : (u : Element) (us : List Element) → IsTrue (among u us) → In u us
 among_in u [] e = cc
 among_in u (v ∷ us) e = ⊎_elim (λ a. subst (λ w. In u (w ∷ us)) (same_word-true u v a) here) (λ b. there (among_in u us b)) (or_cases (same_word u v) (among u us) e)
 
 pub in_among : (u : Element) (us : List Element) → In u us → IsTrue (among u us)
 in_among u [] h = none_in h
-in_among u (v ∷ us) h = ⊎_elim (λ e. or_left (same_word u v) (among u us) (subst (λ w. IsTrue (same_word u w)) e (same_word-self u))) (λ t. or_right (same_word u v) (among u us) (in_among u us t)) (cons_in v us h)
+in_among u (v ∷ us) h = ⊎_elim (λ e. true_left (same_word u v) (among u us) (subst (λ w. IsTrue (same_word u w)) e (same_word-self u))) (λ t. true_right (same_word u v) (among u us) (in_among u us t)) (cons_in v us h)
 
 pub known_at : (H : Place → List Item) (q : Place) (part : Part) (u : Element) → In (item part u) (H q) → At (solution_of H) q part u
 known_at H q part u h = record { there = in_among u (picked part (H q)) (in_picked part (H q) h) }
@@ -108,14 +102,6 @@ grows_alike H H' fs gs s g = record {
   only = λ q j h. ⊎_elim (λ a. inl a) (λ b. inr (s.into (fact q j) b)) (g.only q j h);
 }
 
-pub or_false-left : (a b : Bool) → (a || b) ≡ false → a ≡ false
-or_false-left true b e = cc
-or_false-left false b e = refl
-
-pub or_false-right : (a b : Bool) → (a || b) ≡ false → b ≡ false
-or_false-right true b e = cc
-or_false-right false b e = e
-
 counted_on : (f f' f'' : Facts) (a b : Bool) → Counted f f' a → Counted f' f'' b → Counted f f'' (a || b)
 counted_on f f' f'' a b x y = record {
   no_less = omega (arith, x.no_less, y.no_less);
@@ -138,7 +124,7 @@ pub added_more : (old now new : Facts) (a b both : Bool) (rs : List FactRun) (i 
     → Grows (held now) (held new) (run_facts (get_or rs i d)) → (b ≡ false → new ≡ now) → Counted now new b → Added old new both (flat_map run_facts (take (i + 1) rs))
 added_more old now new a b both rs i d lt e x g s c = subst (λ l. Added old new both l) (sym (runs_next rs i d lt)) (subst (λ t. Added old new t (flat_map run_facts (take i rs) ++ run_facts (get_or rs i d))) (sym e) (record {
   grown = grows_more (held old) (held now) (held new) (flat_map run_facts (take i rs)) (run_facts (get_or rs i d)) x.grown g;
-  still = λ q. s (or_false-right a b q) ∙ x.still (or_false-left a b q);
+  still = λ q. s (neither_right a b q) ∙ x.still (neither_left a b q);
   counted = counted_on old now new a b x.counted c;
 }))
 
@@ -149,11 +135,6 @@ added_all old new a fs rs i le e x = subst (Added old new a) (ap (flat_map run_f
 pub counted_one : (f f' : Facts) (b : Bool) → (b ≡ false → f' ≡ f) → (b ≡ true → f.count < f'.count) → Counted f f' b
 counted_one f f' true s c = let n : f.count < f'.count = c refl in record { no_less = omega arith; more = λ e. n }
 counted_one f f' false s c = let n : f'.count ≡ f.count = ap (λ g. g.count) (s refl) in record { no_less = omega arith; more = λ e. cc }
-
-below_or_not : (j i : ℕ) → (j < i) ⊎ (i ≤ j)
-below_or_not j zero = inr (omega arith)
-below_or_not zero (suc i) = inl (omega arith)
-below_or_not (suc j) (suc i) = ⊎_elim (λ a. inl (omega (arith, a))) (λ b. inr (omega (arith, b))) (below_or_not j i)
 
 -- each round but the last raises the count
 pub count_rises : (f f' : Facts) (more : Bool) → f.count < 2 ^ 64 → Counted f f' more → (2 ^ 64 - f'.count) + cond more 1 0 < (2 ^ 64 - f.count) + 1
@@ -182,18 +163,18 @@ module _ (p : Tables) (all : List code.Inclusion) where
       → Grows (held now) (held new) (demands p (held now) (inclusion_of c)) → (b ≡ false → new ≡ now) → Counted now new b → RoundSoFar old new both (i + 1)
   round_on old now new a b both i c lt is e x g s k = subst (λ t. RoundSoFar old new t (i + 1)) (sym e) (record {
     sound = λ every. grown_in_every p (shown all) (held now) (held new) i (inclusion_of c) (shown_at all i c lt is) g (x.sound every);
-    satisfied = λ q j d l r. next q j d l r (below_or_not j i);
+    satisfied = λ q j d l r. next q j d l r (lt_or_le j i);
     counted = counted_on old now new a b x.counted k;
   })
     where
       next : (a || b) ≡ false → (j : ℕ) (d : Inclusion) → j < i + 1 → slice_get (shown all) j ≡ Some d → (j < i) ⊎ (i ≤ j) → Satisfied p (shown all) (held new) d
-      next q j d l r o = subst (λ f. Satisfied p (shown all) (held f) d) (sym (s (or_false-right a b q))) (⊎_elim
-          (λ lt'. x.satisfied (or_false-left a b q) j d lt' r)
+      next q j d l r o = subst (λ f. Satisfied p (shown all) (held f) d) (sym (s (neither_right a b q))) (⊎_elim
+          (λ lt'. x.satisfied (neither_left a b q) j d lt' r)
           (λ le. λ f h.
           let same : j ≡ i = omega arith in
           let same' : d ≡ inclusion_of c = some_same d (inclusion_of c) (sym r ∙ ap (slice_get (shown all)) same ∙ shown_at all i c lt is) in
           let put = g.put f (subst (λ d. In f (demands p (held now) d)) same' h) in
-          subst (λ k. In f.item (held k f.place)) (s (or_false-right a b q)) put)
+          subst (λ k. In f.item (held k f.place)) (s (neither_right a b q)) put)
           o)
 
   pub round_done : (old new : Facts) (added : Bool) (n : ℕ) → length all ≤ n → RoundSoFar old new added n → added ≡ false → AllSatisfied p (shown all) (held new)

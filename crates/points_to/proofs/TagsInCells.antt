@@ -7,7 +7,6 @@ use Rattle.std.proofs.lemmas.List.Concat.{flat_map-append}
 use Rattle.std.proofs.lemmas.Option.{slice_get_past}
 use Rattle.grin_syntax.specs.declared.program.TagId.{TagId}
 use Rattle.grin_syntax.specs.declared.program.Site.{Site}
-use Rattle.grin_syntax.proofs.Pieces.{map_push}
 use Rattle.flow_system.specs.declared.fact.Element.TheVariants.{Cell, Tag}
 use Rattle.flow_system.specs.declared.fact.Place.TheVariants.{Site as site, Var as var}
 use Rattle.flow_system.specs.declared.fact.Part.TheVariants.{Tags as tags, Word as word}
@@ -20,8 +19,10 @@ use Rattle.points_to.specs.Known.{held, solution_of}
 use Rattle.points_to.specs.Wanted.{is_in, SameSet, numbers_by, TagTable, SiteTable}
 use Rattle.points_to.specs.Met.{tags_of_sites, Ascends, MetTable, MetSoFar}
 use Rattle.seq.proofs.Member.{in_flat, flat_in}
-use Rattle.points_to.proofs.Loops.{append_nil}
-use Rattle.points_to.proofs.Read.{is_in-in, in-is_in, both_ways, longer, entry, below_or_not, cells, node_tags}
+use Rattle.seq.proofs.Lists.{map_push, append_nil}
+use Rattle.seq.proofs.Truth.{both_ways}
+use Rattle.seq.proofs.Order.{lt_or_le}
+use Rattle.points_to.proofs.Read.{is_in-in, in-is_in, longer, entry, cells, node_tags}
 use Rattle.points_to.proofs.Solved.{known_at, at_known}
 
 module _ (table : List (List TagId)) where
@@ -94,7 +95,7 @@ module _ (tags : List (List TagId)) (sites : List (List Site)) where
       (subst (λ o. Ascends [] (numbers_by (λ t. t.0) o))
       (sym (slice_get_past table m (omega (arith, many, le))))
       nothing_ascends))
-      (below_or_not m n)
+      (lt_or_le m n)
 
   -- an earlier entry, where the sites are the same
   pub met_earlier : (table : List (List TagId)) (n : ℕ) (ss there : List ℕ) (ts : List ℕ) → MetSoFar tags sites table → n < length table

@@ -22,9 +22,10 @@ use Rattle.points_to.specs.Runs.{run_facts}
 use Rattle.points_to.specs.Waiting.{waiting, readers_of, Takes}
 use Rattle.points_to.specs.Worklist.{IsWaiting, IsReader, RegistersAt, Wakes, Spreads, Advances, Satisfies, IsSettled, Stands}
 use Rattle.seq.proofs.Member.{none_in, cons_in}
+use Rattle.seq.proofs.Order.{same_or_not}
+use Rattle.seq.proofs.Truth.{neither_left, neither_right}
 use Rattle.points_to.proofs.Agree.{same_demands, same_reads}
-use Rattle.points_to.proofs.Solved.{Added, none_added, added_more, or_false-left, or_false-right, nothing_in_every, grown_in_every, least_at_end}
-use Rattle.points_to.proofs.Waiting.{equal_or_not}
+use Rattle.points_to.proofs.Solved.{Added, none_added, added_more, nothing_in_every, grown_in_every, least_at_end}
 
 -- one fact, and the readers of its place
 pub spreads_one : (old : Worklist) (f : Facts) (new : Worklist) (q : Place) → ((r : Place) → (r ≡ q) ⊎ (held f r ≡ held old.facts r)) → new.facts ≡ f → Wakes (record old { facts = f }) new q → Spreads old new
@@ -64,7 +65,7 @@ pub more_added_to : (old now new : Worklist) (a b both : Bool) (rs : List FactRu
 more_added_to old now new a b both rs i d lt e x g s t c = record {
   facts = added_more old.facts now.facts new.facts a b both rs i d lt e x.facts g (λ q. ap (λ w. w.facts) (t q)) c;
   spread = spreads_more old now new x.spread s;
-  still = λ q. t (or_false-right a b (sym e ∙ q)) ∙ x.still (or_false-left a b (sym e ∙ q));
+  still = λ q. t (neither_right a b (sym e ∙ q)) ∙ x.still (neither_left a b (sym e ∙ q));
 }
 
 pub all_added_to : (old new : Worklist) (a : Bool) (fs : List Fact) (rs : List FactRun) (i : ℕ) → length rs ≤ i → flat_map run_facts rs ≡ fs → AddedTo old new a (flat_map run_facts (take i rs)) → AddedTo old new a fs
@@ -144,7 +145,7 @@ module _ (p : Tables) (cs : List Inclusion) where
   pub stands_on : (old now new : Worklist) (n : ℕ) (c : Inclusion) → now.facts ≡ old.facts → now.readers ≡ old.readers → Takes (waiting old.pending) (waiting now.pending) n → slice_get cs n ≡ Some c → Satisfies p c n now new → Stands p cs old → Stands p cs new
   stands_on old now new n c same same' t is s st = record {
     sound = grown_in_every p cs (held now.facts) (held new.facts) n c is s.grown (subst (λ f. InEvery p cs (held f)) (sym same) st.sound);
-    settled = λ i d e. ⊎_elim (λ z. itself i d e z) (λ ne. other i d ne (st.settled i d e)) (equal_or_not i n);
+    settled = λ i d e. ⊎_elim (λ z. itself i d e z) (λ ne. other i d ne (st.settled i d e)) (same_or_not i n);
   }
     where
       itself : (i : ℕ) (d : Inclusion) → slice_get cs i ≡ Some d → i ≡ n → IsWaiting new i ⊎ IsSettled p cs new i d

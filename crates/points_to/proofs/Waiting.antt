@@ -12,12 +12,7 @@ use Rattle.points_to.specs.Held.{In, here, there}
 use Rattle.points_to.specs.Rows.{Gets}
 use Rattle.points_to.specs.Waiting.{slot, numbers_in, numbers_at, Registers}
 use Rattle.seq.proofs.Member.{cons_in, one_in, in_left, in_right, in_split}
-
-pub equal_or_not : (m n : ℕ) → (m ≡ n) ⊎ (m ≡ n → ⊥)
-equal_or_not zero zero = inl refl
-equal_or_not zero (suc n) = inr (λ e. cc)
-equal_or_not (suc m) zero = inr (λ e. cc)
-equal_or_not (suc m) (suc n) = ⊎_elim (λ e. inl (ap suc e)) (λ ne. inr (λ e. ne (omega (arith, e)))) (equal_or_not m n)
+use Rattle.seq.proofs.Order.{same_or_not}
 
 numbers_some : (xs : List (List ℕ)) (n : ℕ) (s : List ℕ) → n < length xs → s ≡ get_or xs n s → numbers_at xs n ≡ s
 numbers_some xs n s lt e = ap numbers_in (slice_get_read xs (length xs) n s refl lt e)
@@ -50,7 +45,7 @@ registers old xs q s s' n o lt e g = subst (λ f. Registers (λ r. f (slot r)) (
   kept = λ r m h. ⊎_elim
       (λ z. subst (λ k. In m (numbers_at (slice_set xs (slot q) s') k)) (sym z) (subst (In m) (sym new) (g.kept m (subst (In m) (ap (numbers_at xs) z ∙ numbers_some xs (slot q) s lt e) h))))
       (λ z. subst (In m) (sym (set_other xs (slot q) (slot r) s' z)) h)
-      (equal_or_not (slot r) (slot q));
+      (same_or_not (slot r) (slot q));
   put = subst (In n) (sym new) g.put;
 })
   where

@@ -4,6 +4,8 @@ use Rattle.std.proofs.lemmas.Bool.Decides.{nat_tests}
 use Rattle.std.proofs.lemmas.Option.{same_Some, slice_get_within, get_or_from_slice_get}
 use Rattle.std.specs.Int.{bit_at}
 use Rattle.std.proofs.lemmas.Nat.Bits.{bit_at-zero}
+use Rattle.seq.proofs.Lists.{map_get, length_map}
+use Rattle.seq.proofs.Truth.{two_ways}
 use Rattle.parallel_move.specs.declared.Spot.{Spot}
 use Rattle.parallel_move.specs.declared.Spot.TheVariants.{Reg, Slot, Scratch}
 use Rattle.low_code.specs.Tree.{Procedure, Program}
@@ -22,7 +24,7 @@ use Rattle.register_alloc.specs.Gathered.{HaveFewResults, HaveFewParameters, Gat
 use Rattle.register_alloc.specs.declared.registers.Given.{Given}
 use Rattle.register_alloc.specs.declared.registers.CallSite.{CallSite}
 use Rattle.register_alloc.specs.declared.registers.Registers.{Registers}
-use Rattle.register_alloc.proofs.Lists.{among_cases, among_first, among_more, among_left, among_either, true_or_false}
+use Rattle.register_alloc.proofs.Lists.{among_cases, among_first, among_more, among_left, among_either}
 use Rattle.register_alloc.proofs.Counted.{times_append, once}
 use Rattle.register_alloc.proofs.NotLater.{none_later, scoped_at}
 use Rattle.register_alloc.proofs.LiveCalls.{sites_of_points, points_calls, to_point, from_point, each_weaker}
@@ -37,15 +39,6 @@ there_or_not : {A : Type 0} (xs : List A) (i : ℕ) (d : A) → ((x : A) × ((sl
 there_or_not [] i d = inr refl
 there_or_not (x ∷ xs) zero d = inl (x, (refl, refl))
 there_or_not (x ∷ xs) (suc i) d = there_or_not xs i d
-
-get_mapped : {A B : Type 0} (v : A → B) (xs : List A) (i : ℕ) (x : A) → slice_get xs i ≡ Some x → slice_get (map v xs) i ≡ Some (v x)
-get_mapped v [] i x e = cc
-get_mapped v (y ∷ xs) zero x e = let q : y ≡ x = same_Some y x e in ap (λ z. Some (v z)) q
-get_mapped v (y ∷ xs) (suc i) x e = get_mapped v xs i x e
-
-mapped_length : {A B : Type 0} (v : A → B) (xs : List A) → length (map v xs) ≡ length xs
-mapped_length v [] = refl
-mapped_length v (x ∷ xs) = ap suc (mapped_length v xs)
 
 stands_among : (xs : List ℕ) (i x : ℕ) → slice_get xs i ≡ Some x → is_among x xs ≡ true
 stands_among [] i x e = cc
@@ -69,7 +62,7 @@ distinct_left [] ys d = tt
 distinct_left (x ∷ xs) ys d = (none, distinct_left xs ys d.1)
   where
     none : is_among x xs ≡ false
-    none = elim (true_or_false (is_among x xs)) [
+    none = elim (two_ways (is_among x xs)) [
       | inr f ↦ f
       | inl t ↦ let z : true ≡ false = sym (among_left x xs ys t) ∙ d.0 in cc
     ]
@@ -347,7 +340,7 @@ module _ (p : Program) (a : Assignment) (ws : List Registers) (gs : List Given) 
   frame_at f q e =
       let t = at f q e in
       get_or_from_slice_get a.frames f (1 + t.walk.slots + longest_at a.saves t.walk.calls.items) 0
-      (subst (λ fs. slice_get fs f ≡ Some (1 + t.walk.slots + longest_at a.saves t.walk.calls.items)) (sym frames) (get_mapped (λ w. 1 + w.slots + longest_at a.saves w.calls.items) ws f t.walk t.walk_at))
+      (subst (λ fs. slice_get fs f ≡ Some (1 + t.walk.slots + longest_at a.saves t.walk.calls.items)) (sym frames) (map_get (λ w. 1 + w.slots + longest_at a.saves w.calls.items) ws f t.walk t.walk_at))
 
   longest_same : (f : ℕ) (q : Procedure) (e : slice_get p.procs f ≡ Some q) → longest_at a.saves (at f q e).walk.calls.items ≡ longest (saves_at a) (calls_in q.body)
   longest_same f q e = longest_is a.saves (at f q e).walk.calls.items ∙ ap (longest (saves_at a)) (calls_are f q e)
@@ -399,7 +392,7 @@ module _ (p : Program) (a : Assignment) (ws : List Registers) (gs : List Given) 
       full spot =
           let few = few_parameters f q e in
           let n = no_more (from_to 8 24) (numbers_of (place_of a) q.params) (from_to_ascends 8 24) (λ r h. one r (from_to_within 8 24 r h)) in
-          let c : length (numbers_of (place_of a) q.params) ≡ length q.params = mapped_length (λ y. number_of (place_of a y)) q.params in
+          let c : length (numbers_of (place_of a) q.params) ≡ length q.params = length_map (λ y. number_of (place_of a y)) q.params in
           let d : length (from_to 8 24) ≡ 24 = from_to_many 8 24 in
           omega (arith, few, n, c, d)
         where
@@ -427,7 +420,7 @@ module _ (p : Program) (a : Assignment) (ws : List Registers) (gs : List Given) 
           let j = (at w.0 w.1.0 w.1.1.0).given_in r.0 r.1.0 r.1.1.0 in
           slice_get_within a.spots x r.1.0.spot (subst (λ z. slice_get a.spots z ≡ Some r.1.0.spot) r.1.1.1.0 (spots distinct j.0 r.1.0 j.1));
       masks = many ∙ (lengths_gathered p.procs ws gs ms cs g).0;
-      frames = ap length frames ∙ mapped_length (λ w. 1 + w.slots + longest_at a.saves w.calls.items) ws ∙ (lengths_gathered p.procs ws gs ms cs g).1;
+      frames = ap length frames ∙ length_map (λ w. 1 + w.slots + longest_at a.saves w.calls.items) ws ∙ (lengths_gathered p.procs ws gs ms cs g).1;
       sites = λ s m.
           let i = site_found (calls_of_walks ws) s (subst (λ l. is_among s l ≡ true) (sym (sites_gathered p.procs ws gs ms cs g walk_sites)) m) in
           let h = holds.each sites_once i.0 i.1.0 i.1.1.0 in

@@ -2,6 +2,7 @@
 use Rattle.std.proofs.Common.{◌≡◌, ℕ, zero, suc, ◌+◌, ◌<◌, ◌≤◌, true, List, [], ◌∷◌, ◌++◌, take, length, Option, Some, None, slice_get, Result, Ok, Err, OnOk, inl, inr, refl, sym, ap, ◌∙◌, subst, arith}
 use Rattle.std.specs.Prelude.{slice_set}
 use Rattle.std.proofs.lemmas.Option.{slice_get_within}
+use Rattle.seq.proofs.Lists.{get_left}
 use Rattle.parallel_move.specs.declared.Spot.{Spot}
 use Rattle.parallel_move.specs.declared.Spot.TheVariants.{Reg, Slot}
 use Rattle.low_code.specs.Formed.{is_among}
@@ -14,7 +15,7 @@ use Rattle.register_alloc.specs.declared.registers.Given.{Given}
 use Rattle.register_alloc.specs.declared.registers.CallSite.{CallSite}
 use Rattle.register_alloc.specs.declared.registers.Registers.{Registers}
 use Rattle.register_alloc.specs.declared.registers.Text.{Text}
-use Rattle.register_alloc.proofs.Lists.{among_first, among_left, among_right, got_before, got_after}
+use Rattle.register_alloc.proofs.Lists.{among_first, among_left, among_right, got_after}
 use Rattle.register_alloc.proofs.Keeping.{give_step, none_given}
 use Rattle.register_alloc.proofs.Walking.{agrees_old, grows_on, grows_not, pruned, bound, before_same}
 use Rattle.register_alloc.proofs.Walked.{grouped, nothing_more}
@@ -29,7 +30,7 @@ slots_step held _ slots _ x _ (register r lt free) = omega arith
 slots_step held _ slots _ x _ (slot all) = omega arith
 
 extends_push : (old new : List Given) (g : Given) → new ≡ old ++ (g ∷ []) → Extends old new
-extends_push old new g is k h there = subst (λ l. slice_get l k ≡ Some h) (sym is) (got_before old (g ∷ []) k h there)
+extends_push old new g is k h there = subst (λ l. slice_get l k ≡ Some h) (sym is) (get_left old (g ∷ []) k h there)
 
 pub gives_grows : (x : ℕ) (old new : Registers) (held held' : List (Option Holder)) → Gives x old held new held' → Grows old new
 gives_grows x old new held held' g = record {

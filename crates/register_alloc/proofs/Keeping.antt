@@ -2,6 +2,8 @@
 use Rattle.std.proofs.Common.{◌≡◌, ◌≢◌, ◌⊎◌, ◌↔◌, ℕ, suc, ◌+◌, ◌-◌, ◌<◌, ◌≤◌, true, false, List, [], ◌∷◌, ◌++◌, length, Option, Some, None, slice_get, inl, inr, refl, sym, ap, ◌∙◌, subst, arith}
 use Rattle.std.specs.Prelude.{slice_set}
 use Rattle.std.proofs.lemmas.Option.{same_Some, slice_get_within}
+use Rattle.seq.proofs.Truth.{both_ways}
+use Rattle.seq.proofs.Lists.{some_at, length_set, get_set}
 use Rattle.parallel_move.specs.declared.Spot.{Spot}
 use Rattle.parallel_move.specs.declared.Spot.TheVariants.{Reg, Slot}
 use Rattle.low_code.specs.Tree.{Code}
@@ -11,7 +13,7 @@ use Rattle.register_alloc.specs.Fits.{IsSlot, ClearOf, Apart, Holds, Full}
 use Rattle.register_alloc.specs.Inner.{Stands}
 use Rattle.register_alloc.specs.Holders.{Held, new_holder, IsWanted, IsStill, IsMarked, AreStillUsed, AreEntering, AllFree, Step, register, slot, Holding, IsKept, Keeps, Giving}
 use Rattle.register_alloc.specs.declared.holders.Holder.{Holder}
-use Rattle.register_alloc.proofs.Lists.{among_cases, among_more, among_first, among_left, among_right, among_either, same_bool, within_there, set_many, set_here, set_cases, used_among, among_used}
+use Rattle.register_alloc.proofs.Lists.{among_cases, among_more, among_first, among_left, among_right, among_either, set_cases, used_among, among_used}
 
 same_register : (r q : ℕ) → Reg r ≡ Reg q → r ≡ q
 same_register r q e = cc
@@ -31,7 +33,7 @@ module _ (used : List ℕ) (from to : ℕ) (old new : List (Option Holder)) wher
   still_was : AreStillUsed used from to old new → (r : ℕ) (d : Holder) → Held new r d → Held old r d × IsWanted used from to d
   still_was p r d h =
       let lt : r < length new = slice_get_within new r (Some d) h in
-      let o = within_there old r (subst (λ n. r < n) p.many lt) in
+      let o = some_at old r (subst (λ n. r < n) p.many lt) in
       go o.0 o.1 (p.each r o.0 (Some d) o.1 h)
     where
       go : (o : Option Holder) → slice_get old r ≡ Some o → IsStill used from to o (Some d) → Held old r d × IsWanted used from to d
@@ -41,7 +43,7 @@ module _ (used : List ℕ) (from to : ℕ) (old new : List (Option Holder)) wher
   still_stays : AreStillUsed used from to old new → (r : ℕ) (d : Holder) → Held old r d → IsWanted used from to d → Held new r d
   still_stays p r d h w =
       let lt : r < length old = slice_get_within old r (Some d) h in
-      let n = within_there new r (subst (λ n. r < n) (sym p.many) lt) in
+      let n = some_at new r (subst (λ n. r < n) (sym p.many) lt) in
       go n.0 n.1 (p.each r (Some d) n.0 h n.1)
     where
       go : (n : Option Holder) → slice_get new r ≡ Some n → IsStill used from to (Some d) n → Held new r d
@@ -52,7 +54,7 @@ module _ (used : List ℕ) (from to : ℕ) (old new : List (Option Holder)) wher
       → (d : Holder) × (Held old r d × ((e.variable ≡ d.variable) × ((e.later ≡ true) ↔ IsWanted used from to d)))
   entering_was p r e h =
       let lt : r < length new = slice_get_within new r (Some e) h in
-      let o = within_there old r (subst (λ n. r < n) p.many lt) in
+      let o = some_at old r (subst (λ n. r < n) p.many lt) in
       go o.0 o.1 (p.each r o.0 (Some e) o.1 h)
     where
       go : (o : Option Holder) → slice_get old r ≡ Some o → IsMarked used from to o (Some e)
@@ -63,7 +65,7 @@ module _ (used : List ℕ) (from to : ℕ) (old new : List (Option Holder)) wher
   entering_stays : AreEntering used from to old new → (r : ℕ) (d : Holder) → Held old r d → (e : Holder) × (Held new r e × (e.variable ≡ d.variable))
   entering_stays p r d h =
       let lt : r < length old = slice_get_within old r (Some d) h in
-      let n = within_there new r (subst (λ n. r < n) (sym p.many) lt) in
+      let n = some_at new r (subst (λ n. r < n) (sym p.many) lt) in
       go n.0 n.1 (p.each r (Some d) n.0 h n.1)
     where
       go : (n : Option Holder) → slice_get new r ≡ Some n → IsMarked used from to (Some d) n → (e : Holder) × (Held new r e × (e.variable ≡ d.variable))
@@ -122,7 +124,7 @@ module _ (place : ℕ → Spot) (scope : List ℕ) where
     below = λ k y live e. h.below k y (live.0, whole y live.1) e;
     later_is = λ r e q.
         let d = entering_was used at to old new p r e q in
-        same_bool e.later (is_among e.variable (uses c ++ later))
+        both_ways e.later (is_among e.variable (uses c ++ later))
         (λ t. subst (λ z. is_among z (uses c ++ later) ≡ true) (sym d.1.1.0) (marked r d.0 d.1.0 (d.1.1.1.0 t)))
         (λ t. d.1.1.1.1 (wanted r d.0 d.1.0 (subst (λ z. is_among z (uses c ++ later) ≡ true) d.1.1.0 t)));
   }
@@ -228,7 +230,7 @@ module _ (place : ℕ → Spot) (scope : List ℕ) where
         → place x ≡ Reg (8 + r) → Giving place scope c later given slots held → Giving place scope c later (given ++ (x ∷ [])) slots (slice_set held r (Some (new_holder x)))
     give_register given slots held x r lt none fresh is g = record {
       keeps = record {
-        many = set_many held r (Some (new_holder x)) ∙ k.many;
+        many = length_set held r (Some (new_holder x)) ∙ k.many;
         place_is = λ q d e. elim (was q d e) [
           | inl new ↦ ap (λ b. place b.variable) new.1 ∙ is ∙ ap (λ n. Reg (8 + n)) new.0
           | inr old ↦ k.place_is q d old
@@ -239,7 +241,7 @@ module _ (place : ℕ → Spot) (scope : List ℕ) where
         ];
         holds = λ n y kept e. elim (kept_cases given x y kept) [
           | inl same ↦
-              (r, (sym (same_register (8 + r) n (sym is ∙ ap place (sym same) ∙ e)), (new_holder x, (set_here held r (Some (new_holder x)) (omega (arith, k.many, lt)), sym same))))
+              (r, (sym (same_register (8 + r) n (sym is ∙ ap place (sym same) ∙ e)), (new_holder x, (get_set held r (Some (new_holder x)) (omega (arith, k.many, lt)), sym same))))
           | inr before ↦ let f = k.holds n y before e in (f.0, (f.1.0, (f.1.1.0, (stays f.0 f.1.1.0 f.1.1.1.0, f.1.1.1.1))))
         ];
         below = λ j y kept e. elim (kept_cases given x y kept) [
@@ -272,7 +274,7 @@ module _ (place : ℕ → Spot) (scope : List ℕ) where
         was : (q : ℕ) (d : Holder) → Held next q d → ((r ≡ q) × (d ≡ new_holder x)) ⊎ Held held q d
         was q d e = elim (set_cases held r (Some (new_holder x)) q) [
           | inl same ↦
-              let here : Held next r (new_holder x) = set_here held r (Some (new_holder x)) (omega (arith, k.many, lt)) in
+              let here : Held next r (new_holder x) = get_set held r (Some (new_holder x)) (omega (arith, k.many, lt)) in
               let h : Some (Some d) ≡ Some (Some (new_holder x)) = sym (subst (λ n. Held next n d) (sym same) e) ∙ here in
               inl (same, cc)
           | inr other ↦ inr (sym other ∙ e)

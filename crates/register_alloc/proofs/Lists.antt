@@ -3,6 +3,7 @@ use Rattle.std.proofs.Common.{◌≡◌, ◌⊎◌, ℕ, zero, suc, ◌+◌, ◌
 use Rattle.std.specs.Prelude.{slice_set}
 use Rattle.std.proofs.lemmas.Bool.{eqb-true, eq-eqb}
 use Rattle.std.proofs.Math.Seq.{drop-nil}
+use Rattle.seq.proofs.Lists.{drop_before, append_again}
 use Rattle.low_code.specs.Formed.{is_among}
 use Rattle.register_alloc.specs.Uses.{IsUsedWithin}
 use Rattle.register_alloc.specs.Inner.{Stands}
@@ -48,41 +49,11 @@ among_either x (z ∷ xs) ys h = elim (among_cases x z (xs ++ ys) h) [
       ]
 ]
 
-pub true_or_false : (b : Bool) → (b ≡ true) ⊎ (b ≡ false)
-true_or_false true = inl refl
-true_or_false false = inr refl
-
-pub same_bool : (a b : Bool) → (a ≡ true → b ≡ true) → (b ≡ true → a ≡ true) → a ≡ b
-same_bool true true f g = refl
-same_bool false false f g = refl
-same_bool true false f g = sym (f refl)
-same_bool false true f g = g refl
-
 -- ---- places of a list
-
-pub within_there : {A : Type 0} (xs : List A) (i : ℕ) → i < length xs → (x : A) × (slice_get xs i ≡ Some x)
-within_there [] i h = absurd (omega arith)
-within_there (x ∷ xs) zero h = (x, refl)
-within_there (x ∷ xs) (suc i) h = within_there xs i (omega arith)
-
-pub got_before : {A : Type 0} (xs ys : List A) (i : ℕ) (x : A) → slice_get xs i ≡ Some x → slice_get (xs ++ ys) i ≡ Some x
-got_before [] ys i x e = cc
-got_before (z ∷ xs) ys zero x e = e
-got_before (z ∷ xs) ys (suc i) x e = got_before xs ys i x e
 
 pub got_after : {A : Type 0} (xs ys : List A) (x : A) → slice_get (xs ++ (x ∷ ys)) (length xs) ≡ Some x
 got_after [] ys x = refl
 got_after (z ∷ xs) ys x = got_after xs ys x
-
-pub set_many : {A : Type 0} (xs : List A) (i : ℕ) (v : A) → length (slice_set xs i v) ≡ length xs
-set_many [] i v = refl
-set_many (x ∷ xs) zero v = refl
-set_many (x ∷ xs) (suc i) v = ap suc (set_many xs i v)
-
-pub set_here : {A : Type 0} (xs : List A) (i : ℕ) (v : A) → i < length xs → slice_get (slice_set xs i v) i ≡ Some v
-set_here [] i v h = absurd (omega arith)
-set_here (x ∷ xs) zero v h = refl
-set_here (x ∷ xs) (suc i) v h = set_here xs i v (omega arith)
 
 pub set_cases : {A : Type 0} (xs : List A) (i : ℕ) (v : A) (j : ℕ) → (i ≡ j) ⊎ (slice_get (slice_set xs i v) j ≡ slice_get xs j)
 set_cases [] i v j = inr refl
@@ -101,21 +72,13 @@ drop_more items zero n = let e : 0 + n ≡ n = omega arith in ap (λ j. drop j i
 drop_more [] (suc k) n = drop-nil (suc k + n) ∙ sym (drop-nil n) ∙ ap (drop n) (sym (drop-nil (suc k)))
 drop_more (x ∷ items) (suc k) n = let e : suc k + n ≡ suc (k + n) = omega arith in ap (λ j. drop j (x ∷ items)) e ∙ drop_more items k n
 
-drop_front : (xs ys : List ℕ) → drop (length xs) (xs ++ ys) ≡ ys
-drop_front [] ys = refl
-drop_front (x ∷ xs) ys = drop_front xs ys
-
-regroup : (xs ys zs : List ℕ) → (xs ++ ys) ++ zs ≡ xs ++ (ys ++ zs)
-regroup [] ys zs = refl
-regroup (x ∷ xs) ys zs = ap (λ l. x ∷ l) (regroup xs ys zs)
-
 pub stands_first : (items : List ℕ) (at : ℕ) (xs ys : List ℕ) → Stands items at (xs ++ ys) → Stands items at xs
-stands_first items at xs ys s = record { after = ys ++ s.after; is = s.is ∙ regroup xs ys s.after }
+stands_first items at xs ys s = record { after = ys ++ s.after; is = s.is ∙ append_again xs ys s.after }
 
 pub stands_rest : (items : List ℕ) (at : ℕ) (xs ys : List ℕ) → Stands items at (xs ++ ys) → Stands items (at + length xs) ys
 stands_rest items at xs ys s = record {
   after = s.after;
-  is = drop_more items at (length xs) ∙ ap (drop (length xs)) (s.is ∙ regroup xs ys s.after) ∙ drop_front xs (ys ++ s.after);
+  is = drop_more items at (length xs) ∙ ap (drop (length xs)) (s.is ∙ append_again xs ys s.after) ∙ drop_before xs (ys ++ s.after);
 }
 
 pub stands_all : (items : List ℕ) → Stands items 0 items

@@ -1,10 +1,10 @@
 -- The points after calls, and what is live after each site.
-use Rattle.std.proofs.Common.{◌≡◌, ◌⊎◌, ℕ, zero, suc, ◌+◌, true, false, List, [], ◌∷◌, ◌++◌, length, Some, slice_get, inl, inr, refl, sym, ap, ◌∙◌, subst, arith}
+use Rattle.std.proofs.Common.{◌≡◌, ◌⊎◌, ℕ, zero, suc, ◌+◌, true, false, List, [], ◌∷◌, ◌++◌, length, Some, slice_get, inl, inr, refl, sym, ap, ◌∙◌, subst}
+use Rattle.seq.proofs.Lists.{get_right, get_left}
 use Rattle.low_code.specs.Tree.{Code, set, prim, load, save, take, put, get, call, join, give, tail, choose, fail, Arms, otherwise, arm}
 use Rattle.low_code.specs.Formed.{uses, calls_in, arms_calls, Site}
 use Rattle.register_alloc.specs.Live.{IsLive, LiveAfter, ArmsLiveAfter, EachBinding, EachBindingOfArms}
 use Rattle.register_alloc.specs.Point.{After, points, arms_points}
-use Rattle.register_alloc.proofs.Lists.{got_before}
 
 -- ---- the calls of the points
 
@@ -50,20 +50,16 @@ pub record LiveAt (site y : ℕ) (ps : List After) : Type 0 where
   pub site_is : point.site ≡ site
   pub live : IsLive point.scope point.rest point.later y
 
-pub got_second : {A : Type 0} (xs ys : List A) (i : ℕ) (y : A) → slice_get ys i ≡ Some y → slice_get (xs ++ ys) (length xs + i) ≡ Some y
-got_second [] ys i y e = let z : 0 + i ≡ i = omega arith in ap (slice_get ys) z ∙ e
-got_second (x ∷ xs) ys i y e = let z : suc (length xs) + i ≡ suc (length xs + i) = omega arith in ap (slice_get (x ∷ (xs ++ ys))) z ∙ got_second xs ys i y e
-
 pub got_split : {A : Type 0} (xs ys : List A) (i : ℕ) (y : A) → slice_get (xs ++ ys) i ≡ Some y → (slice_get xs i ≡ Some y) ⊎ ((j : ℕ) × (slice_get ys j ≡ Some y))
 got_split [] ys i y e = inr (i, e)
 got_split (x ∷ xs) ys zero y e = inl e
 got_split (x ∷ xs) ys (suc i) y e = got_split xs ys i y e
 
 at_first : (site y : ℕ) (ps qs : List After) → LiveAt site y ps → LiveAt site y (ps ++ qs)
-at_first site y ps qs l = record { place = l.place; point = l.point; there = got_before ps qs l.place l.point l.there; site_is = l.site_is; live = l.live }
+at_first site y ps qs l = record { place = l.place; point = l.point; there = get_left ps qs l.place l.point l.there; site_is = l.site_is; live = l.live }
 
 at_second : (site y : ℕ) (ps qs : List After) → LiveAt site y qs → LiveAt site y (ps ++ qs)
-at_second site y ps qs l = record { place = length ps + l.place; point = l.point; there = got_second ps qs l.place l.point l.there; site_is = l.site_is; live = l.live }
+at_second site y ps qs l = record { place = length ps + l.place; point = l.point; there = get_right ps qs l.place l.point l.there; site_is = l.site_is; live = l.live }
 
 at_either : (site y : ℕ) (ps qs : List After) → LiveAt site y (ps ++ qs) → LiveAt site y ps ⊎ LiveAt site y qs
 at_either site y ps qs l = elim (got_split ps qs l.place l.point l.there) [

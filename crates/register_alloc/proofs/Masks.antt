@@ -6,6 +6,7 @@ use Rattle.std.proofs.lemmas.Nat.Bits.{bit_at_or}
 use Rattle.std.proofs.lemmas.Nat.{le_or_l}
 use Rattle.std.specs.Int.{bit_at}
 use Rattle.std.specs.Int.RustNames.{bit_or}
+use Rattle.seq.proofs.Order.{same_or_not}
 use Rattle.register_alloc.specs.Reach.{Reaches, its_own, called, AreLeast}
 use Rattle.register_alloc.specs.Rounds.{mask_at, called_by, joined, with_called, Grows, same, more, AreWhole, room}
 use mathlib.Core.Logic.{◌⊎◌, inl, inr}
@@ -94,16 +95,6 @@ at_set_other (x ∷ xs) zero zero v h = absurd (h refl)
 at_set_other (x ∷ xs) zero (suc k) v h = refl
 at_set_other (x ∷ xs) (suc i) zero v h = refl
 at_set_other (x ∷ xs) (suc i) (suc k) v h = at_set_other xs i k v (λ e. h (ap suc e))
-
-same_or_not : (a b : ℕ) → (a ≡ b) ⊎ (a ≡ b → ⊥)
-same_or_not zero zero = inl refl
-same_or_not zero (suc b) = inr (λ e. omega arith)
-same_or_not (suc a) zero = inr (λ e. omega arith)
-same_or_not (suc a) (suc b) = go (same_or_not a b)
-  where
-    go : (a ≡ b) ⊎ (a ≡ b → ⊥) → (suc a ≡ suc b) ⊎ (suc a ≡ suc b → ⊥)
-    go (inl e) = inl (ap suc e)
-    go (inr h) = inr (λ e. h (omega arith))
 
 called_there : (calls : List (List ℕ)) (f k g : ℕ) → slice_get (called_by calls f) k ≡ Some g → slice_get calls f ≡ Some (called_by calls f)
 called_there [] f k g e = cc

@@ -1,5 +1,6 @@
 -- In a formed program no variable that is bound in a block is used after the joins around it.
 use Rattle.std.proofs.Common.{◌≡◌, ◌⊎◌, ℕ, zero, suc, ◌+◌, ◌≤◌, true, false, List, [], ◌∷◌, ◌++◌, Some, slice_get, inl, inr, sym, ◌∙◌, subst, arith}
+use Rattle.seq.proofs.Truth.{two_ways}
 use Rattle.low_code.specs.declared.program.Operand.{Operand}
 use Rattle.low_code.specs.declared.program.Operand.TheVariants.{Var, Num, Cell}
 use Rattle.low_code.specs.declared.program.LowTest.{LowTest}
@@ -8,7 +9,7 @@ use Rattle.low_code.specs.Formed.{is_among, uses, arms_uses, used_by, used_by_al
 use Rattle.register_alloc.specs.Live.{EachBindingOfArms}
 use Rattle.register_alloc.specs.Holders.{NoneOf}
 use Rattle.register_alloc.specs.Point.{NoneLater}
-use Rattle.register_alloc.proofs.Lists.{among_cases, among_left, among_right, among_either, true_or_false}
+use Rattle.register_alloc.proofs.Lists.{among_cases, among_left, among_right, among_either}
 use Rattle.register_alloc.proofs.Counted.{times, times_append, among_times}
 
 -- ---- what a block uses is bound before or in it
@@ -116,7 +117,7 @@ bound_next g scope xs c later n o next = (none_first xs (binds c) later n, next 
 
 -- those bound in the block of a join aren't used after it
 in_join : (g : ℕ) (scope xs bs : List ℕ) (c : Code) (later : List ℕ) → Scoped g (xs ++ scope) c → NoneOf (bs ++ (xs ++ binds c)) later → Once scope (bs ++ (xs ++ binds c)) → NoneOf bs (uses c ++ later)
-in_join g scope xs bs c later s n o x m = elim (true_or_false (is_among x (uses c ++ later))) [
+in_join g scope xs bs c later s n o x m = elim (two_ways (is_among x (uses c ++ later))) [
   | inr f ↦ f
   | inl t ↦
       elim (among_either x (uses c) later t) [

@@ -1,6 +1,7 @@
 -- A whole procedure, and the procedures one after another.
 use Rattle.std.proofs.Common.{◌≡◌, ◌⊎◌, ℕ, zero, suc, ◌+◌, max, true, List, [], ◌∷◌, ◌++◌, length, length-append, Option, Some, slice_get, slice_index_or, inl, inr, refl, sym, ap, ◌∙◌, subst, arith}
 use Rattle.std.proofs.lemmas.Option.{same_Some}
+use Rattle.seq.proofs.Lists.{get_left, get_right}
 use Rattle.parallel_move.specs.declared.Spot.{Spot}
 use Rattle.parallel_move.specs.declared.Spot.TheVariants.{Reg, Slot, Scratch}
 use Rattle.low_code.specs.Tree.{Code, set, prim, load, save, take, put, get, call, join, give, tail, choose, fail, Arms, otherwise, arm, Procedure}
@@ -18,11 +19,11 @@ use Rattle.register_alloc.specs.declared.registers.Given.{Given}
 use Rattle.register_alloc.specs.declared.registers.CallSite.{CallSite}
 use Rattle.register_alloc.specs.declared.registers.Registers.{Registers}
 use Rattle.register_alloc.specs.declared.registers.Text.{Text}
-use Rattle.register_alloc.proofs.Lists.{among_cases, among_first, among_more, among_left, among_right, among_either, stands_all, got_before, got_after}
+use Rattle.register_alloc.proofs.Lists.{among_cases, among_first, among_more, among_left, among_right, among_either, stands_all, got_after}
 use Rattle.register_alloc.proofs.Keeping.{free_keeps, given_holds}
 use Rattle.register_alloc.proofs.Walking.{agrees_old}
 use Rattle.register_alloc.proofs.Walked.{nothing_more}
-use Rattle.register_alloc.proofs.LiveCalls.{sites_of_points, got_second, got_split}
+use Rattle.register_alloc.proofs.LiveCalls.{sites_of_points, got_split}
 use Rattle.register_alloc.specs.Results.{callees}
 use Rattle.register_alloc.proofs.GivingPlaces.{variables_more}
 use Rattle.register_alloc.proofs.Tables.{got_cases}
@@ -133,13 +134,13 @@ pub numbered_slots : (place : ℕ → Spot) (gs : List Given) (n : ℕ) → Numb
 numbered_slots place _ _ none agrees = refl
 numbered_slots place _ _ (in_register {gs = gs} {n = n} x r rest lt) agrees =
     let g : Given = record { variable = x; spot = Reg (8 + r) } in
-    let h = numbered_slots place gs n rest (λ k d e. agrees k d (got_before gs (g ∷ []) k d e)) in
+    let h = numbered_slots place gs n rest (λ k d e. agrees k d (get_left gs (g ∷ []) k d e)) in
     let here : slot_end (place x) ≡ 0 = ap slot_end (agrees (length gs) g (got_after gs [] g)) in
     let e : slots_of place (variables_of (gs ++ (g ∷ []))) ≡ max (slots_of place (variables_of gs)) (slot_end (place x)) = ap (slots_of place) (variables_more gs g) ∙ slots_append place (variables_of gs) x in
     omega (arith, h, here, e)
 numbered_slots place _ _ (in_slot {gs = gs} {n = n} x rest) agrees =
     let g : Given = record { variable = x; spot = Slot n } in
-    let h = numbered_slots place gs n rest (λ k d e. agrees k d (got_before gs (g ∷ []) k d e)) in
+    let h = numbered_slots place gs n rest (λ k d e. agrees k d (get_left gs (g ∷ []) k d e)) in
     let here : slot_end (place x) ≡ suc n = ap slot_end (agrees (length gs) g (got_after gs [] g)) in
     let e : slots_of place (variables_of (gs ++ (g ∷ []))) ≡ max (slots_of place (variables_of gs)) (slot_end (place x)) = ap (slots_of place) (variables_more gs g) ∙ slots_append place (variables_of gs) x in
     omega (arith, h, here, e)
@@ -260,8 +261,8 @@ gathered_at _ _ _ _ _ (one_more qs ws gs ms cs r w m c is rest) zero q e =
       walk_at = refl;
       own_at = refl;
       called_at = refl;
-      given_in = λ k g h. (k, got_before w.given.items gs k g h);
-      calls_in_all = λ i k h. (i, got_before w.calls.items (calls_of_walks ws) i k h);
+      given_in = λ k g h. (k, get_left w.given.items gs k g h);
+      calls_in_all = λ i k h. (i, get_left w.calls.items (calls_of_walks ws) i k h);
     }
 gathered_at _ _ _ _ _ (one_more qs ws gs ms cs r w m c is rest) (suc f) q e =
     let t = gathered_at qs ws gs ms cs rest f q e in
@@ -273,8 +274,8 @@ gathered_at _ _ _ _ _ (one_more qs ws gs ms cs r w m c is rest) (suc f) q e =
       walk_at = t.walk_at;
       own_at = t.own_at;
       called_at = t.called_at;
-      given_in = λ k g h. let j = t.given_in k g h in (length w.given.items + j.0, got_second w.given.items gs j.0 g j.1);
-      calls_in_all = λ i k h. let j = t.calls_in_all i k h in (length w.calls.items + j.0, got_second w.calls.items (calls_of_walks ws) j.0 k j.1);
+      given_in = λ k g h. let j = t.given_in k g h in (length w.given.items + j.0, get_right w.given.items gs j.0 g j.1);
+      calls_in_all = λ i k h. let j = t.calls_in_all i k h in (length w.calls.items + j.0, get_right w.calls.items (calls_of_walks ws) j.0 k j.1);
     }
 
 pub procedure_of_own : (qs : List Procedure) (ws : List Registers) (gs : List Given) (ms : List ℕ) (cs : List (List ℕ)) → Gathers qs ws gs ms cs → (f m : ℕ) → slice_get ms f ≡ Some m → (q : Procedure) × (slice_get qs f ≡ Some q)

@@ -2,6 +2,7 @@
 use Rattle.std.proofs.Common.{◌≡◌, ◌⊎◌, ℕ, zero, suc, ◌+◌, ◌%◌, ◌^◌, ◌≤◌, ◌<◌, min, Bool, true, false, ◌&&◌, nat_eq, nat_le, nat_lt, inl, inr, refl, sym, ap, ◌∙◌, subst, arith, cond}
 use Rattle.std.proofs.lemmas.Bool.Decides.{nat_tests}
 use Rattle.std.specs.Int.{bit_at}
+use Rattle.seq.proofs.Truth.{and_parts, and_false}
 use native.Mathlib.Nat.{div-eq_of_lt}
 use lib.Pow.{pow_mono}
 use Rattle.register_alloc.specs.Results.{result_mask}
@@ -22,14 +23,9 @@ abbrev every : ℕ → Bool
 every zero = all_say 0 24
 every (suc n) = all_say (suc n) 24 && every n
 
-both_true : (a b : Bool) → (a && b) ≡ true → (a ≡ true) × (b ≡ true)
-both_true true true e = (refl, refl)
-both_true true false e = cc
-both_true false b e = cc
-
 say_at : (n k r : ℕ) → all_say n k ≡ true → r < k → says n r ≡ true
 say_at n zero r h l = absurd (omega arith)
-say_at n (suc k) r h l = go (below r k l) (both_true (says n k) (all_say n k) h) (λ m. say_at n k r (both_true (says n k) (all_say n k) h).1 m)
+say_at n (suc k) r h l = go (below r k l) (and_parts (says n k) (all_say n k) h) (λ m. say_at n k r (and_parts (says n k) (all_say n k) h).1 m)
   where
     below : (r k : ℕ) → r < suc k → (r ≡ k) ⊎ (r < k)
     below zero zero l = inl refl
@@ -48,7 +44,7 @@ say_at n (suc k) r h l = go (below r k l) (both_true (says n k) (all_say n k) h)
 every_says : (m n : ℕ) → every m ≡ true → n ≤ m → all_say n 24 ≡ true
 every_says zero zero h l = h
 every_says zero (suc n) h l = absurd (omega arith)
-every_says (suc m) n h l = go (top n m l) (both_true (all_say (suc m) 24) (every m) h) (λ k. every_says m n (both_true (all_say (suc m) 24) (every m) h).1 k)
+every_says (suc m) n h l = go (top n m l) (and_parts (all_say (suc m) 24) (every m) h) (λ k. every_says m n (and_parts (all_say (suc m) 24) (every m) h).1 k)
   where
     top : (n m : ℕ) → n ≤ suc m → (n ≡ suc m) ⊎ (n ≤ m)
     top zero m l = inr (omega arith)
@@ -72,10 +68,6 @@ high_bit n r l h = let p : 2 ^ 24 ≤ 2 ^ r = pow_mono h in ap (λ q. q % 2) (di
 mask_small : (n : ℕ) → n ≤ 13 → result_mask n < 2 ^ 24
 mask_small n h = let l : min n 13 ≤ 13 = omega arith in let p : 2 ^ min n 13 ≤ 2 ^ 13 = pow_mono l in omega (arith, p)
 
-neither : (b : Bool) → (b && false) ≡ false
-neither true = refl
-neither false = refl
-
 bit_is : (n r : ℕ) → n ≤ 13 → bit_at (result_mask n) r ≡ cond (is_result n r) 1 0
 bit_is n r h = go (side r)
   where
@@ -90,7 +82,7 @@ bit_is n r h = go (side r)
     go (inl l) = let s : says n r ≡ true = say_at n 24 r (every_says 13 n all_checked h) l in grind (arith, nat_tests)
     go (inr g) =
         let f : nat_lt r (10 + n) ≡ false = grind (arith, nat_tests) in
-        let e : is_result n r ≡ false = ap (λ b. nat_le 10 r && b) f ∙ neither (nat_le 10 r) in
+        let e : is_result n r ≡ false = ap (λ b. nat_le 10 r && b) f ∙ and_false (nat_le 10 r) in
         high_bit (result_mask n) r (mask_small n h) g ∙ ap (λ b. cond b 1 0) (sym e)
 
 pub result_bit : (n r : ℕ) → n ≤ 13 → bit_at (result_mask n) r ≡ 1 → (10 ≤ r) × (r < 10 + n)
@@ -98,7 +90,7 @@ result_bit n r h e = go (is_result n r) refl
   where
     go : (b : Bool) → is_result n r ≡ b → (10 ≤ r) × (r < 10 + n)
     go true q =
-        let t = both_true (nat_le 10 r) (nat_lt r (10 + n)) q in
+        let t = and_parts (nat_le 10 r) (nat_lt r (10 + n)) q in
         let a : nat_le 10 r ≡ true = t.0 in
         let b : nat_lt r (10 + n) ≡ true = t.1 in
         (grind (arith, nat_tests), grind (arith, nat_tests))

@@ -6,6 +6,8 @@ use Rattle.std.specs.Int.RustNames.{bit_or}
 use Rattle.std.proofs.lemmas.Nat.Bits.{bit_at-zero, bit_at-pow_same, bit_at-pow_other}
 use Rattle.std.proofs.lemmas.Bool.{cases_lt}
 use Rattle.std.proofs.lemmas.Option.{same_Some}
+use Rattle.seq.proofs.Truth.{two_ways}
+use Rattle.seq.proofs.Lists.{get_left, get_set}
 use Rattle.parallel_move.specs.declared.Spot.{Spot}
 use Rattle.parallel_move.specs.declared.Spot.TheVariants.{Reg, Slot, Scratch}
 use Rattle.low_code.specs.Tree.{Procedure}
@@ -18,7 +20,7 @@ use Rattle.register_alloc.specs.declared.registers.Given.{Given}
 use Rattle.register_alloc.specs.declared.registers.CallSite.{CallSite}
 use Rattle.register_alloc.specs.declared.registers.Registers.{Registers}
 use Rattle.register_alloc.specs.declared.assign.Gathered.{Gathered}
-use Rattle.register_alloc.proofs.Lists.{among_cases, among_first, among_more, among_left, among_right, among_either, true_or_false, got_before, got_after, set_here, set_cases}
+use Rattle.register_alloc.proofs.Lists.{among_cases, among_first, among_more, among_left, among_right, among_either, got_after, set_cases}
 use Rattle.register_alloc.proofs.Masks.{or_bit, bit_left, bit_right}
 use Rattle.register_alloc.proofs.Walked.{grouped, nothing_more}
 
@@ -98,13 +100,13 @@ own_none mask places r = (
 
 own_more : (mask all m new : ℕ) (gs : List Given) (g : Given) → IsOwnMask mask gs all → ((r : ℕ) → IsPlace g.spot → (bit_at m r ≡ 1) ↔ (g.spot ≡ Reg r)) → new ≡ bit_or all m → IsOwnMask mask (gs ++ (g ∷ [])) new
 own_more mask all m new gs g before here is places r =
-    let b = before (λ k h e. places k h (got_before gs (g ∷ []) k h e)) r in
+    let b = before (λ k h e. places k h (get_left gs (g ∷ []) k h e)) r in
     let s = here r (places (length gs) g (got_after gs [] g)) in (
       λ e. elim (or_bit all m r (subst (λ n. bit_at n r ≡ 1) is e)) [
         | inl l ↦
             elim (b.0 l) [
               | inl o ↦ inl o
-              | inr k ↦ inr (k.0, (k.1.0, (got_before gs (g ∷ []) k.0 k.1.0 k.1.1.0, k.1.1.1)))
+              | inr k ↦ inr (k.0, (k.1.0, (get_left gs (g ∷ []) k.0 k.1.0 k.1.1.0, k.1.1.1)))
             ]
         | inr l ↦ inr (length gs, (g, (got_after gs [] g, s.0 l)))
       ],
@@ -171,7 +173,7 @@ distinct_first [] v d = tt
 distinct_first (x ∷ xs) v d = (none_before, distinct_first xs v d.1)
   where
     none_before : is_among x xs ≡ false
-    none_before = elim (true_or_false (is_among x xs)) [
+    none_before = elim (two_ways (is_among x xs)) [
       | inr f ↦ f
       | inl t ↦ let h : is_among x (xs ++ (v ∷ [])) ≡ true = among_left x xs (v ∷ []) t in let z : true ≡ false = sym h ∙ d.0 in cc
     ]
@@ -321,7 +323,7 @@ saves_more masks done k old new g h = record {
               | inl was ↦
                   elim (h.only (distinct_first (sites_at done) k.site d') s rs was) [
                     | inl empty ↦ inl empty
-                    | inr i ↦ inr (i.0, (i.1.0, (got_before done (k ∷ []) i.0 i.1.0 i.1.1.0, i.1.1.1)))
+                    | inr i ↦ inr (i.0, (i.1.0, (get_left done (k ∷ []) i.0 i.1.0 i.1.1.0, i.1.1.1)))
                   ]
             ]
       ];
@@ -342,7 +344,7 @@ pub saves_put : (masks : List ℕ) (k : CallSite) (old mid : List (List ℕ)) (r
 saves_put masks k old mid rs lt more empty is = record {
   saved = rs;
   is = is;
-  put = set_here mid k.site rs lt;
+  put = get_set mid k.site rs lt;
   others = λ s l n e. elim (set_cases mid k.site rs s) [
     | inl same ↦ absurd (n (sym same))
     | inr q ↦ q ∙ more s l e

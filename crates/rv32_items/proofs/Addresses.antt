@@ -3,6 +3,7 @@ use Rattle.std.proofs.Common.{◌≡◌, ◌≢◌, ℕ, zero, suc, ◌+◌, ◌
 use Rattle.std.specs.Prelude.{if◌then◌else◌}
 use Rattle.std.proofs.lemmas.Bool.{cases_eq, cases_order, eqb-true, eq-eqb, ne_eqb, true≢false, or_cases, or_right}
 use Rattle.std.proofs.lemmas.Option.{same_Some, slice_get_within}
+use Rattle.seq.proofs.Lists.{some_at as there}
 use Rattle.rv32_steps.specs.Trace.{is_one_of, procedure_from}
 use Rattle.rv32_items.specs.declared.Item.{Item}
 use Rattle.rv32_items.specs.declared.Item.TheVariants.{Label, Plain, Branch, Jump}
@@ -17,11 +18,6 @@ use Rattle.rv32_items.proofs.Stands.{stands}
 pub not_true : (b : Bool) → (b ≡ true → ⊥) → b ≡ false
 not_true true h = absurd (h refl)
 not_true false h = refl
-
-pub there : {X : Type 0} (xs : List X) (n : ℕ) → n < length xs → (x : X) × (slice_get xs n ≡ Some x)
-there [] n h = absurd (omega arith)
-there (x ∷ xs) zero h = (x, refl)
-there (x ∷ xs) (suc n) h = there xs n (omega arith)
 
 -- the first item at an address is there, and none before it is
 pub address_first : (m : ℕ) (items : List Item) (lay : Layout) (a t : ℕ) → address_from m items lay a ≡ Some t → (lay.address t ≡ a) × ((q : ℕ) → m ≤ q → q < t → lay.address q ≢ a)

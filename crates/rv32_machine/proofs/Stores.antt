@@ -2,12 +2,12 @@
 use Rattle.std.proofs.Common.{◌≡◌, ◌≢◌, ℕ, zero, suc, ◌+◌, ◌-◌, ◌%◌, ◌<◌, ◌≤◌, List, [], ◌∷◌, ◌++◌, length, take, Bool, true, false, Option, Some, None, refl, sym, ap, ◌∙◌, subst, arith}
 use Rattle.std.specs.Prelude.{drop, ◌^◌, nat_le, nat_lt, ◌&&◌, slice_index_or, slice_get, slice_set, if◌then◌else◌}
 use Rattle.std.proofs.lemmas.Bool.{cases_eq, leb-true, ltb-true}
-use Rattle.std.proofs.lemmas.Bool.Decides.{nat_tests}
 use Rattle.std.proofs.lemmas.Grind.{common_steps}
 use Rattle.std.proofs.lemmas.Option.{get_or_from_slice_get, same_Some}
 use mathlib.Core.Logic.{inl, inr}
 use Rattle.std.proofs.lemmas.List.{length-set, get_or-set_same, get_or-set_other, get_or_default}
 use Rattle.std.proofs.lemmas.List.Elements.{All-set}
+use Rattle.seq.proofs.Order.{lt_true, lt_false}
 use Rattle.rv32_machine.specs.declared.memory.Right.{Right}
 use Rattle.rv32_machine.specs.declared.memory.Right.TheVariants.{Read, Write, Execute}
 use Rattle.rv32_machine.specs.declared.memory.Access.TheVariants.{At, Outside}
@@ -143,12 +143,6 @@ written_back len new old same all = grind (arith, common_steps)
 
 -- ---- places of segments
 
-test_true : (a b : ℕ) → a < b → nat_lt a b ≡ true
-test_true a b h = grind (arith, nat_tests)
-
-test_false : (a b : ℕ) → b ≤ a → nat_lt a b ≡ false
-test_false a b h = grind (arith, nat_tests)
-
 -- a segment that is found serves, and is there
 pub record Serves (right : Right) (address : ℕ) (memory : List Stretch) (n : ℕ) : Type 0 where
   pub there : n < length memory
@@ -172,7 +166,7 @@ place_serves right address memory n e =
 module _ (right : Right) (address len n : ℕ) (memory : List Stretch) (place : IsPlace right address memory n) where
   pub at_none : length memory ≤ n → Outside address ≡ access right memory address len
   at_none beyond =
-      sym (access_is right memory address len ∙ ap (at_place memory address len) (place ∙ ap (λ b. if b then Some n else None) (test_false n (length memory) beyond)))
+      sym (access_is right memory address len ∙ ap (at_place memory address len) (place ∙ ap (λ b. if b then Some n else None) (lt_false n (length memory) beyond)))
 
   module _ (s : Stretch) (there : true ≡ nat_lt n (length memory)) (read : s ≡ slice_index_or memory n s) where
     inside : n < length memory
@@ -221,4 +215,4 @@ serving_place right memory address n s apart at serves =
     let there : n < length memory = is_there memory n s at in
     found_from right address 0 memory n there (ap (λ x. allows right x && is_in address x) is ∙ serves) (λ i h. apart address i n h (and_right (allows right (segment_at memory n)) (is_in address (segment_at memory n)) (ap (λ x. allows right x && is_in address x) is ∙ serves)))
     ∙ ap Some (omega arith)
-    ∙ sym (ap (λ b. if b then Some n else None) (test_true n (length memory) there))
+    ∙ sym (ap (λ b. if b then Some n else None) (lt_true n (length memory) there))

@@ -1,33 +1,30 @@
 -- Numbers that are in lists.
-use Rattle.std.proofs.Common.{◌≡◌, ℕ, zero, suc, Bool, true, false, List, [], ◌∷◌, ◌++◌, ◌⊎◌, inl, inr, Some, refl, sym, ap, ◌∙◌, arith}
+use Rattle.std.proofs.Common.{◌≡◌, ℕ, zero, suc, true, List, [], ◌∷◌, ◌++◌, ◌⊎◌, inl, inr, Some, sym, ap, ◌∙◌, arith}
 use Rattle.std.specs.Prelude.{nat_eq, ◌||◌, slice_get}
 use Rattle.std.proofs.lemmas.Bool.Decides.{nat_tests}
+use Rattle.seq.proofs.Truth.{two_ways}
 use Rattle.low_code.specs.Formed.{is_among, Site, sites_of, calls_in, all_sites, variables, all_variables}
 use Rattle.low_code.specs.Tree.{Procedure}
-
-pub decide : (b : Bool) → (b ≡ true) ⊎ (b ≡ false)
-decide true = inl refl
-decide false = inr refl
 
 pub among_first : (x : ℕ) (xs : List ℕ) → is_among x (x ∷ xs) ≡ true
 among_first x xs = let e : nat_eq x x ≡ true = grind (arith, nat_tests) in ap (λ b. b || is_among x xs) e
 
 pub among_later : (x y : ℕ) (xs : List ℕ) → is_among x xs ≡ true → is_among x (y ∷ xs) ≡ true
-among_later x y xs h = elim (decide (nat_eq x y)) [
+among_later x y xs h = elim (two_ways (nat_eq x y)) [
   | inl e ↦ ap (λ b. b || is_among x xs) e
   | inr e ↦ ap (λ b. b || is_among x xs) e ∙ h
 ]
 
 -- the first, or among the others
 pub among_cons : (x y : ℕ) (xs : List ℕ) → is_among x (y ∷ xs) ≡ true → (x ≡ y) ⊎ (is_among x xs ≡ true)
-among_cons x y xs h = elim (decide (nat_eq x y)) [
+among_cons x y xs h = elim (two_ways (nat_eq x y)) [
   | inl e ↦ inl (grind (arith, nat_tests))
   | inr e ↦ inr (sym (ap (λ b. b || is_among x xs) e) ∙ h)
 ]
 
 pub among_left : (x : ℕ) (a b : List ℕ) → is_among x a ≡ true → is_among x (a ++ b) ≡ true
 among_left x [] b h = cc
-among_left x (y ∷ a) b h = elim (decide (nat_eq x y)) [
+among_left x (y ∷ a) b h = elim (two_ways (nat_eq x y)) [
   | inl e ↦ ap (λ t. t || is_among x (a ++ b)) e
   | inr e ↦ ap (λ t. t || is_among x (a ++ b)) e ∙ among_left x a b (sym (ap (λ t. t || is_among x a) e) ∙ h)
 ]
@@ -38,7 +35,7 @@ among_right x (y ∷ a) b h = among_later x y (a ++ b) (among_right x a b h)
 
 pub among_either : (x : ℕ) (a b : List ℕ) → is_among x (a ++ b) ≡ true → (is_among x a ≡ true) ⊎ (is_among x b ≡ true)
 among_either x [] b h = inr h
-among_either x (y ∷ a) b h = elim (decide (nat_eq x y)) [
+among_either x (y ∷ a) b h = elim (two_ways (nat_eq x y)) [
   | inl e ↦ inl (ap (λ t. t || is_among x a) e)
   | inr e ↦ elim (among_either x a b (sym (ap (λ t. t || is_among x (a ++ b)) e) ∙ h)) [
     | inl p ↦ inl (among_later x y a p)

@@ -4,6 +4,7 @@ use Rattle.std.specs.Prelude.{nat_eq, nat_lt, if◌then◌else◌}
 use Rattle.std.proofs.Math.Nat.{mod-le}
 use Rattle.std.proofs.Math.IntN.{+ℤ_comm, *ℤ_comm}
 use Rattle.std.proofs.lemmas.Bool.Decides.{nat_tests}
+use Rattle.seq.proofs.Truth.{two_ways}
 use Rattle.numbers.specs.Numbers.{wrap, truth, same_number}
 use Rattle.rv32_isa.specs.declared.instr.Instr.TheVariants.{OpImm, Op}
 use Rattle.rv32_isa.specs.declared.instr.ImmKind.TheVariants.{Addi, Slti, Sltiu}
@@ -18,7 +19,7 @@ use Rattle.low_code.specs.declared.program.PrimOp.{PrimOp}
 use Rattle.low_code.specs.declared.program.PrimOp.TheVariants.{Add, Sub, Mul, Quot, Rem, Eq, Lt}
 use Rattle.low_code.specs.Arithmetic.{arithmetic}
 use Rattle.rv32_select.specs.Emit.{is_short, lower, negated, operation, immediate, is_immediate, is_free}
-use Rattle.rv32_select.proofs.Straight.{Data, with_reg, decide, Good, Does, does_on, does_to, does_imm, does_op}
+use Rattle.rv32_select.proofs.Straight.{Data, with_reg, Good, Does, does_on, does_to, does_imm, does_op}
 use Rattle.rv32_select.proofs.NumberParts.{value_is, set_here, again, short_part}
 
 -- ---- bounds
@@ -28,7 +29,7 @@ bit_small true = omega arith
 bit_small false = omega arith
 
 magnitude_small : (a : ℕ) → a < 2 ^ 32 → magnitude a < 2 ^ 32
-magnitude_small a h = elim (decide (nat_lt a (2 ^ 31))) [
+magnitude_small a h = elim (two_ways (nat_lt a (2 ^ 31))) [
   | inl e ↦ subst (λ t. (if not t then 2 ^ 32 - a else a) < 2 ^ 32) (sym e) h
   | inr e ↦ subst (λ t. (if not t then 2 ^ 32 - a else a) < 2 ^ 32) (sym e) (let large : 2 ^ 31 ≤ a = grind (arith, nat_tests) in omega arith)
 ]
@@ -67,7 +68,7 @@ same_turns : (y z : ℤ) → same_number y z ≡ same_number z y
 same_turns (pos m) (pos n) = equal_turns m n
   where
     equal_turns : (m n : ℕ) → nat_eq m n ≡ nat_eq n m
-    equal_turns m n = elim (decide (nat_eq m n)) [
+    equal_turns m n = elim (two_ways (nat_eq m n)) [
       | inl e ↦ e ∙ sym (let is : m ≡ n = grind (arith, nat_tests) in grind (arith, nat_tests))
       | inr e ↦ e ∙ sym (let is : m ≢ n = grind (arith, nat_tests) in grind (arith, nat_tests))
     ]
@@ -76,7 +77,7 @@ same_turns (negsuc m) (pos n) = refl
 same_turns (negsuc m) (negsuc n) = equal_turns m n
   where
     equal_turns : (m n : ℕ) → nat_eq m n ≡ nat_eq n m
-    equal_turns m n = elim (decide (nat_eq m n)) [
+    equal_turns m n = elim (two_ways (nat_eq m n)) [
       | inl e ↦ e ∙ sym (let is : m ≡ n = grind (arith, nat_tests) in grind (arith, nat_tests))
       | inr e ↦ e ∙ sym (let is : m ≢ n = grind (arith, nat_tests) in grind (arith, nat_tests))
     ]
@@ -92,7 +93,7 @@ signed_differ m n hm hn ne = by_sign (nat_lt m (2 ^ 31)) (nat_lt n (2 ^ 31))
 
 -- a difference that is below 1 is one of equal words
 difference_tells : (m n : ℕ) → m < 2 ^ 32 → n < 2 ^ 32 → bit (nat_lt (minus m n) 1) ≡ arithmetic Eq m n
-difference_tells m n hm hn = elim (decide (nat_eq m n)) [
+difference_tells m n hm hn = elim (two_ways (nat_eq m n)) [
   | inl e ↦
       let is : m ≡ n = grind (arith, nat_tests) in
       let none : nat_lt (minus m n) 1 ≡ true = let z : minus m n ≡ 0 = omega arith in grind (arith, nat_tests) in

@@ -2,6 +2,7 @@
 use Rattle.std.proofs.Common.{◌≡◌, ◌≢◌, ℕ, ◌+◌, ◌*◌, ◌≤◌, List, [], ◌∷◌, ◌++◌, map, length, get_or, cond, Bool, true, false, Some, ◌⊎◌, inl, inr, refl, sym, ap, ◌∙◌, subst, arith}
 use Rattle.std.specs.Prelude.{Option, nat_eq, ◌||◌, slice_get}
 use Rattle.std.proofs.lemmas.Bool.Decides.{nat_tests}
+use Rattle.seq.proofs.Truth.{two_ways}
 use Rattle.parallel_move.specs.declared.Spot.{Spot}
 use Rattle.parallel_move.specs.declared.Spot.TheVariants.{Reg, Slot, Scratch}
 use Rattle.parallel_move.specs.Moves.{Values}
@@ -20,7 +21,7 @@ use Rattle.rv32_select.specs.declared.source.Way.TheVariants.{Returns, Follows, 
 use Rattle.rv32_select.specs.Emit.{argument_spots, result_spots}
 use Rattle.rv32_select.specs.IsSelected.{Emits, first_label}
 use Rattle.rv32_select.proofs.Courses.{Stands}
-use Rattle.rv32_select.proofs.Straight.{Data, Good, decide, at}
+use Rattle.rv32_select.proofs.Straight.{Data, Good, at}
 use Rattle.rv32_select.proofs.FrameViews.{spots, Outside, Kept}
 use Rattle.rv32_select.proofs.OperandsRead.{IsPlace}
 use Rattle.rv32_select.proofs.Gathering.{AllPlaces}
@@ -54,7 +55,7 @@ bound_word width place [] (w ∷ vs) env env' u y v e h is = absurd (cc)
 bound_word width place (x ∷ xs) [] env env' u y v e h is = absurd (cc)
 bound_word width place (x ∷ xs) (w ∷ vs) env env' u y v e h is = elim (bound_word width place xs vs (with_var x w env) env' u y v e h.1 is) [
   | inl k ↦ inl k
-  | inr k ↦ elim (decide (nat_eq y x)) [
+  | inr k ↦ elim (two_ways (nat_eq y x)) [
     | inl t ↦
         let same : y ≡ x = grind (arith, nat_tests) in
         let two : Some w ≡ Some v = sym (ap (λ b. cond b (Some w) (env y)) t) ∙ k in

@@ -6,8 +6,8 @@ use Rattle.std.proofs.lemmas.Option.{slice_get_within}
 use Rattle.std.proofs.lemmas.List.{length-replicate}
 use Rattle.std.proofs.Math.ListN.{length-set}
 use Rattle.std.proofs.Math.Nat.{mul-le-mul_left}
+use Rattle.seq.proofs.Truth.{two_ways}
 use Rattle.low_code.specs.Values.{Word, number}
-use Rattle.rv32_select.proofs.Straight.{decide}
 use Rattle.rv32_select.proofs.Relation.{word_of, HoldsCells}
 
 pub get_of_set : {A : Type 0} (xs : List A) (i k : ℕ) (v x : A) → slice_get (slice_set xs i v) k ≡ Some x → ((k ≡ i) × (v ≡ x)) ⊎ ((k ≢ i) × (slice_get xs k ≡ Some x))
@@ -47,7 +47,7 @@ cells_apart width i a k t ne h h' e = elim (decide_order i a) [
 ]
   where
     decide_order : (i a : ℕ) → (i < a) ⊎ (a ≤ i)
-    decide_order i a = elim (decide (nat_lt i a)) [ inl e ↦ inl (grind (arith, nat_tests)) | inr e ↦ inr (grind (arith, nat_tests)) ]
+    decide_order i a = elim (two_ways (nat_lt i a)) [ inl e ↦ inl (grind (arith, nat_tests)) | inr e ↦ inr (grind (arith, nat_tests)) ]
 
 -- a word of a cell is one of the heap's
 pub cell_inside : (width i k n : ℕ) → i < n → k < width → width * i + k < width * n

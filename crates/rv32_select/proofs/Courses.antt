@@ -1,14 +1,10 @@
 -- Stretches of a course: from one point to another, to an exit, and what a longer course has of a shorter one.
 use Rattle.std.proofs.Common.{◌≡◌, ℕ, zero, suc, ◌+◌, List, [], ◌∷◌, ◌++◌, length, drop, Some, refl, sym, ap, ◌∙◌, subst, arith, append_assoc}
 use Rattle.std.specs.Prelude.{true, false, slice_get}
-use Rattle.std.proofs.lemmas.Grind.{common_steps}
 use Rattle.rv32_machine.specs.Steps.{given}
 use Rattle.rv32_items.specs.declared.Item.{Item}
 use Rattle.rv32_items.specs.Course.{Layout, Point, Next, Written, Asked, Ended, turn, behind, state_at, Going, Exited, Course, stands, after, onward, course, label_of}
 use Rattle.rv32_items.specs.Told.{is_call, returns, home_by, home_to, ReturnsHome}
-
-end_append : (xs : List ℕ) → xs ++ [] ≡ xs
-end_append xs = grind (arith, common_steps)
 
 -- these items stand from the n-th on
 abbrev pub Stands : List Item → ℕ → List Item → Type 0

@@ -8,6 +8,7 @@ use Rattle.std.specs.declared.boxed.Box.{Box}
 use Rattle.std.specs.declared.alloc.AllocError.{AllocError}
 use Rattle.std.proofs.Common.{Result, Ok, Err, OnOk}
 use Rattle.std.specs.declared.alloc.Global.{Global}
+use Rattle.seq.proofs.Lists.{drop_past}
 use Rattle.parallel_move.specs.declared.Spot.{Spot}
 use Rattle.parallel_move.specs.declared.Spot.TheVariants.{Reg}
 use Rattle.low_code.specs.declared.program.PrimOp.{PrimOp}
@@ -34,7 +35,7 @@ use Rattle.rv32_select.specs.Ranges.{IsSource, AreSpots, AllInRange, is_spot_in,
 use Rattle.rv32_select.specs.Writable.{Writable, HasPlace, HavePlaces, OperandPlaced, OperandsPlaced, TargetsPlaced, TestsPlaced, CallPlaced, Placed, ArmsPlaced, ArmPlaced, ProcedurePlaced}
 use Rattle.rv32_select.specs.Emitting.{Moved, Sent, Called, TailCalled, Emitted, EmittedArms, Before, ArmsBefore, one_arm}
 use Rattle.rv32_select.proofs.Plain.{plain_append}
-use Rattle.rv32_select.proofs.Sending.{spots_in_range, procedure_at, drop_all}
+use Rattle.rv32_select.proofs.Sending.{spots_in_range, procedure_at}
 
 -- what is placed in a statement
 module _ (l : Program) (a : Assignment) (stmt : LowStmt) where
@@ -279,7 +280,7 @@ module _ (l : Program) (a : Assignment) (cells stack words saved : ℕ) where
   pub block_made : (b : LowBlock) (items : List LowStmt) (i : ℕ) (to : List Spot) (way : Way) (old mid new : List Item) (n k m : ℕ) → items ≡ b.stmts → length items ≤ i → Towards (all_before (map before_of items)) (all_before (map before_of (drop i items))) old n mid k
       → Emitted l a cells stack words saved to way (end_of b.last) mid k new m → Emitted l a cells stack words saved to way (code_of b) old n new m
   block_made b items i to way old mid new n k m is over t e =
-      let none = drop_all items i over in
+      let none = drop_past items i over in
       let last : Emits l a cells stack words saved to way (all_before (map before_of (drop i items)) (end_of b.last)) k m e.items = rw none e.emits in
       let whole = t.emits to way (end_of b.last) m e.items last in
       rw (code_of-parts b) (record {
@@ -301,7 +302,7 @@ module _ (l : Program) (a : Assignment) (cells stack words saved : ℕ) where
       → Placed l a (code_of b) → Placed l a (end_of b.last)
   last_placed b items i old new n m e over t h =
       let parts : Placed l a (all_before (map before_of items) (end_of b.last)) = subst (λ ss. Placed l a (all_before (map before_of ss) (end_of b.last))) (sym e) (subst (Placed l a) (code_of-parts b) h) in
-      subst (λ ss. Placed l a (all_before (map before_of ss) (end_of b.last))) (drop_all items i over) (t.placed (end_of b.last) parts)
+      subst (λ ss. Placed l a (all_before (map before_of ss) (end_of b.last))) (drop_past items i over) (t.placed (end_of b.last) parts)
 
   pub record TowardsArms (to : List Spot) (way : Way) (whole rest : Code → Arms) (old : List Item) (n : ℕ) (new : List Item) (m : ℕ) : Type 0 where
     pub items : List Item
@@ -327,7 +328,7 @@ module _ (l : Program) (a : Assignment) (cells stack words saved : ℕ) where
   pub arms_made : (to : List Spot) (way : Way) (whole : Code → Arms) (c : Code) (items : List LowArm) (i : ℕ) (old mid new : List Item) (n k m : ℕ) → length items ≤ i → TowardsArms to way whole (arms_before (map arm_of (drop i items))) old n mid k
       → Emitted l a cells stack words saved to way c mid k new m → EmittedArms l a cells stack words saved to way (whole c) old n new m
   arms_made to way whole c items i old mid new n k m over t e =
-      let last : EmitsArms l a cells stack words saved to way (arms_before (map arm_of (drop i items)) c) k m e.items = rw (drop_all items i over) e.emits in
+      let last : EmitsArms l a cells stack words saved to way (arms_before (map arm_of (drop i items)) c) k m e.items = rw (drop_past items i over) e.emits in
       record {
         items = t.items ++ e.items;
         is = e.is ∙ ap (λ x. x ++ e.items) t.is ∙ append_assoc old t.items e.items;
@@ -344,7 +345,7 @@ module _ (l : Program) (a : Assignment) (cells stack words saved : ℕ) where
   pub otherwise_placed : (to : List Spot) (way : Way) (items : List LowArm) (i : ℕ) (c : Code) (old new : List Item) (n m : ℕ) → length items ≤ i → TowardsArms to way (arms_before (map arm_of items)) (arms_before (map arm_of (drop i items))) old n new m
       → ArmsPlaced l a (arms_before (map arm_of items) c) → Placed l a c
   otherwise_placed to way items i c old new n m over t h =
-      subst (λ ss. ArmsPlaced l a (arms_before (map arm_of ss) c)) (drop_all items i over) (t.placed c h)
+      subst (λ ss. ArmsPlaced l a (arms_before (map arm_of ss) c)) (drop_past items i over) (t.placed c h)
 
   -- ---- ends
 

@@ -3,6 +3,7 @@ use Rattle.std.proofs.Common.{◌≡◌, ℕ, ◌+◌, ◌<◌, ◌≤◌, ◌-�
 use Rattle.std.specs.Prelude.{slice_get}
 use Rattle.std.proofs.lemmas.List.{length-map}
 use Rattle.std.proofs.lemmas.Option.{same_Some}
+use Rattle.seq.proofs.Lists.{some_at, drop_past}
 use Rattle.parallel_move.specs.declared.Spot.{Spot}
 use Rattle.low_code.specs.declared.program.LowProc.{LowProc}
 use Rattle.low_code.specs.declared.program.Low.{Low}
@@ -17,7 +18,6 @@ use Rattle.rv32_select.specs.IsSelected.{EmitsProcedure, EmitsProcedures, IsSele
 use Rattle.rv32_select.specs.Ranges.{AreSpots}
 use Rattle.rv32_select.specs.Writable.{Writable, Placed, ProcedurePlaced}
 use Rattle.rv32_select.specs.Emitting.{Emitted, EmittedProcedure}
-use Rattle.rv32_select.proofs.Sending.{drop_all}
 use Rattle.rv32_select.proofs.Emitted.{result_at}
 
 pub body_placed : (low : Low) (a : Assignment) (procs : List LowProc) (f : ℕ) (q : LowProc) → Writable (program_of low) a → f < length low.procs → procs ≡ low.procs → q ≡ get_or procs f q → Placed (program_of low) a (code_of q.body)
@@ -80,16 +80,11 @@ full_label low a cells stack n e = ap (λ k. 2 + k) (e ∙ sym (length-map low.p
 pub own_labels : (low : Low) (a : Assignment) (cells stack n : ℕ) → n ≡ length low.procs → 3 + n ≡ first_label (program_of low) a cells stack
 own_labels low a cells stack n e = ap (λ k. 3 + k) (e ∙ sym (length-map low.procs procedure_of))
 
-at_number : {A : Type 0} (xs : List A) (i : ℕ) → i < length xs → (x : A) × (slice_get xs i ≡ Some x)
-at_number [] i lt = absurd (omega arith)
-at_number (x ∷ xs) zero lt = (x, refl)
-at_number (x ∷ xs) (suc i) lt = at_number xs i (omega (arith, lt))
-
 pub next_procedure : (low : Low) (a : Assignment) (cells stack f f' count : ℕ) (old mid new : List Item) (n k m : ℕ) → count ≡ length low.procs → f < count → f' ≡ f + 1 → Procedures (program_of low) a cells stack (program_of low).procs f old n mid k
     → EmittedProcedure (program_of low) a cells stack f mid k new m → Procedures (program_of low) a cells stack (program_of low).procs f' old n new m
 next_procedure low a cells stack f f' count old mid new n k m size lt next t p =
     let e = length-map low.procs procedure_of in
-    let here = at_number (program_of low).procs f (omega (arith, e, size, lt)) in
+    let here = some_at (program_of low).procs f (omega (arith, e, size, lt)) in
     one_more_procedure (program_of low) a cells stack f f' here.0 old mid new n k m here.1 next t p
 
 -- all items of a program
@@ -102,7 +97,7 @@ whole_made low a cells stack count f n m empty started called last new size over
     let head = start_items stack_end heap_base (heap_end l a cells stack) (step l a cells stack) (heap_full l a cells stack) low.globals in
     let first = first_call l a cells stack in
     let tail = stop_items (no_alternative l a cells stack) in
-    let past : drop f l.procs ≡ [] = drop_all l.procs f (let e = length-map low.procs procedure_of in omega (arith, size, over, e)) in
+    let past : drop f l.procs ≡ [] = drop_past l.procs f (let e = length-map low.procs procedure_of in omega (arith, size, over, e)) in
     let all : EmitsProcedures l a cells stack 0 l.procs n m (t.items ++ []) = t.emits m [] (subst (λ qs. EmitsProcedures l a cells stack f qs m m []) (sym past) (refl, refl)) in
     let whole : new ≡ ((head ++ first) ++ t.items) ++ tail = stops ∙ ap (λ x. x ++ tail) (t.is ∙ ap (λ x. x ++ t.items) (calls ∙ ap (λ x. x ++ first) (starts ∙ ap (λ x. x ++ head) none))) in
     record {

@@ -1,9 +1,11 @@
 -- Places that fit a formed program are what the simulation asks for.
-use Rattle.std.proofs.Common.{◌≡◌, ◌≢◌, ℕ, zero, suc, ◌+◌, ◌*◌, ◌^◌, ◌<◌, ◌≤◌, List, [], ◌∷◌, ◌++◌, map, length, Bool, true, false, Some, ◌⊎◌, inl, inr, refl, sym, ap, ◌∙◌, subst, arith}
+use Rattle.std.proofs.Common.{◌≡◌, ◌≢◌, ℕ, zero, suc, ◌+◌, ◌*◌, ◌^◌, ◌<◌, ◌≤◌, List, [], ◌∷◌, ◌++◌, map, length, true, false, Some, ◌⊎◌, inl, inr, refl, sym, ap, ◌∙◌, subst, arith}
 use Rattle.std.specs.Prelude.{nat_eq, slice_get}
 use Rattle.std.proofs.Math.Nat.{mul-le-mul_left}
 use Rattle.std.proofs.lemmas.Bool.Decides.{nat_tests}
 use Rattle.std.proofs.lemmas.Option.{slice_get_within}
+use Rattle.seq.proofs.Lists.{some_at, get_left, get_right}
+use Rattle.seq.proofs.Truth.{not_both, two_ways}
 use Rattle.parallel_move.specs.declared.Spot.{Spot}
 use Rattle.parallel_move.specs.declared.Spot.TheVariants.{Reg, Slot, Scratch}
 use Rattle.low_code.specs.Tree.{Code, set, prim, load, save, take, put, get, call, join, give, tail, choose, fail, Arms, otherwise, arm, Procedure, Program}
@@ -15,7 +17,6 @@ use Rattle.register_alloc.specs.Written.{variable, result, Written, assigned, ca
 use Rattle.register_alloc.specs.Fits.{IsPlace, IsSlot, IsRegister, ClearOf, Apart, IsSaved, slots_of, slot_end, longest, AllSlots, ParametersInRegisters, Fits}
 use Rattle.rv32_select.specs.Emit.{argument_spot, argument_spots, result_spots}
 use Rattle.low_code.specs.Literals.{Small, ArmsSmall}
-use Rattle.rv32_select.proofs.Straight.{decide}
 use Rattle.rv32_select.proofs.Relation.{Keeps}
 use Rattle.rv32_select.proofs.PlaceFacts.{NotAmong, Different, Free, IsOwn, AllOwn, AllFree, SavesFit, CallFits, Binds, Fine, ArmsFine, ProcedureFine}
 use Rattle.rv32_select.proofs.BlockFacts.{or_true, among_left, among_right}
@@ -23,35 +24,14 @@ use Rattle.rv32_select.proofs.Among.{among_first, among_either, variables_within
 
 -- ---- lists
 
-pub there : {A : Type 0} (xs : List A) (i : ℕ) → i < length xs → (x : A) × (slice_get xs i ≡ Some x)
-there [] i lt = absurd (omega arith)
-there (x ∷ xs) zero lt = (x, refl)
-there (x ∷ xs) (suc i) lt = there xs i (omega arith)
-
-got_left : {A : Type 0} (xs ys : List A) (k : ℕ) (x : A) → slice_get xs k ≡ Some x → slice_get (xs ++ ys) k ≡ Some x
-got_left [] ys k x e = absurd (cc)
-got_left (z ∷ xs) ys zero x e = e
-got_left (z ∷ xs) ys (suc k) x e = got_left xs ys k x e
-
-got_right : {A : Type 0} (xs ys : List A) (k : ℕ) (x : A) → slice_get ys k ≡ Some x → slice_get (xs ++ ys) (length xs + k) ≡ Some x
-got_right [] ys k x e =
-    let same : k ≡ 0 + k = omega arith in
-    subst (λ n. slice_get ys n ≡ Some x) same e
-got_right (z ∷ xs) ys k x e =
-    let same : suc (length xs + k) ≡ length (z ∷ xs) + k = omega arith in
-    subst (λ n. slice_get (z ∷ (xs ++ ys)) n ≡ Some x) same (got_right xs ys k x e)
-
-not_both : (b : Bool) → b ≡ true → b ≡ false → ⊥
-not_both b t f = cc
-
 none_left : (x : ℕ) (xs ys : List ℕ) → is_among x (xs ++ ys) ≡ false → is_among x xs ≡ false
-none_left x xs ys e = elim (decide (is_among x xs)) [
+none_left x xs ys e = elim (two_ways (is_among x xs)) [
   | inl h ↦ absurd (not_both (is_among x (xs ++ ys)) (among_left x xs ys h) e)
   | inr h ↦ h
 ]
 
 none_right : (x : ℕ) (xs ys : List ℕ) → is_among x (xs ++ ys) ≡ false → is_among x ys ≡ false
-none_right x xs ys e = elim (decide (is_among x ys)) [
+none_right x xs ys e = elim (two_ways (is_among x ys)) [
   | inl h ↦ absurd (not_both (is_among x (xs ++ ys)) (among_right x xs ys h) e)
   | inr h ↦ h
 ]
@@ -252,7 +232,7 @@ module _ (q : Procedure) where
         known = h.known;
         own = λ x e. h.own x (among_left x bs cs e);
         few = let few = h.few in omega (arith, le, few);
-        calls = λ k s e. h.calls k s (got_left ss ts k s e);
+        calls = λ k s e. h.calls k s (get_left ss ts k s e);
         once = once_left (sites_of ss) (sites_of ts) once;
         up = λ s y live. h.up s y (inl live);
         down = λ s y e live. elim (h.down s y (ap (is_among s) (sites_append ss ts) ∙ among_left s (sites_of ss) (sites_of ts) e) live) [
@@ -269,7 +249,7 @@ module _ (q : Procedure) where
         known = h.known;
         own = λ x e. h.own x (among_right x bs cs e);
         few = let few = h.few in omega (arith, le, few);
-        calls = λ k s e. h.calls (length ss + k) s (got_right ss ts k s e);
+        calls = λ k s e. h.calls (length ss + k) s (get_right ss ts k s e);
         once = once_right (sites_of ss) (sites_of ts) once;
         up = λ s y live. h.up s y (inr live);
         down = λ s y e live. elim (h.down s y (ap (is_among s) (sites_append ss ts) ∙ among_right s (sites_of ss) (sites_of ts) e) live) [
@@ -309,8 +289,8 @@ module _ (l : Program) (a : Assignment) (fits : Fits l a) (formed : Formed l) (n
   call_fits : (k site g : ℕ) → slice_get (calls_in q.body) k ≡ Some (site, g) → CallFits l a f g
   call_fits k site g e =
       let range = call_at (length l.procs) (calls_in q.body) k (site, g) e (calls_at (length l.procs) l.procs f q is formed.calls_in_range) in
-      let q' = there l.procs g range in
-      record { called = q'.0; is_called = q'.1; keeps = λ r h. record { variable = h.variable; among = h.among; place = h.place; low = h.low; high = h.high; unchanged = by_mask r range h.unchanged (decide (may_change a g r)) } }
+      let q' = some_at l.procs g range in
+      record { called = q'.0; is_called = q'.1; keeps = λ r h. record { variable = h.variable; among = h.among; place = h.place; low = h.low; high = h.high; unchanged = by_mask r range h.unchanged (two_ways (may_change a g r)) } }
     where
       by_mask : (r : ℕ) → g < length l.procs → may_change a f r ≡ false → (may_change a g r ≡ true) ⊎ (may_change a g r ≡ false) → may_change a g r ≡ false
       by_mask r range kept (inl t) = absurd (not_both (may_change a f r) ((fits.written f r within).1 (called f g site r q is k e ((fits.written g r range).0 t))) kept)
@@ -323,7 +303,7 @@ module _ (l : Program) (a : Assignment) (fits : Fits l a) (formed : Formed l) (n
       let enough = long_enough (saves_at a) (calls_in q.body) at.0 (site, g) at.1 in
       record {
         is_live = λ r among. live_at r ((fits.saved f at.0 site g r q is at.1).0 among);
-        is_saved = λ y r live e. by_mask at.0 at.1 y r live e (decide (may_change a g r));
+        is_saved = λ y r live e. by_mask at.0 at.1 y r live e (two_ways (may_change a g r));
         ascending = fits.ascending site;
         room = omega (arith, enough);
       }

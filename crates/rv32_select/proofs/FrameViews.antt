@@ -3,6 +3,7 @@ use Rattle.std.proofs.Common.{◌≡◌, ◌≢◌, ℕ, suc, ◌+◌, ◌-◌, 
 use Rattle.std.specs.Prelude.{pos, negsuc, nat_eq, nat_lt, if◌then◌else◌}
 use Rattle.std.proofs.lemmas.Bool.Decides.{nat_tests}
 use Rattle.std.proofs.Math.ListN.{length-set}
+use Rattle.seq.proofs.Truth.{two_ways}
 use Rattle.rv32_isa.specs.declared.instr.Instr.{Instr}
 use Rattle.rv32_isa.specs.declared.instr.Instr.TheVariants.{Lui, OpImm, Op}
 use Rattle.rv32_isa.specs.declared.instr.ImmKind.TheVariants.{Addi}
@@ -17,7 +18,7 @@ use Rattle.parallel_move.specs.declared.Spot.TheVariants.{Reg, Slot, Scratch}
 use Rattle.parallel_move.specs.declared.Move.{Move}
 use Rattle.parallel_move.specs.Moves.{Values, same, moved, one_by_one}
 use Rattle.rv32_select.specs.Emit.{lower, upper, copy, slot_bytes, slot_base, reach, load_slot, store_slot, from_spot, slot_from, move_to, moves_code}
-use Rattle.rv32_select.proofs.Straight.{Data, with_reg, with_stack, decide, Good, Does, does_nothing, does_to, does_on, does_lui, does_imm, does_op, does_load_stack, does_store_stack}
+use Rattle.rv32_select.proofs.Straight.{Data, with_reg, with_stack, Good, Does, does_nothing, does_to, does_on, does_lui, does_imm, does_op, does_load_stack, does_store_stack}
 use Rattle.rv32_select.proofs.NumberParts.{value_is, set_there, again, nothing_set, parts_sum}
 
 abbrev pub put : Spot → ℕ → Values → Values
@@ -112,7 +113,7 @@ module _ (c : Stretch) (b : Bases) (j slots : ℕ) where
   pub seen_slot : (d : Data) (k v : ℕ) → InFrame d → k < slots → (s : Spot) → spots (with_stack d (set d.stack (j + (1 + k)) v)) s ≡ put (Slot k) v (spots d) s
   seen_slot d k v f lt (Reg q) = refl
   seen_slot d k v f lt Scratch = refl
-  seen_slot d k v f lt (Slot i) = elim (decide (nat_eq i k)) [
+  seen_slot d k v f lt (Slot i) = elim (two_ways (nat_eq i k)) [
     | inl e ↦
         let is : i ≡ k = grind (arith, nat_tests) in
         let room : j + (1 + k) < length d.stack = let r = f.room in omega arith in
@@ -210,7 +211,7 @@ module _ (c : Stretch) (b : Bases) (j slots : ℕ) where
 
   -- a register gets what another one has
   pub copied : (r q : ℕ) (d : Data) → Good c b d → 1 ≤ q → q ≢ 7 → Does c b (copy r q) d (with_reg d r (d.regs q))
-  copied r q d g one ne = elim (decide (nat_eq r q)) [
+  copied r q d g one ne = elim (two_ways (nat_eq r q)) [
     | inl e ↦
         let is : r ≡ q = grind (arith, nat_tests) in
         let same : d ≡ with_reg d r (d.regs q) = sym (nothing_set d r) ∙ ap (λ x. with_reg d r (d.regs x)) is in
@@ -282,13 +283,13 @@ module _ (c : Stretch) (b : Bases) (j slots : ℕ) where
   same_slot : (i k : ℕ) → i ≡ k → (v : Values) (s : Spot) → put (Slot k) (v (Slot i)) v s ≡ v s
   same_slot i k e v (Reg r) = refl
   same_slot i k e v Scratch = refl
-  same_slot i k e v (Slot n) = elim (decide (nat_eq n k)) [
+  same_slot i k e v (Slot n) = elim (two_ways (nat_eq n k)) [
     | inl t ↦ ap (λ b. cond b (v (Slot i)) (v (Slot n))) t ∙ ap (λ x. v (Slot x)) (let is : n ≡ k = grind (arith, nat_tests) in e ∙ sym is)
     | inr t ↦ ap (λ b. cond b (v (Slot i)) (v (Slot n))) t
   ]
 
   slot_to_slot : (k i : ℕ) (d : Data) → Good c b d → InFrame d → k < slots → i < slots → Makes (slot_from k (Slot i)) d (put (Slot k) (spots d (Slot i)) (spots d))
-  slot_to_slot k i d g f lt lt' = elim (decide (nat_eq k i)) [
+  slot_to_slot k i d g f lt lt' = elim (two_ways (nat_eq k i)) [
     | inl e ↦
         let is : i ≡ k = grind (arith, nat_tests) in
         subst (λ t. Makes (if t then [] else load_slot 6 i ++ store_slot k 6) d (put (Slot k) (spots d (Slot i)) (spots d))) (sym e)

@@ -3,6 +3,7 @@ use Rattle.std.proofs.Common.{◌≡◌, ◌≢◌, ℕ, suc, ◌+◌, ◌*◌, 
 use Rattle.std.specs.Prelude.{pos, nat_eq, slice_get}
 use Rattle.std.proofs.lemmas.Bool.Decides.{nat_tests}
 use Rattle.std.proofs.Math.ListN.{length-set}
+use Rattle.seq.proofs.Truth.{two_ways}
 use Rattle.rv32_isa.specs.declared.instr.Instr.{Instr}
 use Rattle.rv32_isa.specs.declared.instr.Instr.TheVariants.{OpImm, Ecall}
 use Rattle.rv32_isa.specs.declared.instr.ImmKind.TheVariants.{Addi}
@@ -18,7 +19,7 @@ use Rattle.rv32_items.specs.declared.Item.TheVariants.{Plain}
 use Rattle.rv32_items.specs.Course.{Layout, Written, Asked, turn, turn_of, behind, behind_plain, label_of}
 use Rattle.rv32_select.specs.Emit.{aside, back}
 use Rattle.rv32_select.proofs.Courses.{Goes, one_written, one_asked}
-use Rattle.rv32_select.proofs.Straight.{Data, words, with_reg, with_stack, decide, Good, Does, does_on, does_imm, at, standing, stack_read, stack_written}
+use Rattle.rv32_select.proofs.Straight.{Data, words, with_reg, with_stack, Good, Does, does_on, does_imm, at, standing, stack_read, stack_written}
 use Rattle.rv32_select.proofs.NumberParts.{value_is, set_there, does_number}
 
 abbrev pub four : (file number : ℕ) → List Instr
@@ -127,7 +128,7 @@ all_back heap_end e d e5 e6 e7 e4 others r lo = by_ten (nat_eq r 10) refl
 
 -- a word that changed and came back
 pub word_back : (ws : List ℕ) (j v t : ℕ) → j < length ws → get_or (set (set ws j v) j (get_or ws j 0)) t 0 ≡ get_or ws t 0
-word_back ws j v t lt = elim (decide (nat_eq t j)) [
+word_back ws j v t lt = elim (two_ways (nat_eq t j)) [
   | inl e ↦
       let is : t ≡ j = grind (arith, nat_tests) in
       let longer = length-set ws j v in

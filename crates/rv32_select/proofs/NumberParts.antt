@@ -2,6 +2,8 @@
 use Rattle.std.proofs.Common.{◌≡◌, ◌≢◌, ℕ, suc, ◌-◌, ◌*◌, ◌/◌, ◌%◌, ◌^◌, ◌<◌, ◌≤◌, [], ◌∷◌, ◌++◌, Bool, true, false, inl, inr, refl, sym, ap, ◌∙◌, subst, arith}
 use Rattle.std.specs.Prelude.{pos, negsuc, nat_eq, nat_lt, ◌||◌, if◌then◌else◌}
 use Rattle.std.proofs.lemmas.Bool.Decides.{nat_tests}
+use Rattle.seq.proofs.Order.{eq_self, eq_false}
+use Rattle.seq.proofs.Truth.{two_ways}
 use Rattle.rv32_isa.specs.declared.instr.Instr.TheVariants.{Lui, OpImm, Op}
 use Rattle.rv32_isa.specs.declared.instr.ImmKind.TheVariants.{Addi}
 use Rattle.rv32_isa.specs.declared.instr.OpKind.TheVariants as op
@@ -11,32 +13,26 @@ use Rattle.rv32_machine.specs.Steps.{set_reg}
 use Rattle.rv32_steps.specs.Data.{Bases}
 use Rattle.rv32_steps.specs.Straight.{value}
 use Rattle.rv32_select.specs.Emit.{is_short, lower, upper, number_to, add_to}
-use Rattle.rv32_select.proofs.Straight.{Data, with_reg, decide, Good, Does, does_to, does_on, does_lui, does_imm, does_op}
+use Rattle.rv32_select.proofs.Straight.{Data, with_reg, Good, Does, does_to, does_on, does_lui, does_imm, does_op}
 
 pub ext : {f g : ℕ → ℕ} → ((q : ℕ) → f q ≡ g q) → f ≡ g
 ext h = λ i. λ q. h q i
 
-pub itself : (r : ℕ) → nat_eq r r ≡ true
-itself r = grind (arith, nat_tests)
-
-pub other : (q r : ℕ) → q ≢ r → nat_eq q r ≡ false
-other q r h = grind (arith, nat_tests)
-
 -- what a register reads as
 pub value_is : (regs : ℕ → ℕ) (r : ℕ) → 1 ≤ r → value regs r ≡ regs r
-value_is regs r h = ap (λ b. if b then 0 else regs r) (other r 0 (omega arith))
+value_is regs r h = ap (λ b. if b then 0 else regs r) (eq_false r 0 (omega arith))
 
 pub set_here : (regs : ℕ → ℕ) (r v : ℕ) → set_reg regs r v r ≡ v
-set_here regs r v = ap (λ b. if b then v else regs r) (itself r)
+set_here regs r v = ap (λ b. if b then v else regs r) (eq_self r)
 
 pub set_there : (regs : ℕ → ℕ) (r v q : ℕ) → q ≢ r → set_reg regs r v q ≡ regs q
-set_there regs r v q h = ap (λ b. if b then v else regs q) (other q r h)
+set_there regs r v q h = ap (λ b. if b then v else regs q) (eq_false q r h)
 
 pub set_again : (regs : ℕ → ℕ) (r a b : ℕ) → set_reg (set_reg regs r a) r b ≡ set_reg regs r b
 set_again regs r a b = ext (λ q. at_each q)
   where
     at_each : (q : ℕ) → set_reg (set_reg regs r a) r b q ≡ set_reg regs r b q
-    at_each q = elim (decide (nat_eq q r)) [
+    at_each q = elim (two_ways (nat_eq q r)) [
       | inl e ↦ ap (λ t. if t then b else (if t then a else regs q)) e ∙ sym (ap (λ t. if t then b else regs q) e)
       | inr e ↦ ap (λ t. if t then b else (if t then a else regs q)) e ∙ sym (ap (λ t. if t then b else regs q) e)
     ]
@@ -45,12 +41,12 @@ pub set_same : (regs : ℕ → ℕ) (r : ℕ) → set_reg regs r (regs r) ≡ re
 set_same regs r = ext (λ q. at_each q)
   where
     at_each : (q : ℕ) → set_reg regs r (regs r) q ≡ regs q
-    at_each q = elim (decide (nat_eq q r)) [
+    at_each q = elim (two_ways (nat_eq q r)) [
       | inl e ↦ ap (λ t. if t then regs r else regs q) e ∙ ap regs (let same : r ≡ q = grind (arith, nat_tests) in same)
       | inr e ↦ ap (λ t. if t then regs r else regs q) e
     ]
 
--- the data with other registers
+-- the data with eq_false registers
 pub data_of : Data → (ℕ → ℕ) → Data
 data_of d regs = record { regs = regs; heap = d.heap; stack = d.stack }
 
@@ -66,7 +62,7 @@ nothing_set d r = ap (data_of d) (set_same d.regs r)
 
 -- the parts of n give back its sum with a number
 pub parts_sum : (n x : ℕ) → n < 2 ^ 32 → plus (plus (upper n * 4096) x) (pattern (lower n)) ≡ plus n x
-parts_sum n x lt = elim (decide (nat_lt (n % 4096) (4096 / 2))) [
+parts_sum n x lt = elim (two_ways (nat_lt (n % 4096) (4096 / 2))) [
   | inl t ↦
       let small : n % 4096 < 2048 = grind (arith, nat_tests) in
       let there : plus (plus (upper n * 4096) x) (n % 4096) ≡ plus n x = omega arith in
@@ -84,7 +80,7 @@ parts_join n lt =
 
 -- a short number is its lower part
 pub short_part : (n : ℕ) → n < 2 ^ 32 → is_short n ≡ true → pattern (lower n) ≡ n
-short_part n lt short = elim (decide (nat_lt n 2048)) [
+short_part n lt short = elim (two_ways (nat_lt n 2048)) [
   | inl t ↦
       let small : n < 2048 = grind (arith, nat_tests) in
       let low : nat_lt (n % 4096) (4096 / 2) ≡ true = let h : n % 4096 < 2048 = omega arith in grind (arith, nat_tests) in
@@ -125,7 +121,7 @@ module _ (c : Stretch) (b : Bases) where
     pub does : Does c b (add_to r q n) d (with_reg (with_reg d 5 scratch) r (plus (d.regs q) n))
 
   pub does_add : (r q n : ℕ) (d : Data) → Good c b d → 1 ≤ q → q ≢ 5 → n < 2 ^ 32 → Added r q n d
-  does_add r q n d g one ne lt = elim (decide (is_short n)) [
+  does_add r q n d g one ne lt = elim (two_ways (is_short n)) [
     | inl e ↦
         let sum : plus (value d.regs q) (pattern (lower n)) ≡ plus (d.regs q) n = ap (λ x. plus x (pattern (lower n))) (value_is d.regs q one) ∙ ap (plus (d.regs q)) (short_part n lt e) in
         let short = does_to c b (does_imm c b Addi r q (lower n) (plus (d.regs q) n) d g sum (omega arith)) (ap (λ x. with_reg x r (plus (d.regs q) n)) (sym (nothing_set d 5))) in

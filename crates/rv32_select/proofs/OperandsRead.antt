@@ -2,6 +2,7 @@
 use Rattle.std.proofs.Common.{◌≡◌, ◌≢◌, ℕ, ◌^◌, ◌<◌, ◌≤◌, List, [], ◌++◌, cond, Bool, true, false, ◌⊎◌, inl, inr, refl, sym, ap, ◌∙◌, subst, arith}
 use Rattle.std.specs.Prelude.{nat_eq, if◌then◌else◌}
 use Rattle.std.proofs.lemmas.Bool.Decides.{nat_tests}
+use Rattle.seq.proofs.Order.{eq_false}
 use Rattle.rv32_isa.specs.declared.instr.Instr.{Instr}
 use Rattle.rv32_machine.specs.Memory.{Stretch}
 use Rattle.rv32_machine.specs.Steps.{set_reg}
@@ -14,12 +15,12 @@ use Rattle.rv32_select.specs.Emit.{number_to, move_to, target, keep, held, hold,
 use Rattle.rv32_select.specs.declared.source.Source.{Source}
 use Rattle.rv32_select.specs.declared.source.Source.TheVariants.{At, Number}
 use Rattle.rv32_select.proofs.Straight.{Data, with_reg, Good, Does, does_nothing, does_to, does_on}
-use Rattle.rv32_select.proofs.NumberParts.{other, value_is, set_here, set_there, nothing_set, does_number}
+use Rattle.rv32_select.proofs.NumberParts.{value_is, set_here, set_there, nothing_set, does_number}
 use Rattle.rv32_select.proofs.FrameViews.{put, spots, InFrame, Ok, Kept, kept_on, in_frame, kept_reg, seen_reg, loaded, Makes, stores, move_made}
 
 pub differ : (s t : Spot) → s ≢ t → same s t ≡ false
-differ (Reg r) (Reg q) h = other r q (λ e. h (ap Reg e))
-differ (Slot r) (Slot q) h = other r q (λ e. h (ap Slot e))
+differ (Reg r) (Reg q) h = eq_false r q (λ e. h (ap Reg e))
+differ (Slot r) (Slot q) h = eq_false r q (λ e. h (ap Slot e))
 differ Scratch Scratch h = absurd (h refl)
 differ (Reg r) (Slot k) h = refl
 differ (Reg r) Scratch h = refl
@@ -143,7 +144,7 @@ module _ (c : Stretch) (b : Bases) (j slots : ℕ) where
   abbrev pub IsPlace : Spot → Type 0
   IsPlace t = Ok c b j slots t × (t ≢ Scratch)
 
-  -- the place has this word, and other places are as they were
+  -- the place has this word, and eq_false places are as they were
   pub record Sets (is : List Instr) (d : Data) (t : Spot) (n : ℕ) : Type 0 where
     pub to : Data
     pub does : Does c b is d to

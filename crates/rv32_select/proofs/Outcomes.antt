@@ -1,8 +1,9 @@
 -- What the courses of items are where the machine does what each run of a program does, however many units it has.
-use Rattle.std.proofs.Common.{◌≡◌, ℕ, suc, ◌+◌, ◌-◌, ◌≤◌, ◌<◌, List, [], ◌∷◌, ◌++◌, length, Bool, true, false, Some, ◌⊎◌, inl, inr, refl, sym, ap, ◌∙◌, subst, arith, append_assoc, length-append}
-use Rattle.std.specs.Prelude.{nat_eq, nat_lt, if◌then◌else◌, slice_get}
-use Rattle.std.proofs.lemmas.Bool.Decides.{nat_tests}
+use Rattle.std.proofs.Common.{◌≡◌, ℕ, suc, ◌+◌, ◌-◌, ◌≤◌, List, [], ◌∷◌, ◌++◌, length, Bool, true, false, Some, inl, inr, refl, sym, ap, ◌∙◌, subst, arith, append_assoc, length-append}
+use Rattle.std.specs.Prelude.{nat_eq, if◌then◌else◌, slice_get}
 use Rattle.std.proofs.lemmas.Grind.{common_steps}
+use Rattle.seq.proofs.Lists.{is_empty}
+use Rattle.seq.proofs.Order.{le_or_lt}
 use Rattle.low_code.specs.Values.{World, Answer, gives, stops, no_alternative, out_of_units, missing, heap_full, stack_full}
 use Rattle.low_code.specs.Run.{end_of, world_of}
 use Rattle.rv32_steps.specs.Trace.{procedures_at, procedure_from}
@@ -17,10 +18,6 @@ use Rattle.rv32_select.proofs.Relation.{Ran, Ends, Waits}
 
 nothing_more : (xs : List ℕ) → xs ≡ xs ++ []
 nothing_more xs = grind (arith, common_steps)
-
-is_empty : (xs : List ℕ) → length xs ≡ 0 → xs ≡ []
-is_empty [] h = refl
-is_empty (x ∷ xs) h = absurd (omega arith)
 
 one_at_most : (f : ℕ) (begins : List ℕ) (l : ℕ) → length (procedure_from f begins l) ≤ 1
 one_at_most f [] l = omega arith
@@ -42,13 +39,6 @@ procedures_few begins (l ∷ labels) =
 procedures_split : (begins xs ys : List ℕ) → procedures_at begins (xs ++ ys) ≡ procedures_at begins xs ++ procedures_at begins ys
 procedures_split begins [] ys = refl
 procedures_split begins (x ∷ xs) ys = ap (λ l. procedure_from 0 begins x ++ l) (procedures_split begins xs ys) ∙ sym (append_assoc (procedure_from 0 begins x) (procedures_at begins xs) (procedures_at begins ys))
-
-order : (a b : ℕ) → (a ≤ b) ⊎ (b < a)
-order a b = by_test (nat_lt b a) refl
-  where
-    by_test : (t : Bool) → nat_lt b a ≡ t → (a ≤ b) ⊎ (b < a)
-    by_test true e = inr (grind (arith, nat_tests))
-    by_test false e = inl (grind (arith, nat_tests))
 
 module _ (lay : Layout) (items : List Item) (begins input : List ℕ) (p : Point) where
   -- the machine does from p what a run does that ends so
@@ -155,7 +145,7 @@ module _ (lay : Layout) (items : List Item) (begins input : List ℕ) (p : Point
     follows_exit : (w : World) (code k : ℕ) (e : Ends lay items begins p [] w0 w code) (x : Answer) → world_of x ≡ w → exit_of (end_of x) ≡ Some code → length w.entered ≤ length (procedures_at begins (course lay items k input p).passed) → Follows begins input x (course lay items k input p)
     follows_exit w code k e x is exit few =
         let whole = after e.bytes e.labels (stands w.input (Exited code)) in
-        let front : IsFront (course lay items k input p) whole = elim (order k e.count) [
+        let front : IsFront (course lay items k input p) whole = elim (le_or_lt k e.count) [
           | inl le ↦
               let zero_more : e.count + 0 ≡ e.count = omega arith in
               subst (λ c. IsFront (course lay items k input p) c) (ap (λ n. course lay items n input p) (sym zero_more) ∙ exit_course w code e 0) (front_of k e.count le)
@@ -185,7 +175,7 @@ module _ (lay : Layout) (items : List Item) (begins input : List ℕ) (p : Point
         let along = λ (n : ℕ). subst (λ i. course lay items (r.count + n) i p ≡ after r.bytes r.labels (course lay items n w.input q)) start.input_is (r.way.by n) in
         let zero_more : r.count + 0 ≡ r.count = omega arith in
         let at_end : course lay items r.count input p ≡ after r.bytes r.labels (stands w.input (Going q)) = ap (λ n. course lay items n input p) (sym zero_more) ∙ along 0 ∙ ap (after r.bytes r.labels) (course_none lay items w.input q) in
-        elim (order k r.count) [
+        elim (le_or_lt k r.count) [
           | inl le ↦
               let front = subst (λ c. IsFront (course lay items k input p) c) at_end (front_of k r.count le) in
               follows_front x r.bytes r.labels (course lay items k input p) (after r.bytes r.labels (stands w.input (Going q))) (out_bytes w r.bytes r.out) (entered_labels w r.labels r.entered) (omega arith)

@@ -2,6 +2,8 @@
 use Rattle.std.proofs.Common.{◌≡◌, ℕ, zero, suc, ◌+◌, ◌≤◌, ◌<◌, List, [], ◌∷◌, length, cond, Bool, true, false, Some, inl, inr, refl, sym, ap, ◌∙◌, subst, arith}
 use Rattle.std.specs.Prelude.{nat_eq, ◌||◌, slice_get}
 use Rattle.std.proofs.lemmas.Bool.Decides.{nat_tests}
+use Rattle.seq.proofs.Order.{eq_false}
+use Rattle.seq.proofs.Truth.{two_ways}
 use Rattle.parallel_move.specs.declared.Spot.{Spot}
 use Rattle.parallel_move.specs.declared.Spot.TheVariants.{Reg, Slot}
 use Rattle.parallel_move.specs.declared.Move.{Move}
@@ -11,14 +13,12 @@ use Rattle.register_alloc.specs.Fits.{Ascending}
 use Rattle.rv32_machine.specs.Memory.{Stretch}
 use Rattle.rv32_steps.specs.Data.{Bases}
 use Rattle.rv32_select.specs.Emit.{save_moves, restore_moves}
-use Rattle.rv32_select.proofs.Straight.{decide}
-use Rattle.rv32_select.proofs.NumberParts.{other}
 use Rattle.rv32_select.proofs.FrameViews.{AllOk}
 
 -- a spot that no move goes to
 not_moved : (ms : List Move) (v : Values) (s : Spot) → is_target s ms ≡ false → one_by_one ms v s ≡ v s
 not_moved [] v s h = refl
-not_moved (m ∷ ms) v s h = elim (decide (same s m.to)) [
+not_moved (m ∷ ms) v s h = elim (two_ways (same s m.to)) [
   | inl e ↦ let no : true ≡ false = ap (λ b. b || is_target s ms) (sym e) ∙ h in absurd (cc)
   | inr e ↦ not_moved ms (moved m v) s (ap (λ b. b || is_target s ms) (sym e) ∙ h) ∙ ap (λ b. cond b (v m.from) (v s)) e
 ]
@@ -26,7 +26,7 @@ not_moved (m ∷ ms) v s h = elim (decide (same s m.to)) [
 -- saves go to slots from `first` on, restores to registers
 save_low : (first : ℕ) (rs : List ℕ) (k : ℕ) → k < first → is_target (Slot k) (save_moves first rs) ≡ false
 save_low first [] k h = refl
-save_low first (r ∷ rs) k h = ap (λ b. b || is_target (Slot k) (save_moves (suc first) rs)) (other k first (omega arith)) ∙ save_low (suc first) rs k (omega arith)
+save_low first (r ∷ rs) k h = ap (λ b. b || is_target (Slot k) (save_moves (suc first) rs)) (eq_false k first (omega arith)) ∙ save_low (suc first) rs k (omega arith)
 
 save_no_register : (first : ℕ) (rs : List ℕ) (q : ℕ) → is_target (Reg q) (save_moves first rs) ≡ false
 save_no_register first [] q = refl
@@ -38,7 +38,7 @@ restore_no_slot first (r ∷ rs) k = restore_no_slot (suc first) rs k
 
 restore_others : (first : ℕ) (rs : List ℕ) (q : ℕ) → is_among q rs ≡ false → is_target (Reg q) (restore_moves first rs) ≡ false
 restore_others first [] q h = refl
-restore_others first (r ∷ rs) q h = elim (decide (nat_eq q r)) [
+restore_others first (r ∷ rs) q h = elim (two_ways (nat_eq q r)) [
   | inl e ↦ let no : true ≡ false = ap (λ b. b || is_among q rs) (sym e) ∙ h in absurd (cc)
   | inr e ↦
       ap (λ b. b || is_target (Reg q) (restore_moves (suc first) rs)) e
@@ -78,7 +78,7 @@ saved_word first (q ∷ rs) v (suc i) r e =
 -- ascending registers are different
 below_all : (q : ℕ) (rs : List ℕ) → Ascending (q ∷ rs) → (r : ℕ) → is_among r rs ≡ true → q < r
 below_all q [] h r e = absurd (cc)
-below_all q (p ∷ rs) h r e = elim (decide (nat_eq r p)) [
+below_all q (p ∷ rs) h r e = elim (two_ways (nat_eq r p)) [
   | inl t ↦ let is : p ≡ r = grind (arith, nat_tests) in subst (λ x. q < x) is h.0
   | inr t ↦ let more = below_all p rs h.1 r (ap (λ b. b || is_among r rs) (sym t) ∙ e) in omega (arith, more, h.0)
 ]
@@ -111,7 +111,7 @@ restored first (q ∷ rs) v (suc i) r a e =
 
 pub among_index : (r : ℕ) (rs : List ℕ) → is_among r rs ≡ true → (i : ℕ) × (slice_get rs i ≡ Some r)
 among_index r [] e = absurd (cc)
-among_index r (q ∷ rs) e = elim (decide (nat_eq r q)) [
+among_index r (q ∷ rs) e = elim (two_ways (nat_eq r q)) [
   | inl t ↦ let is : q ≡ r = grind (arith, nat_tests) in (0, ap (λ x. Some x) is)
   | inr t ↦ let more = among_index r rs (ap (λ b. b || is_among r rs) (sym t) ∙ e) in (suc more.0, more.1)
 ]

@@ -1,7 +1,9 @@
 -- Moves that bring words to spots.
-use Rattle.std.proofs.Common.{◌≡◌, ℕ, suc, ◌+◌, ◌-◌, ◌<◌, ◌≤◌, Bool, true, false, List, [], ◌∷◌, ◌++◌, ◌*◌, map, length, get_or, drop, zero, Some, append_assoc, append-nil, ◌⊎◌, refl, sym, ap, ◌∙◌, subst, arith, inl, inr}
+use Rattle.std.proofs.Common.{◌≡◌, ℕ, suc, ◌+◌, ◌-◌, ◌<◌, ◌≤◌, true, false, List, [], ◌∷◌, ◌++◌, ◌*◌, map, length, get_or, drop, zero, Some, append_assoc, append-nil, ◌⊎◌, refl, sym, ap, ◌∙◌, subst, arith, inl, inr}
 use Rattle.std.proofs.lemmas.List.{length-map}
 use Rattle.std.specs.Prelude.{◌||◌, slice_get}
+use Rattle.seq.proofs.Truth.{two_ways}
+use Rattle.seq.proofs.Lists.{is_empty, drop_past}
 use Rattle.parallel_move.specs.declared.Spot.{Spot}
 use Rattle.parallel_move.specs.declared.Spot.TheVariants.{Reg}
 use Rattle.parallel_move.specs.declared.Move.{Move}
@@ -22,19 +24,15 @@ use Rattle.rv32_select.specs.Ranges.{in_range, AllInRange, AreSpots, AreSources,
 use Rattle.rv32_select.specs.Writable.{Writable, OperandsPlaced, HavePlaces, TargetsPlaced}
 use Rattle.rv32_select.proofs.Plain.{plain_append}
 
-decide : (b : Bool) → (b ≡ true) ⊎ (b ≡ false)
-decide true = inl refl
-decide false = inr refl
-
 -- a spot that isn't in a list is no target of moves to it
 not_sent : (s : Spot) (to : List Spot) (from : List Source) → is_spot_in s to ≡ false → is_target s (spot_moves to from) ≡ false
 not_sent s [] from h = refl
 not_sent s (t ∷ to) [] h = refl
-not_sent s (t ∷ to) (At u ∷ from) h = elim (decide (same s t)) [
+not_sent s (t ∷ to) (At u ∷ from) h = elim (two_ways (same s t)) [
   | inl e ↦ let no : true ≡ false = ap (λ b. b || is_spot_in s to) (sym e) ∙ h in cc
   | inr e ↦ ap (λ b. b || is_target s (spot_moves to from)) e ∙ not_sent s to from (ap (λ b. b || is_spot_in s to) (sym e) ∙ h)
 ]
-not_sent s (t ∷ to) (Number n ∷ from) h = elim (decide (same s t)) [
+not_sent s (t ∷ to) (Number n ∷ from) h = elim (two_ways (same s t)) [
   | inl e ↦ let no : true ≡ false = ap (λ b. b || is_spot_in s to) (sym e) ∙ h in cc
   | inr e ↦ not_sent s to from (ap (λ b. b || is_spot_in s to) (sym e) ∙ h)
 ]
@@ -61,7 +59,7 @@ sent_in_range (t ∷ to) (Number n ∷ from) h k = sent_in_range to from h.1 k.1
 not_between : (s : Spot) (to from : List Spot) → is_spot_in s to ≡ false → is_target s (moves_between to from) ≡ false
 not_between s [] from h = refl
 not_between s (t ∷ to) [] h = refl
-not_between s (t ∷ to) (u ∷ from) h = elim (decide (same s t)) [
+not_between s (t ∷ to) (u ∷ from) h = elim (two_ways (same s t)) [
   | inl e ↦ let no : true ≡ false = ap (λ b. b || is_spot_in s to) (sym e) ∙ h in cc
   | inr e ↦ ap (λ b. b || is_target s (moves_between to from)) e ∙ not_between s to from (ap (λ b. b || is_spot_in s to) (sym e) ∙ h)
 ]
@@ -127,13 +125,10 @@ pub between_by : (moves : List Move) (to from : List Spot) (old new : List Item)
 between_by moves to from old new e m = rw (sym e) m
 
 -- where no spot or no word is left
-empty : {A : Type 0} (xs : List A) → length xs ≡ 0 → xs ≡ []
-empty [] e = refl
-empty (x ∷ xs) e = absurd (omega arith)
 
 none_sent : (to : List Spot) (from : List Source) → (length to ≡ 0) ⊎ (length from ≡ 0) → spot_moves to from ≡ []
-none_sent to from (inl h) = ap (λ x. spot_moves x from) (empty to h)
-none_sent to from (inr h) = ap (λ x. spot_moves to x) (empty from h) ∙ none to
+none_sent to from (inl h) = ap (λ x. spot_moves x from) (is_empty to h)
+none_sent to from (inr h) = ap (λ x. spot_moves to x) (is_empty from h) ∙ none to
   where
     none : (to : List Spot) → spot_moves to [] ≡ []
     none [] = refl
@@ -143,8 +138,8 @@ pub all_sent : (made whole : List Move) (to : List Spot) (from : List Source) �
 all_sent made whole to from h e = sym (append-nil made) ∙ ap (λ x. made ++ x) (sym (none_sent to from h)) ∙ e
 
 no_numbers : (to : List Spot) (from : List Source) → (length to ≡ 0) ⊎ (length from ≡ 0) → number_moves to from ≡ []
-no_numbers to from (inl h) = ap (λ x. number_moves x from) (empty to h)
-no_numbers to from (inr h) = ap (λ x. number_moves to x) (empty from h) ∙ none to
+no_numbers to from (inl h) = ap (λ x. number_moves x from) (is_empty to h)
+no_numbers to from (inr h) = ap (λ x. number_moves to x) (is_empty from h) ∙ none to
   where
     none : (to : List Spot) → number_moves to [] ≡ []
     none [] = refl
@@ -154,8 +149,8 @@ pub all_numbers : (made whole : List Item) (to : List Spot) (from : List Source)
 all_numbers made whole to from h e = sym (append-nil made) ∙ ap (λ x. made ++ plain x) (sym (no_numbers to from h)) ∙ e
 
 none_between : (to from : List Spot) → (length to ≡ 0) ⊎ (length from ≡ 0) → moves_between to from ≡ []
-none_between to from (inl h) = ap (λ x. moves_between x from) (empty to h)
-none_between to from (inr h) = ap (λ x. moves_between to x) (empty from h) ∙ none to
+none_between to from (inl h) = ap (λ x. moves_between x from) (is_empty to h)
+none_between to from (inr h) = ap (λ x. moves_between to x) (is_empty from h) ∙ none to
   where
     none : (to : List Spot) → moves_between to [] ≡ []
     none [] = refl
@@ -197,14 +192,9 @@ results_pushed made pushed r i n lt e p =
     ap (λ x. x ++ rest) p ∙ append_assoc made (Reg (r + i) ∷ []) rest ∙ ap (λ x. made ++ x) (sym more) ∙ e
 
 -- a list that was made item by item
-pub drop_all : {A : Type 0} (xs : List A) (i : ℕ) → length xs ≤ i → drop i xs ≡ []
-drop_all [] zero le = refl
-drop_all [] (suc i) le = refl
-drop_all (x ∷ xs) zero le = absurd (omega (arith, le))
-drop_all (x ∷ xs) (suc i) le = drop_all xs i (omega (arith, le))
 
 pub all_made : {A B : Type 0} (f : A → B) (made : List B) (xs : List A) (i : ℕ) → made ++ map f (drop i xs) ≡ map f xs → length xs ≤ i → made ≡ map f xs
-all_made f made xs i e le = sym (append-nil made) ∙ ap (λ x. made ++ map f x) (sym (drop_all xs i le)) ∙ e
+all_made f made xs i e le = sym (append-nil made) ∙ ap (λ x. made ++ map f x) (sym (drop_past xs i le)) ∙ e
 
 -- the procedure at a number
 pub procedure_at : (procs : List LowProc) (f : ℕ) (d : LowProc) → f < length procs → slice_get (map procedure_of procs) f ≡ Some (procedure_of (get_or procs f d))

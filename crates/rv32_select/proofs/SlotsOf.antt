@@ -1,9 +1,9 @@
 -- The slots of variables, one variable after another.
 use Rattle.std.proofs.Common.{◌≡◌, ℕ, suc, ◌+◌, ◌<◌, ◌≤◌, max, List, ◌∷◌, drop, drop-cons, get_or, length, sym, ap, ◌∙◌, arith}
 use Rattle.std.proofs.Math.Nat.{le-max_left, le-max_right, max-le}
+use Rattle.seq.proofs.Lists.{drop_past}
 use Rattle.parallel_move.specs.declared.Spot.{Spot}
 use Rattle.register_alloc.specs.Fits.{slot_end, slots_of}
-use Rattle.rv32_select.proofs.Sending.{drop_all}
 
 pub max_grouped : (a b c : ℕ) → max (max a b) c ≡ max a (max b c)
 max_grouped a b c =
@@ -42,7 +42,7 @@ slot_small place xs i x m b lt is old few =
     omega (arith, one, two, step, few)
 
 pub slots_counted : (place : ℕ → Spot) (xs : List ℕ) (i m : ℕ) → length xs ≤ i → max m (slots_of place (drop i xs)) ≡ slots_of place xs → m ≡ slots_of place xs
-slots_counted place xs i m over e = sym (max_zero m) ∙ ap (λ ys. max m (slots_of place ys)) (sym (drop_all xs i over)) ∙ e
+slots_counted place xs i m over e = sym (max_zero m) ∙ ap (λ ys. max m (slots_of place ys)) (sym (drop_past xs i over)) ∙ e
 
 pub no_slot : (place : ℕ → Spot) (xs : List ℕ) → max 0 (slots_of place xs) ≡ slots_of place xs
 no_slot place xs = let low = le-max_right 0 (slots_of place xs) in let high : max 0 (slots_of place xs) ≤ slots_of place xs = max-le (omega arith) (omega arith) in omega (arith, low, high)

@@ -5,6 +5,7 @@ use Rattle.std.proofs.lemmas.Bool.Decides.{nat_tests}
 use Rattle.std.proofs.lemmas.Grind.{common_steps}
 use Rattle.std.proofs.Math.ListN.{length-set}
 use Rattle.std.proofs.Math.Nat.{mul-le-mul_left}
+use Rattle.seq.proofs.Lists.{get_last}
 use Rattle.rv32_isa.specs.declared.instr.ImmKind.TheVariants.{Addi}
 use Rattle.rv32_machine.specs.Memory.{Stretch}
 use Rattle.rv32_machine.specs.Arithmetic.{plus}
@@ -57,10 +58,6 @@ set_behind : {A : Type 0} (xs : List A) (x y : A) → slice_set (xs ++ x ∷ [])
 set_behind [] x y = refl
 set_behind (z ∷ xs) x y = ap (λ l. z ∷ l) (set_behind xs x y)
 
-get_behind : {A : Type 0} (xs : List A) (x : A) → slice_get (xs ++ x ∷ []) (length xs) ≡ Some x
-get_behind [] x = refl
-get_behind (z ∷ xs) x = get_behind xs x
-
 module _ (l : Program) (lay : Layout) (cells stack : ℕ) (wide : 1 ≤ l.width) (narrow : l.width ≤ 14) where
   abbrev tag_cell : ℕ → List Word
   tag_cell t = slice_set (replicate l.width (number 0)) 0 (number t)
@@ -112,7 +109,7 @@ module _ (l : Program) (lay : Layout) (cells stack : ℕ) (wide : 1 ≤ l.width)
       let longer : length (cs ++ tag_cell t ∷ []) ≡ suc (length cs) = length-append cs (tag_cell t ∷ []) ∙ omega arith in
       let first_word : slice_get empty 0 ≡ Some (number 0) = first l.width wide in
       let taken : HoldsCells l.width d.heap (cs ++ empty ∷ []) = cells_taken l.width d.heap cs 1 h in
-      let stored = cells_stored l.width d.heap (cs ++ empty ∷ []) (length cs) 0 empty (number 0) (number t) taken (get_behind cs empty) first_word inside in
+      let stored = cells_stored l.width d.heap (cs ++ empty ∷ []) (length cs) 0 empty (number 0) (number t) taken (get_last cs empty) first_word inside in
       let cells1 : HoldsCells l.width e3.heap (cs ++ tag_cell t ∷ []) = subst (λ x. HoldsCells l.width (set d.heap (l.width * length cs + 0) t) x) (set_behind cs empty (tag_cell t)) stored in
       let heap_len = length-set d.heap (l.width * length cs + 0) t in
       let more = globals_done ts (cs ++ tag_cell t ∷ []) e3 I.good small.1 cells1 (ap (λ x. heap_base + 4 * l.width * x) (sym longer)) (heap_len ∙ words) (omega arith) in

@@ -1,1 +1,4 @@
+pub mod Truth
+pub mod Order
+pub mod Lists
 pub mod Member

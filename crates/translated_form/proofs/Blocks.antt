@@ -1,6 +1,7 @@
 -- In the block of an expression each variable is bound before its uses.
-use Rattle.std.proofs.Common.{◌≡◌, ℕ, suc, ◌+◌, true, List, [], ◌∷◌, ◌++◌, map, length, Some, None, refl}
+use Rattle.std.proofs.Common.{◌≡◌, ℕ, suc, ◌+◌, true, List, [], ◌∷◌, map, length, Some, None, refl}
 use Rattle.std.specs.List.{list_any}
+use Rattle.seq.proofs.Truth.{or_left, or_right}
 use mathlib.Core.Logic.{◌⊎◌, inl, inr}
 use Rattle.arity_check.specs.declared.normal.Bound.{Bound}
 use Rattle.arity_check.specs.declared.normal.Flat.{Flat}
@@ -24,7 +25,7 @@ use Rattle.grin_translate.specs.Translation.{tr}
 use Rattle.grin_translate.specs.WellFormed.{InLocals, InGroup, FormOk, TermOk, BranchesOk}
 use Rattle.grin_translate.proofs.Places.{Has}
 use Rattle.grin_translate.proofs.Found.{has_calls}
-use Rattle.grin_translate.proofs.Expressions.{or_first, or_second, any_has, Waits, WaitsIn}
+use Rattle.grin_translate.proofs.Expressions.{any_has, Waits, WaitsIn}
 use Rattle.translated_form.proofs.Scopes.{in_later, Scoped, scoped_local, scoped_fields, scoped_group}
 use Rattle.translated_form.proofs.Named.{number_known, constructor_known, proc_known, word_formed, words_formed, node_formed}
 
@@ -116,25 +117,25 @@ module _ (p : Program) (base : ℕ) where
         let S' : ℕ → Type 0 = λ x. S x ⊎ InGroup group x in
         let scope' : Scope = with_words (cell_vars (map (cell_of p base) group)) scope in
         let scoped' : Scoped p base S' scope'.words = scoped_group p base group scoped in (
-          cells_formed S' scope' scoped' group ok.0 (λ b h d i. waits d (or_first _ _ (any_has (λ b. binds d b.flat) group b h i))),
-          block_formed e t S' scope' scoped' ok.1 (λ d i. waits d (or_second (list_any (λ b. binds d b.flat) group) _ i)),
+          cells_formed S' scope' scoped' group ok.0 (λ b h d i. waits d (or_left _ _ (any_has (λ b. binds d b.flat) group b h i))),
+          block_formed e t S' scope' scoped' ok.1 (λ d i. waits d (or_right (list_any (λ b. binds d b.flat) group) _ i)),
         )
     block_formed (Case e branches) t S scope scoped ok waits =
         let v : VarId = temp p base t in (
-          as_act_formed (block p base (suc t) e) scope (block_formed e (suc t) S scope scoped ok.0 (λ d i. waits d (or_first _ _ i))),
-          (first_in v.0 scope.nodes, arms_formed branches v (suc t + temps e) S (with_node v scope) scoped (first_in v.0 scope.nodes) ok.1 (λ d i. waits d (or_second (delays_in d e) _ i))),
+          as_act_formed (block p base (suc t) e) scope (block_formed e (suc t) S scope scoped ok.0 (λ d i. waits d (or_left _ _ i))),
+          (first_in v.0 scope.nodes, arms_formed branches v (suc t + temps e) S (with_node v scope) scoped (first_in v.0 scope.nodes) ok.1 (λ d i. waits d (or_right (delays_in d e) _ i))),
         )
 
     pub arms_formed : (bs : Branches) (v : VarId) (t : ℕ) (S : ℕ → Type 0) (scope : Scope) → Scoped p base S scope.words → InScope scope.nodes v.0 → BranchesOk p S bs → WaitsIn p bs → ArmsFormed (tr p) scope (arms p base v t bs)
     arms_formed NoMore v t S scope scoped hv ok waits = (tt, tt, tt)
     arms_formed (OnCon c xs e rest) v t S scope scoped hv ok waits = (
       constructor_known p c (length xs) ok.0,
-      block_formed e t (λ x. S x ⊎ InLocals xs x) (with_words (numbers_of (map (local p base) xs)) scope) (scoped_fields p base xs scoped) ok.1 (λ d i. waits d (or_first _ _ i)),
-      arms_formed rest v (t + temps e) S scope scoped hv ok.2 (λ d i. waits d (or_second (delays_in d e) _ i)),
+      block_formed e t (λ x. S x ⊎ InLocals xs x) (with_words (numbers_of (map (local p base) xs)) scope) (scoped_fields p base xs scoped) ok.1 (λ d i. waits d (or_left _ _ i)),
+      arms_formed rest v (t + temps e) S scope scoped hv ok.2 (λ d i. waits d (or_right (delays_in d e) _ i)),
     )
     arms_formed (OnInt k e rest) v t S scope scoped hv ok waits =
-        (tt, block_formed e t S scope scoped ok.0 (λ d i. waits d (or_first _ _ i)), arms_formed rest v (t + temps e) S scope scoped hv ok.1 (λ d i. waits d (or_second (delays_in d e) _ i)))
-    arms_formed (OnAny None e rest) v t S scope scoped hv ok waits = (tt, block_formed e t S scope scoped ok.0 (λ d i. waits d (or_first _ _ i)), tt)
+        (tt, block_formed e t S scope scoped ok.0 (λ d i. waits d (or_left _ _ i)), arms_formed rest v (t + temps e) S scope scoped hv ok.1 (λ d i. waits d (or_right (delays_in d e) _ i)))
+    arms_formed (OnAny None e rest) v t S scope scoped hv ok waits = (tt, block_formed e t S scope scoped ok.0 (λ d i. waits d (or_left _ _ i)), tt)
     arms_formed (OnAny (Some x) e rest) v t S scope scoped hv ok waits =
         let y : ℕ = (local p base x).0 in
-        (tt, ((hv, tt), block_formed e t (λ z. S z ⊎ (z ≡ x)) (with_words (y ∷ []) scope) (scoped_local p base x scoped) ok.0 (λ d i. waits d (or_first _ _ i))), tt)
+        (tt, ((hv, tt), block_formed e t (λ z. S z ⊎ (z ≡ x)) (with_words (y ∷ []) scope) (scoped_local p base x scoped) ok.0 (λ d i. waits d (or_left _ _ i))), tt)

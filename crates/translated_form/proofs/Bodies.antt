@@ -1,6 +1,7 @@
 -- In each procedure of a translated program each variable is bound before its uses.
 use Rattle.std.proofs.Common.{◌≡◌, ℕ, suc, ◌+◌, ◌<◌, true, List, [], ◌∷◌, map, length, codes, Some, slice_get, sym, subst, arith}
 use Rattle.std.proofs.lemmas.List.{length-map}
+use Rattle.seq.proofs.Lists.{all_get, all_append}
 use Rattle.arity_check.specs.declared.normal.Var.TheVariants.{Local}
 use Rattle.arity_check.specs.declared.normal.Flat.TheVariants as flat
 use Rattle.arity_check.specs.Program.{Program, Function}
@@ -14,11 +15,10 @@ use Rattle.grin_translate.specs.Tags.{numbers_from, delays_in, is_delayed, takes
 use Rattle.grin_translate.specs.Blocks.{local, temp}
 use Rattle.grin_translate.specs.Translation.{procedure, fun_body, delay_body, span, delayed_procs, rest, write_block, print_body, start_body, tr}
 use Rattle.grin_translate.specs.WellFormed.{FunOk, VarOk, WellFormed}
-use Rattle.grin_translate.proofs.Places.{all_append}
 use Rattle.grin_translate.proofs.Found.{has_calls, has_reads}
 use Rattle.grin_translate.proofs.Lookups.{length-numbers_from}
 use Rattle.grin_translate.proofs.Expressions.{any_has, Waits}
-use Rattle.grin_syntax.proofs.Scopes.{all_get, first_in}
+use Rattle.grin_syntax.proofs.Scopes.{first_in}
 use Rattle.translated_form.proofs.Lists.{all_if, all_numbers, all_mapped, has_at}
 use Rattle.translated_form.proofs.Delays.{IsThere, all_there}
 use Rattle.translated_form.proofs.Scopes.{in_later, scoped_params}

@@ -1,6 +1,7 @@
 -- The translation of a valid program has few words: at most 13 parameters and fields, and at most 12 fields of a value.
 use Rattle.std.proofs.Common.{◌≡◌, ℕ, zero, suc, ◌+◌, ◌≤◌, List, [], ◌∷◌, map, length, codes, Option, Some, None, slice_get, refl, ◌∙◌, arith}
 use Rattle.std.proofs.lemmas.List.{length-map}
+use Rattle.seq.proofs.Lists.{all_get, all_append}
 use Rattle.arity_check.specs.declared.normal.Con as arity
 use Rattle.arity_check.specs.Accepted.{IsValid}
 use Rattle.arity_check.specs.Program.{Program, Function}
@@ -15,10 +16,9 @@ use Rattle.grin_translate.specs.declared.tags.Kind.{Kind}
 use Rattle.grin_translate.specs.declared.tags.Kind.TheVariants.{Constructor, Waits, Lacks}
 use Rattle.grin_translate.specs.Tags.{numbers_from, takes_input, delays, kinds, parts, function_parts, tag_of, con_tag, delay_name, delay_params}
 use Rattle.grin_translate.specs.Translation.{procedure, delay_body, span, delayed_procs, rest, print_body, start_body, tr}
-use Rattle.grin_translate.proofs.Places.{all_append, all_map}
+use Rattle.grin_translate.proofs.Places.{all_map}
 use Rattle.grin_translate.proofs.Lookups.{length-numbers_from}
 use Rattle.translated_form.specs.Laws.{HasFewWords}
-use Rattle.grin_syntax.proofs.Scopes.{all_get}
 use Rattle.translated_form.proofs.Lists.{all_if, all_mapped, all_weaker}
 use Rattle.translated_form.proofs.Delays.{IsThere, all_there}
 use Rattle.translated_form.proofs.Limits.{Limited, valid_is_limited}

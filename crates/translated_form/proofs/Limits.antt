@@ -1,6 +1,6 @@
 -- A valid program is well formed, its functions have at most 12 parameters and its constructors at most 12 fields.
-use Rattle.std.proofs.Common.{◌≡◌, ℕ, suc, ◌≤◌, ◌<◌, Bool, true, false, nat_lt, List, [], ◌∷◌, length, Some, slice_get, refl, arith}
-use Rattle.std.proofs.lemmas.Bool.{ltb-true, ltb-false}
+use Rattle.std.proofs.Common.{◌≡◌, ℕ, suc, ◌≤◌, List, [], ◌∷◌, length, Some, slice_get, refl, arith}
+use Rattle.seq.proofs.Order.{not_below}
 use Rattle.grin_syntax.specs.Formed.{AllOf}
 use Rattle.arity_check.specs.Broken.{TooManyParameters, TooManyFields}
 use Rattle.arity_check.specs.Normal.{Pairwise, IsFunction, IsConstructor}
@@ -20,19 +20,12 @@ all_paired R P [] (y ∷ ys) w h = absurd w
 all_paired R P (x ∷ xs) [] w h = absurd w
 all_paired R P (x ∷ xs) (y ∷ ys) w h = (h 0 x y refl w.0, all_paired R P xs ys w.1 (λ i. h (suc i)))
 
-no_more : (n k : ℕ) → (n < k → ⊥) → k ≤ n
-no_more n k h = by_test (nat_lt n k) refl
-  where
-    by_test : (b : Bool) → nat_lt n k ≡ b → k ≤ n
-    by_test true e = absurd (h (ltb-true n k e))
-    by_test false e = ltb-false n k e
-
 pub valid_is_limited : (q : Program) → IsValid q → Limited q
 valid_is_limited q v = record {
   few_params = all_paired (IsFunction v.program) (λ f. f.params ≤ 12) v.program.functions q.funs v.normal.funs
-      (λ i f g e w. let l = no_more 12 (length f.params) (λ lt. v.unbroken 33 f.at (TooManyParameters i e lt)) in let s = w.params in omega (arith, l, s));
+      (λ i f g e w. let l = not_below 12 (length f.params) (λ lt. v.unbroken 33 f.at (TooManyParameters i e lt)) in let s = w.params in omega (arith, l, s));
   few_fields = all_paired (IsConstructor v.program) (λ c. c.fields ≤ 12) v.program.constructors q.cons v.normal.cons
-      (λ i d c e w. let l = no_more 12 d.fields (λ lt. v.unbroken 34 d.at (TooManyFields i e lt)) in let s = w.fields in omega (arith, l, s));
+      (λ i d c e w. let l = not_below 12 d.fields (λ lt. v.unbroken 34 d.at (TooManyFields i e lt)) in let s = w.fields in omega (arith, l, s));
 }
 
 pub valid_is_well_formed : (q : Program) → IsValid q → WellFormed q

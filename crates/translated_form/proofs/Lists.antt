@@ -1,5 +1,5 @@
 -- What holds of each item of a list.
-use Rattle.std.proofs.Common.{◌≡◌, ℕ, zero, suc, ◌+◌, ◌≤◌, ◌<◌, Bool, true, false, cond, List, [], ◌∷◌, map, filter, length, Some, slice_get, refl, sym, arith}
+use Rattle.std.proofs.Common.{◌≡◌, ℕ, zero, suc, ◌+◌, ◌≤◌, ◌<◌, Bool, true, false, cond, List, [], ◌∷◌, map, Some, slice_get, refl, sym, arith}
 use Rattle.std.proofs.lemmas.Option.{same_Some, none-some}
 use Rattle.grin_syntax.specs.Formed.{AllOf}
 use mathlib.Core.Logic.{inl, inr}
@@ -9,14 +9,6 @@ use Rattle.grin_translate.proofs.Places.{Has}
 pub all_weaker : {A : Type 0} (P Q : A → Type 0) (xs : List A) → ((x : A) → P x → Q x) → AllOf P xs → AllOf Q xs
 all_weaker P Q [] h a = tt
 all_weaker P Q (x ∷ xs) h a = (h x a.0, all_weaker P Q xs h a.1)
-
-pub all_filter : {A : Type 0} (P : A → Type 0) (test : A → Bool) (xs : List A) → AllOf P xs → AllOf P (filter test xs)
-all_filter P test [] a = tt
-all_filter P test (x ∷ xs) a = by_test (test x) (all_filter P test xs a.1)
-  where
-    by_test : (b : Bool) → AllOf P (filter test xs) → AllOf P (cond b (x ∷ filter test xs) (filter test xs))
-    by_test true r = (a.0, r)
-    by_test false r = r
 
 pub all_if : {A : Type 0} (P : A → Type 0) (b : Bool) (x : A) → (b ≡ true → P x) → AllOf P (cond b (x ∷ []) [])
 all_if P true x h = (h refl, tt)
@@ -38,8 +30,3 @@ has_at (y ∷ xs) (suc i) x e = inr (has_at xs i x e)
 pub all_of_has : {A : Type 0} (P : A → Type 0) (xs : List A) → ((x : A) → Has x xs → P x) → AllOf P xs
 all_of_has P [] h = tt
 all_of_has P (x ∷ xs) h = (h x (inl refl), all_of_has P xs (λ y i. h y (inr i)))
-
-pub item_at : {A : Type 0} (xs : List A) (i : ℕ) → i < length xs → (x : A) × (slice_get xs i ≡ Some x)
-item_at [] i lt = absurd (omega (arith, lt))
-item_at (x ∷ xs) zero lt = (x, refl)
-item_at (x ∷ xs) (suc i) lt = item_at xs i (omega (arith, lt))

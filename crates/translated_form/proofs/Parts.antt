@@ -5,6 +5,9 @@ use Rattle.std.proofs.lemmas.Bool.{eq-eqb}
 use Rattle.std.proofs.lemmas.List.{map-append}
 use Rattle.std.proofs.lemmas.List.Elements.{filter-append}
 use Rattle.std.proofs.lemmas.Option.{same_Some, none-some, slice_get_within}
+use Rattle.seq.proofs.Truth.{and_not_right, not_both}
+use Rattle.seq.proofs.Order.{eq_false}
+use Rattle.seq.proofs.Lists.{all_append}
 use Rattle.arity_check.specs.declared.normal.Con as arity
 use Rattle.arity_check.specs.Program.{Program, Function}
 use Rattle.core_meaning.specs.Evaluation.{params, params_of}
@@ -16,9 +19,8 @@ use Rattle.grin_translate.specs.declared.tags.Kind.{Kind}
 use Rattle.grin_translate.specs.declared.tags.Kind.TheVariants.{Constructor, Waits, Lacks}
 use Rattle.grin_translate.specs.Tags.{numbers_from, delays, kinds, parts, function_parts, tag_of, con_tag, proc}
 use Rattle.grin_translate.specs.Translation.{tr}
-use Rattle.grin_translate.proofs.Places.{true_not_false, all_append, all_map}
+use Rattle.grin_translate.proofs.Places.{all_map}
 use Rattle.grin_translate.proofs.Found.{has_calls}
-use Rattle.grin_translate.proofs.Scoping.{eqb_no}
 use Rattle.grin_translate.proofs.Lookups.{call_place}
 use Rattle.translated_form.proofs.Lists.{all_mapped, all_of_has}
 use Rattle.translated_form.proofs.Named.{proc_known}
@@ -37,10 +39,6 @@ filter_mapped test f xs ys = ap (filter test) (map-append f xs ys) ∙ filter-ap
 none_pass : {A B : Type 0} (test : B → Bool) (f : A → B) (xs : List A) → AllOf (λ x. test (f x) ≡ false) xs → filter test (map f xs) ≡ []
 none_pass test f [] a = refl
 none_pass test f (x ∷ xs) a = skipped test (f x) (map f xs) a.0 ∙ none_pass test f xs a.1
-
-both_no : (a b : Bool) → b ≡ false → (a && b) ≡ false
-both_no true b e = e
-both_no false b e = refl
 
 module _ (p : Program) where
   -- ---- one tag for the function f with r arguments missing
@@ -62,13 +60,13 @@ module _ (p : Program) where
     of_other : (g n : ℕ) → g < length p.funs → g ≢ f → Passing (function_parts g n) ≡ []
     of_other g zero lt ne = refl
     of_other g (suc n) lt ne =
-        skipped IsThis (tag_of p (Lacks g (suc n))) (map (tag_of p) (function_parts g n)) (fails_by g (suc n) false lt (ap (λ b. b && nat_eq (suc n) r) (eqb_no g f ne)))
+        skipped IsThis (tag_of p (Lacks g (suc n))) (map (tag_of p) (function_parts g n)) (fails_by g (suc n) false lt (ap (λ b. b && nat_eq (suc n) r) (eq_false g f ne)))
         ∙ of_other g n lt ne
 
     of_fewer : (n : ℕ) → n < r → Passing (function_parts f n) ≡ []
     of_fewer zero lt = refl
     of_fewer (suc n) lt =
-        skipped IsThis (tag_of p (Lacks f (suc n))) (map (tag_of p) (function_parts f n)) (fails_by f (suc n) false f_below (both_no (nat_eq f f) _ (eqb_no (suc n) r (λ e. omega (arith, lt, e)))))
+        skipped IsThis (tag_of p (Lacks f (suc n))) (map (tag_of p) (function_parts f n)) (fails_by f (suc n) false f_below (and_not_right (nat_eq f f) _ (eq_false (suc n) r (λ e. omega (arith, lt, e)))))
         ∙ of_fewer n (omega (arith, lt))
 
     of_this : (n : ℕ) → 0 < r → r ≤ n → Passing (function_parts f n) ≡ tag_of p (Lacks f r) ∷ []
@@ -81,8 +79,8 @@ module _ (p : Program) where
             passed IsThis (tag_of p (Lacks f (suc n))) (map (tag_of p) (function_parts f n)) (fails_by f (suc n) true f_below (ap (λ b. b && nat_eq (suc n) r) (eq-eqb f f refl) ∙ e))
             ∙ (λ z. tag_of p (Lacks f (same z)) ∷ of_fewer n (omega (arith, same)) z)
         by_test false e ih =
-            let ne : suc n ≢ r = λ i. true_not_false (nat_eq (suc n) r) (eq-eqb (suc n) r i) e in
-            skipped IsThis (tag_of p (Lacks f (suc n))) (map (tag_of p) (function_parts f n)) (fails_by f (suc n) false f_below (both_no (nat_eq f f) _ e))
+            let ne : suc n ≢ r = λ i. not_both (nat_eq (suc n) r) (eq-eqb (suc n) r i) e in
+            skipped IsThis (tag_of p (Lacks f (suc n))) (map (tag_of p) (function_parts f n)) (fails_by f (suc n) false f_below (and_not_right (nat_eq f f) _ e))
             ∙ ih (omega (arith, le, ne))
 
     of_later : (gs : List Function) (k : ℕ) → f < k → k + length gs ≤ length p.funs → Passing (parts gs k) ≡ []

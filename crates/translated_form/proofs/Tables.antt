@@ -1,5 +1,6 @@
 -- The global cells, the start and its argument in a translated program.
 use Rattle.std.proofs.Common.{◌≡◌, ℕ, zero, suc, ◌+◌, Bool, true, false, cond, not, nat_eq, List, [], ◌∷◌, ◌++◌, length, codes, Some, None, slice_get, refl, sym, ap, ◌∙◌, subst, arith, eqb-true}
+use Rattle.seq.proofs.Lists.{all_append}
 use Rattle.arity_check.specs.Program.{Program, Function}
 use Rattle.core_meaning.specs.Evaluation.{params, params_of, global}
 use Rattle.grin_syntax.specs.declared.program.Tag.{Tag}
@@ -13,7 +14,6 @@ use Rattle.grin_translate.specs.declared.tags.Kind.TheVariants.{Number, Waits}
 use Rattle.grin_translate.specs.Tags.{takes_input, delays, kinds, tag, tag_of}
 use Rattle.grin_translate.specs.Translation.{global_cells, procedure, print, print_body, start_body, delayed_procs, rest, tr}
 use Rattle.grin_translate.specs.WellFormed.{HasParams, WellFormed}
-use Rattle.grin_translate.proofs.Places.{all_append}
 use Rattle.grin_translate.proofs.Found.{has_calls, has_waits, tag_found}
 use Rattle.translated_form.proofs.Lists.{all_if}
 use Rattle.translated_form.proofs.Named.{long_delayed, global_known}

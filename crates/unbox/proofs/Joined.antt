@@ -1,14 +1,15 @@
 -- A set is closed exactly where it heeds the ties.
 use Rattle.std.proofs.Common.{◌≡◌, ℕ, suc, Bool, true, false, ◌&&◌, ◌||◌, List, [], ◌∷◌, ◌++◌, map, length, refl, sym, ap, ◌∙◌, subst}
 use Rattle.std.proofs.lemmas.List.{length-map}
+use Rattle.seq.proofs.Truth.{and_assoc, or_false, and_from, and_left, and_right}
+use Rattle.seq.proofs.Lists.{all_append as all_both}
 use Rattle.grin_syntax.specs.declared.program.ProcId.{ProcId}
 use Rattle.grin_syntax.specs.declared.program.Proc.{Proc}
 use Rattle.grin_syntax.specs.declared.program.Grin.{Grin}
 use Rattle.grin_syntax.specs.Tree.{Code, end, store, bind, Act, unit, fetch, fetch_word, update, eval, apply, call, prim, read, write, case, nested, fail, Arms, no_arm, arm, Procedure, procedure_of, Program, program_of}
 use Rattle.grin_syntax.specs.Formed.{AllOf}
-use Rattle.grin_meaning.proofs.Checked.{left_true, right_true, both_true}
 use Rattle.flow_system.specs.Solution.{Solution}
-use Rattle.pass_ground.proofs.Tests.{all_both, all_front, all_back}
+use Rattle.pass_ground.proofs.Tests.{all_front, all_back}
 use Rattle.unbox.specs.declared.ties.Tie.{Tie}
 use Rattle.unbox.specs.Ends.{Procedures, is_int, has_int, act_calls, code_calls, arms_calls, IntAct, IntCode, IntArms}
 use Rattle.unbox.specs.Members.{ActClosed, CodeClosed, ArmsClosed, ProcedureClosed, ProceduresClosed, IsMembers}
@@ -18,16 +19,8 @@ or_assoc : (a b c : Bool) → ((a || b) || c) ≡ (a || (b || c))
 or_assoc true b c = refl
 or_assoc false b c = refl
 
-and_assoc : (a b c : Bool) → ((a && b) && c) ≡ (a && (b && c))
-and_assoc true b c = refl
-and_assoc false b c = refl
-
-or_false : (a : Bool) → (a || false) ≡ a
-or_false true = refl
-or_false false = refl
-
 spread : (a b c d : Bool) → (a && c) ≡ true → (b && d) ≡ true → ((a && b) && (c && d)) ≡ true
-spread a b c d h k = both_true (a && b) (c && d) (both_true a b (left_true a c h) (left_true b d k)) (both_true c d (right_true a c h) (right_true b d k))
+spread a b c d h k = and_from (a && b) (c && d) (and_from a b (and_left a c h) (and_left b d k)) (and_from c d (and_right a c h) (and_right b d k))
 
 module _ (A : Solution) (S : Procedures) where
   any_append : (xs ys : List ProcId) → any_in S (xs ++ ys) ≡ (any_in S xs || any_in S ys)
@@ -69,8 +62,8 @@ module _ (A : Solution) (S : Procedures) where
     unfolding IntAct act_ints act_called
 
     int_act : (o : Act) → (act_ints A o && all_in S (act_called o)) ≡ true → IntAct S A o
-    int_act (unit v) h = left_true (is_int A v) true h
-    int_act (call f ws) h = left_true (S f.0) true h
+    int_act (unit v) h = and_left (is_int A v) true h
+    int_act (call f ws) h = and_left (S f.0) true h
     int_act (case v as') h = int_arms as' h
     int_act (nested b) h = int_code b h
     int_act fail h = tt
@@ -91,18 +84,18 @@ module _ (A : Solution) (S : Procedures) where
     int_arms : (as' : Arms) → (arms_ints A as' && all_in S (arms_called as')) ≡ true → IntArms S A as'
     int_arms no_arm h = tt
     int_arms (arm s b as') h =
-        let i : (code_ints A b && arms_ints A as') ≡ true = left_true (code_ints A b && arms_ints A as') (all_in S (code_called b ++ arms_called as')) h in
-        let k : (all_in S (code_called b) && all_in S (arms_called as')) ≡ true = sym (all_append (code_called b) (arms_called as')) ∙ right_true (code_ints A b && arms_ints A as') (all_in S (code_called b ++ arms_called as')) h in (
-          int_code b (both_true (code_ints A b) (all_in S (code_called b)) (left_true (code_ints A b) (arms_ints A as') i) (left_true (all_in S (code_called b)) (all_in S (arms_called as')) k)),
-          int_arms as' (both_true (arms_ints A as') (all_in S (arms_called as')) (right_true (code_ints A b) (arms_ints A as') i) (right_true (all_in S (code_called b)) (all_in S (arms_called as')) k)),
+        let i : (code_ints A b && arms_ints A as') ≡ true = and_left (code_ints A b && arms_ints A as') (all_in S (code_called b ++ arms_called as')) h in
+        let k : (all_in S (code_called b) && all_in S (arms_called as')) ≡ true = sym (all_append (code_called b) (arms_called as')) ∙ and_right (code_ints A b && arms_ints A as') (all_in S (code_called b ++ arms_called as')) h in (
+          int_code b (and_from (code_ints A b) (all_in S (code_called b)) (and_left (code_ints A b) (arms_ints A as') i) (and_left (all_in S (code_called b)) (all_in S (arms_called as')) k)),
+          int_arms as' (and_from (arms_ints A as') (all_in S (arms_called as')) (and_right (code_ints A b) (arms_ints A as') i) (and_right (all_in S (code_called b)) (all_in S (arms_called as')) k)),
         )
 
   mutual
     unfolding IntAct act_ints act_called
 
     act_int : (o : Act) → IntAct S A o → (act_ints A o && all_in S (act_called o)) ≡ true
-    act_int (unit v) h = both_true (is_int A v) true h refl
-    act_int (call f ws) h = both_true (S f.0) true h refl
+    act_int (unit v) h = and_from (is_int A v) true h refl
+    act_int (call f ws) h = and_from (S f.0) true h refl
     act_int (case v as') h = arms_int as' h
     act_int (nested b) h = code_int b h
     act_int fail h = refl
@@ -181,7 +174,7 @@ module _ (A : Solution) (S : Procedures) where
   body_heeds : (f : ℕ) (q : Procedure) → ProcedureClosed A S f q → Heeds S (body_tie A f q)
   body_heeds f q k e =
       let m : S f ≡ true = member (S f) refl e in
-      spread (has_int A f) (code_ints A q.body) (S f) (all_in S (code_called q.body)) (both_true (has_int A f) (S f) (k.some m) m) (code_int q.body (k.ints m))
+      spread (has_int A f) (code_ints A q.body) (S f) (all_in S (code_called q.body)) (and_from (has_int A f) (S f) (k.some m) m) (code_int q.body (k.ints m))
     where
       member : (b : Bool) → S f ≡ b → (S f || any_in S (code_called q.body)) ≡ true → S f ≡ true
       member true r e = r
@@ -189,11 +182,11 @@ module _ (A : Solution) (S : Procedures) where
 
   body_closed : (f : ℕ) (q : Procedure) → Heeds S (body_tie A f q) → AllOf (Heeds S) (code_ties A q.body) → ProcedureClosed A S f q
   body_closed f q h k = record {
-    member = λ e. left_true (S f) (all_in S (code_called q.body)) (right_true (has_int A f && code_ints A q.body) (S f && all_in S (code_called q.body)) (h (called e (S f) refl)));
-    ints = λ e. int_code q.body (both_true (code_ints A q.body) (all_in S (code_called q.body))
-        (right_true (has_int A f) (code_ints A q.body) (left_true (has_int A f && code_ints A q.body) (S f && all_in S (code_called q.body)) (h (itself e))))
-        (right_true (S f) (all_in S (code_called q.body)) (right_true (has_int A f && code_ints A q.body) (S f && all_in S (code_called q.body)) (h (itself e)))));
-    some = λ e. left_true (has_int A f) (code_ints A q.body) (left_true (has_int A f && code_ints A q.body) (S f && all_in S (code_called q.body)) (h (itself e)));
+    member = λ e. and_left (S f) (all_in S (code_called q.body)) (and_right (has_int A f && code_ints A q.body) (S f && all_in S (code_called q.body)) (h (called e (S f) refl)));
+    ints = λ e. int_code q.body (and_from (code_ints A q.body) (all_in S (code_called q.body))
+        (and_right (has_int A f) (code_ints A q.body) (and_left (has_int A f && code_ints A q.body) (S f && all_in S (code_called q.body)) (h (itself e))))
+        (and_right (S f) (all_in S (code_called q.body)) (and_right (has_int A f && code_ints A q.body) (S f && all_in S (code_called q.body)) (h (itself e)))));
+    some = λ e. and_left (has_int A f) (code_ints A q.body) (and_left (has_int A f && code_ints A q.body) (S f && all_in S (code_called q.body)) (h (itself e)));
     blocks = code_closed q.body k;
   }
     where

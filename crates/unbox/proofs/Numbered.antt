@@ -1,16 +1,15 @@
 -- What the loops over procedures have made so far.
 use Rattle.std.proofs.Common.{◌≡◌, ℕ, suc, ◌+◌, ◌<◌, ◌≤◌, Bool, List, [], ◌∷◌, ◌++◌, map, take, length, get_or, append_assoc, refl, sym, ap, ◌∙◌, subst, arith}
 use Rattle.std.proofs.lemmas.List.{take_all}
+use Rattle.seq.proofs.Lists.{take_next, append_nil}
 use Rattle.grin_syntax.specs.declared.program.Proc.{Proc}
 use Rattle.grin_syntax.specs.declared.program.Grin.{Grin}
 use Rattle.grin_syntax.specs.declared.program.Block.{Block}
 use Rattle.grin_syntax.specs.Tree.{Procedure, procedure_of, code_of, program_of}
-use Rattle.grin_syntax.proofs.Pieces.{take_next}
 use Rattle.flow_system.specs.Solution.{Solution}
 use Rattle.unbox.specs.declared.ties.Tie.{Tie}
 use Rattle.unbox.specs.Ends.{Procedures}
 use Rattle.unbox.specs.Ties.{code_ties, body_tie, ties_from}
-use Rattle.unbox.proofs.SoFar.{append_nil}
 use Rattle.unbox.specs.Unboxing.{unbox_code, unboxed_from, unboxed}
 
 pub map_same : {X : Type 0} (l : List X) → map (λ x. x) l ≡ l

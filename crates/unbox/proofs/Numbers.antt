@@ -1,7 +1,8 @@
 -- Numbers with their tag, and numbers alone.
-use Rattle.std.proofs.Common.{◌≡◌, ◌≢◌, ℕ, zero, suc, ◌≤◌, Bool, true, false, cond, ◌&&◌, ◌||◌, nat_eq, List, [], ◌∷◌, drop, length, Option, Some, None, refl, sym, ap, ◌∙◌, subst, arith}
+use Rattle.std.proofs.Common.{◌≡◌, ◌≢◌, ℕ, zero, suc, ◌≤◌, Bool, true, false, cond, ◌||◌, nat_eq, List, [], ◌∷◌, drop, length, Option, Some, None, refl, sym, ap, ◌∙◌, subst, arith}
 use Rattle.std.specs.Prelude.{ℤ, pos}
 use Rattle.std.proofs.lemmas.Bool.Decides.{nat_tests}
+use Rattle.seq.proofs.Truth.{and_left, and_right}
 use Rattle.grin_syntax.specs.declared.program.VarId.{VarId}
 use Rattle.grin_syntax.specs.declared.program.Word as W
 use Rattle.grin_syntax.specs.declared.program.Word.TheVariants.{Lit, Var, Global, TagWord}
@@ -30,14 +31,6 @@ use Rattle.unbox.specs.Ends.{only_int, is_int_word, is_int}
 use Rattle.unbox.specs.Unboxing.{word_or_zero, number_word, zeros, tag_and_zeros}
 
 -- ---- tests
-
-first_holds : (a b : Bool) → (a && b) ≡ true → a ≡ true
-first_holds true b e = refl
-first_holds false b e = cc
-
-second_holds : (a b : Bool) → (a && b) ≡ true → b ≡ true
-second_holds true b e = e
-second_holds false b e = cc
 
 -- ---- values
 
@@ -75,8 +68,8 @@ number_bare v v' n = record { ds = number n.k ∷ n.rest; boxed = n.boxed; alone
 
 module _ (g : Program) where
   numbers : {ds : List Datum} {v : Value} → Boxed ds v → is_given g v ≡ true → number_then_zeros ds ≡ true
-  numbers {ds = ds} in_node e = second_holds (not_delayed g (node (record { tag = 0; fields = ds }))) (number_then_zeros ds) e
-  numbers {ds = ds} in_words e = second_holds (not_delayed g (words (tag 0 ∷ ds))) (number_then_zeros ds) e
+  numbers {ds = ds} in_node e = and_right (not_delayed g (node (record { tag = 0; fields = ds }))) (number_then_zeros ds) e
+  numbers {ds = ds} in_words e = and_right (not_delayed g (words (tag 0 ∷ ds))) (number_then_zeros ds) e
 
   pub bare_number : (v v' : Value) → Bare v v' → is_given g v ≡ true → Number v v'
   bare_number v v' b e = go b.ds (numbers b.boxed e) b.boxed b.alone
@@ -114,10 +107,10 @@ same_int (tag' k) (tag' t) a b =
 
 only_among : (u : Element) (us : List Element) → only_int us ≡ true → among u us ≡ true → u ≡ tag' 0
 only_among u [] h e = cc
-only_among u (x ∷ us) h e = go (same_word u x) refl e (only_among u us (second_holds (same_word (tag' 0) x) (only_int us) h))
+only_among u (x ∷ us) h e = go (same_word u x) refl e (only_among u us (and_right (same_word (tag' 0) x) (only_int us) h))
   where
     go : (b : Bool) → same_word u x ≡ b → (b || among u us) ≡ true → (among u us ≡ true → u ≡ tag' 0) → u ≡ tag' 0
-    go true q m later = same_int u x (first_holds (same_word (tag' 0) x) (only_int us) h) q
+    go true q m later = same_int u x (and_left (same_word (tag' 0) x) (only_int us) h) q
     go false q m later = later m
 
 module _ (g : Program) (A : Solution) (s : State) (lies : Lies g A s) where

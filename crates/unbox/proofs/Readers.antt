@@ -4,9 +4,11 @@ use Rattle.std.specs.Prelude.{◌⊎◌, ◌↔◌, IsTrue}
 use Rattle.std.specs.List.Sorted.{IsStrictlyIncreasing}
 use Rattle.std.proofs.lemmas.Bool.Decides.{nat_tests}
 use Rattle.std.proofs.lemmas.List.{take_all, take_more}
+use Rattle.seq.proofs.Truth.{not_both, both_ways, and_assoc, not_true, or_left, or_right, and_from, and_left, and_right}
+use Rattle.seq.proofs.Order.{eq_from, eq_true}
+use Rattle.seq.proofs.Member.{none_in, cons_in}
 use Rattle.grin_syntax.specs.declared.program.TagId.{TagId}
 use Rattle.grin_syntax.specs.declared.program.Site.{Site}
-use Rattle.grin_meaning.proofs.Checked.{left_true, right_true, both_true}
 use Rattle.flow_system.specs.declared.fact.Element.{Element}
 use Rattle.flow_system.specs.declared.fact.Element.TheVariants.{Cell as cell, Tag as tag, Number as number}
 use Rattle.flow_system.specs.declared.fact.Place.TheVariants.{Var as var, Result as result}
@@ -17,31 +19,9 @@ use Rattle.unbox.specs.Ends.{only_int, has_int}
 
 -- ---- truth values
 
-not_both : {P : Type 0} (b : Bool) → b ≡ true → b ≡ false → P
-not_both b h k = cc
-
-both_ways : (a b : Bool) → (a ≡ true → b ≡ true) → (b ≡ true → a ≡ true) → a ≡ b
-both_ways true b h k = sym (h refl)
-both_ways false true h k = k refl
-both_ways false false h k = refl
-
-and_assoc : (a b c : Bool) → ((a && b) && c) ≡ (a && (b && c))
-and_assoc true b c = refl
-and_assoc false b c = refl
-
 and_true : (a : Bool) → a ≡ (a && true)
 and_true true = refl
 and_true false = refl
-
-not_true : (b : Bool) → not b ≡ true → b ≡ false
-not_true true h = cc
-not_true false h = refl
-
-eq_from : (a b : ℕ) → nat_eq a b ≡ true → a ≡ b
-eq_from a b h = grind (arith, nat_tests)
-
-eq_to : (a b : ℕ) → a ≡ b → nat_eq a b ≡ true
-eq_to a b e = grind (arith, nat_tests)
 
 zero_from : (n : ℕ) → eqb n 0 ≡ true → n ≡ 0
 zero_from n h = grind (arith, nat_tests)
@@ -55,8 +35,8 @@ abbrev IsInt : Element → Type 0
 IsInt u = same_word (tag 0) u ≡ true
 
 same_itself : (u : Element) → same_word u u ≡ true
-same_itself (cell s) = eq_to s s refl
-same_itself (tag t) = eq_to t t refl
+same_itself (cell s) = eq_true s s refl
+same_itself (tag t) = eq_true t t refl
 same_itself number = refl
 
 same_int : (u v : Element) → same_word u v ≡ true → IsInt v → IsInt u
@@ -70,34 +50,20 @@ same_int number (cell s) h k = k
 same_int number (tag t) h k = cc
 same_int number number h k = k
 
-or_left : (a b : Bool) → a ≡ true → (a || b) ≡ true
-or_left a b h = ap (λ x. x || b) h
-
-or_right : (a b : Bool) → b ≡ true → (a || b) ≡ true
-or_right true b h = refl
-or_right false b h = h
-
 -- all in the set are the tag of numbers
 all_int : (us : List Element) → ((u : Element) → among u us ≡ true → IsInt u) → only_int us ≡ true
 all_int [] h = refl
-all_int (u ∷ us) h = both_true (same_word (tag 0) u) (only_int us) (h u (or_left (same_word u u) (among u us) (same_itself u))) (all_int us (λ v k. h v (or_right (same_word v u) (among v us) k)))
+all_int (u ∷ us) h = and_from (same_word (tag 0) u) (only_int us) (h u (or_left (same_word u u) (among u us) (same_itself u))) (all_int us (λ v k. h v (or_right (same_word v u) (among v us) k)))
 
 is_int : (us : List Element) → only_int us ≡ true → (u : Element) → among u us ≡ true → IsInt u
 is_int [] h u k = cc
-is_int (v ∷ us) h u k = go (same_word u v) refl k (is_int us (right_true (same_word (tag 0) v) (only_int us) h) u)
+is_int (v ∷ us) h u k = go (same_word u v) refl k (is_int us (and_right (same_word (tag 0) v) (only_int us) h) u)
   where
     go : (b : Bool) → same_word u v ≡ b → (b || among u us) ≡ true → (among u us ≡ true → IsInt u) → IsInt u
-    go true q l later = same_int u v q (left_true (same_word (tag 0) v) (only_int us) h)
+    go true q l later = same_int u v q (and_left (same_word (tag 0) v) (only_int us) h)
     go false q l later = later l
 
 -- ---- listed tags
-
-none_in : {P : Type 0} {x : ℕ} → In x [] → P
-none_in h = elim h [ ]
-
-cons_in : {x : ℕ} (y : ℕ) (ys : List ℕ) → In x (y ∷ ys) → (x ≡ y) ⊎ In x ys
-cons_in y ys here = inl refl
-cons_in y ys (there h) = inr h
 
 -- each is that of numbers, or isn't in the set
 abbrev pub no_others : List Element → List TagId → Bool
@@ -121,23 +87,23 @@ tested_next us all one both ts i d lt h e f = subst (Tested us both) (sym (take_
 
 listed : (us : List Element) (ts : List TagId) → no_others us ts ≡ true → (t : ℕ) → In t (map (λ t. t.0) ts) → among (tag t) us ≡ true → IsInt (tag t)
 listed us [] h t k m = none_in k
-listed us (x ∷ ts) h t k m = ⊎_elim first (λ r. listed us ts (right_true (nat_eq x.0 0 || not (among (tag x.0) us)) (no_others us ts) h) t r m) (cons_in x.0 (map (λ t. t.0) ts) k)
+listed us (x ∷ ts) h t k m = ⊎_elim first (λ r. listed us ts (and_right (nat_eq x.0 0 || not (among (tag x.0) us)) (no_others us ts) h) t r m) (cons_in x.0 (map (λ t. t.0) ts) k)
   where
     first : t ≡ x.0 → IsInt (tag t)
     first e =
-        let l : (nat_eq x.0 0 || not (among (tag x.0) us)) ≡ true = left_true (nat_eq x.0 0 || not (among (tag x.0) us)) (no_others us ts) h in
+        let l : (nat_eq x.0 0 || not (among (tag x.0) us)) ≡ true = and_left (nat_eq x.0 0 || not (among (tag x.0) us)) (no_others us ts) h in
         go (nat_eq x.0 0) refl l
       where
         go : (b : Bool) → nat_eq x.0 0 ≡ b → (b || not (among (tag x.0) us)) ≡ true → IsInt (tag t)
-        go true q l = eq_to 0 t (sym (e ∙ eq_from x.0 0 q))
+        go true q l = eq_true 0 t (sym (e ∙ eq_from x.0 0 q))
         go false q l = not_both (among (tag x.0) us) (subst (λ n. among (tag n) us ≡ true) e m) (not_true (among (tag x.0) us) l)
 
 none_listed : (us : List Element) (ts : List TagId) → ((t : ℕ) → among (tag t) us ≡ true → IsInt (tag t)) → no_others us ts ≡ true
 none_listed us [] h = refl
-none_listed us (t ∷ ts) h = both_true (nat_eq t.0 0 || not (among (tag t.0) us)) (no_others us ts) (go (among (tag t.0) us) refl) (none_listed us ts h)
+none_listed us (t ∷ ts) h = and_from (nat_eq t.0 0 || not (among (tag t.0) us)) (no_others us ts) (go (among (tag t.0) us) refl) (none_listed us ts h)
   where
     go : (b : Bool) → among (tag t.0) us ≡ b → (nat_eq t.0 0 || not b) ≡ true
-    go true q = or_left (nat_eq t.0 0) false (eq_to t.0 0 (sym (eq_from 0 t.0 (h t.0 q))))
+    go true q = or_left (nat_eq t.0 0) false (eq_true t.0 0 (sym (eq_from 0 t.0 (h t.0 q))))
     go false q = or_right (nat_eq t.0 0) true refl
 
 no_sites : {P : Type 0} (cells : List Site) → length cells ≡ 0 → (s : ℕ) → In s (map (λ s. s.0) cells) → P
@@ -156,17 +122,17 @@ module _ (A : Solution) (x : ℕ) (numbers no_cells : Bool) (cells : List Site) 
   to_set h = all_int us go
     where
       first : (not numbers && no_cells) ≡ true
-      first = left_true (not numbers && no_cells) (no_others us ts) h
+      first = and_left (not numbers && no_cells) (no_others us ts) h
 
       go : (u : Element) → among u us ≡ true → IsInt u
       go (cell s) k =
-          let e : no_cells ≡ true = right_true (not numbers) no_cells first in
+          let e : no_cells ≡ true = and_right (not numbers) no_cells first in
           no_sites cells (zero_from (length cells) (sym empty ∙ e)) s ((sites s).1 (record { there = k }))
-      go (tag t) k = listed us ts (right_true (not numbers && no_cells) (no_others us ts) h) t ((nodes t).1 (inr (record { there = k }))) k
-      go number k = not_both numbers (holds.1 (record { there = k })) (not_true numbers (left_true (not numbers) no_cells first))
+      go (tag t) k = listed us ts (and_right (not numbers && no_cells) (no_others us ts) h) t ((nodes t).1 (inr (record { there = k }))) k
+      go number k = not_both numbers (holds.1 (record { there = k })) (not_true numbers (and_left (not numbers) no_cells first))
 
   from_set : only_int us ≡ true → ((not numbers && no_cells) && no_others us ts) ≡ true
-  from_set h = both_true (not numbers && no_cells) (no_others us ts) (both_true (not numbers) no_cells (numbers_not numbers refl) (cells_not cells refl)) (none_listed us ts (λ t k. is_int us h (tag t) k))
+  from_set h = and_from (not numbers && no_cells) (no_others us ts) (and_from (not numbers) no_cells (numbers_not numbers refl) (cells_not cells refl)) (none_listed us ts (λ t k. is_int us h (tag t) k))
     where
       numbers_not : (b : Bool) → numbers ≡ b → not b ≡ true
       numbers_not true q = let k : same_word (tag 0) number ≡ true = is_int us h number (holds.0 q).there in cc
@@ -229,7 +195,7 @@ module _ (A : Solution) (f : ℕ) (ts : List TagId)
 
       go : (b : Bool) → nat_eq t.0 0 ≡ b → In 0 (t.0 ∷ map (λ t. t.0) rest) → b ≡ true
       go true q k = refl
-      go false q k = ⊎_elim (λ z. sym q ∙ eq_to t.0 0 (sym z)) (λ r. no_zero t.0 (map (λ t. t.0) rest) rises r (above_zero t.0 q)) (cons_in t.0 (map (λ t. t.0) rest) k)
+      go false q k = ⊎_elim (λ z. sym q ∙ eq_true t.0 0 (sym z)) (λ r. no_zero t.0 (map (λ t. t.0) rest) rises r (above_zero t.0 q)) (cons_in t.0 (map (λ t. t.0) rest) k)
 
   pub no_tag : slice_get ts 0 ≡ None → false ≡ has_int A f
   no_tag none = go ts refl none

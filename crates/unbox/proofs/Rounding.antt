@@ -1,22 +1,15 @@
 -- What taking out procedures comes to, step by step.
 use Rattle.std.proofs.Common.{◌≡◌, ℕ, zero, suc, ◌<◌, ◌≤◌, Bool, true, false, not, ◌&&◌, ◌||◌, nat_eq, List, [], ◌∷◌, ◌++◌, slice_set, refl, sym, ap, ◌∙◌, subst, arith}
 use Rattle.std.proofs.lemmas.Bool.Decides.{nat_tests}
+use Rattle.seq.proofs.Truth.{and_true, and_false, and_from, and_left, and_right}
+use Rattle.seq.proofs.Lists.{all_append}
 use Rattle.grin_syntax.specs.declared.program.ProcId.{ProcId}
 use Rattle.grin_syntax.specs.Formed.{AllOf}
-use Rattle.grin_meaning.proofs.Checked.{left_true, right_true, both_true}
 use Rattle.unbox.specs.declared.ties.Tie.{Tie}
 use Rattle.unbox.specs.Ends.{Procedures, is_member}
 use Rattle.unbox.specs.Ties.{any_in, all_in, Heeds}
 use Rattle.unbox.specs.Rounds.{trues, is_among, Within, Fewer, Taken, Heeded}
-use Rattle.pass_ground.proofs.Tests.{all_both, all_front, all_back}
-
-and_true : (a : Bool) → (a && true) ≡ a
-and_true true = refl
-and_true false = refl
-
-and_false : (a : Bool) → (a && false) ≡ false
-and_false true = refl
-and_false false = refl
+use Rattle.pass_ground.proofs.Tests.{all_front, all_back}
 
 next_eq : (g i : ℕ) → nat_eq (suc g) (suc i) ≡ nat_eq g i
 next_eq g i = go (nat_eq g i) refl
@@ -114,7 +107,7 @@ more_taken old mid new xs ys a b f k = record {
 
 all_within : (T : Procedures) (bs : List Bool) (fs : List ProcId) → Within T bs → all_in T fs ≡ true → all_in (is_member bs) fs ≡ true
 all_within T bs [] w h = refl
-all_within T bs (f ∷ fs) w h = both_true (is_member bs f.0) (all_in (is_member bs) fs) (w f.0 (left_true (T f.0) (all_in T fs) h)) (all_within T bs fs w (right_true (T f.0) (all_in T fs) h))
+all_within T bs (f ∷ fs) w h = and_from (is_member bs f.0) (all_in (is_member bs) fs) (w f.0 (and_left (T f.0) (all_in T fs) h)) (all_within T bs fs w (and_right (T f.0) (all_in T fs) h))
 
 among_any : (T : Procedures) (g : ℕ) (fs : List ProcId) → T g ≡ true → is_among g fs ≡ true → any_in T fs ≡ true
 among_any T g [] h k = cc
@@ -152,8 +145,8 @@ tie_taken old new t changed bad k = record {
     out : (T : Procedures) → Heeds T t → Within T old → (f : ℕ) → T f ≡ true → (b : Bool) → is_among f t.procs ≡ b → (is_member old f && not (is_among f t.procs)) ≡ true
     out T heeds w f h true q =
         let e : (t.sound && all_in T t.procs) ≡ true = heeds (among_any T f t.procs h q) in
-        clash (t.sound && all_in (is_member old) t.procs) (both_true t.sound (all_in (is_member old) t.procs) (left_true t.sound (all_in T t.procs) e) (all_within T old t.procs w (right_true t.sound (all_in T t.procs) e))) bad
-    out T heeds w f h false q = both_true (is_member old f) (not (is_among f t.procs)) (w f h) (ap not q)
+        clash (t.sound && all_in (is_member old) t.procs) (and_from t.sound (all_in (is_member old) t.procs) (and_left t.sound (all_in T t.procs) e) (all_within T old t.procs w (and_right t.sound (all_in T t.procs) e))) bad
+    out T heeds w f h false q = and_from (is_member old f) (not (is_among f t.procs)) (w f h) (ap not q)
 
     gone : (g : ℕ) → is_among g t.procs ≡ true → is_member new g ≡ false
     gone g q = k.members g ∙ ap (λ b. is_member old g && not b) q ∙ and_false (is_member old g)
@@ -169,7 +162,7 @@ none_heeded bs = record { sound = λ T all w. w; done = λ _. tt; fewer = same_c
 pub more_heeded : (old mid new : List Bool) (xs ys : List Tie) (a b : Bool) → Heeded old mid xs a → Heeded mid new ys b → Heeded old new (xs ++ ys) (a || b)
 more_heeded old mid new xs ys a b f k = record {
   sound = λ T all w. k.sound T (all_back (Heeds T) xs ys all) (f.sound T (all_front (Heeds T) xs ys all) w);
-  done = λ e. all_both (Heeds (is_member new)) xs ys (subst (λ bs. AllOf (Heeds (is_member bs)) xs) (sym (k.fewer.still (right e))) (f.done (left e))) (k.done (right e));
+  done = λ e. all_append (Heeds (is_member new)) xs ys (subst (λ bs. AllOf (Heeds (is_member bs)) xs) (sym (k.fewer.still (right e))) (f.done (left e))) (k.done (right e));
   fewer = fewer_more old mid new a b f.fewer k.fewer;
 }
   where

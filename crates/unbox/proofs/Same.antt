@@ -1,6 +1,7 @@
 -- The two programs run side by side.
-use Rattle.std.proofs.Common.{◌≡◌, ◌≢◌, ℕ, suc, ◌+◌, ◌≤◌, Bool, true, false, cond, ◌&&◌, ◌||◌, List, [], ◌∷◌, ◌++◌, length, Some, refl, sym, ap, ◌∙◌, subst, arith}
+use Rattle.std.proofs.Common.{◌≡◌, ◌≢◌, ℕ, suc, ◌+◌, ◌≤◌, Bool, true, false, cond, ◌&&◌, List, [], ◌∷◌, ◌++◌, length, Some, refl, sym, ap, ◌∙◌, subst, arith}
 use Rattle.std.specs.Prelude.{ℤ}
+use Rattle.seq.proofs.Truth.{neither_left, neither_right, and_left}
 use Rattle.grin_syntax.specs.declared.program.VarId.{VarId}
 use Rattle.grin_syntax.specs.declared.program.ProcId.{ProcId}
 use Rattle.grin_syntax.specs.declared.program.Cell.{Cell}
@@ -22,7 +23,6 @@ use Rattle.grin_meaning.specs.Follows.{Same, same, Every}
 use Rattle.grin_meaning.specs.Keeps.{world_of, Keeps}
 use Rattle.grin_meaning.specs.Looking.{look, NeverMissed}
 use Rattle.grin_meaning.proofs.Back.{CallsBack}
-use Rattle.grin_meaning.proofs.Checked.{left_true}
 use Rattle.grin_meaning.proofs.Names.{Any, any_act, any_val, any_cells}
 use Rattle.grin_meaning.proofs.Beside.{Beside, beside, Likewise, free, no_deeper}
 use Rattle.grin_meaning.proofs.Rules.{Relation, Plan, Here, CallsFollow, Setting, h, ActFollows, CodeFollows, ArmsFollow, Given, BindsToo, FitsToo, act_more, end_follows, nested_follows, bind_follows, store_follows, case_follows, no_arm_follows, arm_follows, unit_follows, call_follows, fail_follows}
@@ -52,14 +52,6 @@ once_left xs ys h x = let e : times x (xs ++ ys) ≡ times x xs + times x ys = t
 
 pub once_right : (xs ys : List ℕ) → Once (xs ++ ys) → Once ys
 once_right xs ys h x = let e : times x (xs ++ ys) ≡ times x xs + times x ys = times_append x xs ys in let k : times x (xs ++ ys) ≤ 1 = h x in omega (arith, e, k)
-
-neither_left : (a b : Bool) → (a || b) ≡ false → a ≡ false
-neither_left true b e = e
-neither_left false b e = refl
-
-neither_right : (a b : Bool) → (a || b) ≡ false → b ≡ false
-neither_right true b e = cc
-neither_right false b e = e
 
 same_is : {A : Type 0} {a b : A} → Same a b → b ≡ a
 same_is same = refl
@@ -270,8 +262,8 @@ module _ (g : Program) (A : Solution) (M : Procedures) where
         → CodeFollows it R V (bind t o b) (boxed t (unbox_act M true o) b')
     unfolding act_calls unbox_act
     member_follows t (call q ws) b b' l n e f k = boxed_follows t (call q ws) (call q ws) b b' l n (call_as true q ws e) k (λ s u. u.values)
-    member_follows t (case v as') b b' l n e f k = boxed_follows t (case v as') (case v (unbox_arms M true as')) b b' l n f k (λ s u. bare_number g u.v u.v' u.values (left_true (is_given g u.v) _ (u.seen refl)))
-    member_follows t (nested q) b b' l n e f k = boxed_follows t (nested q) (nested (unbox_code M true q)) b b' l n f k (λ s u. bare_number g u.v u.v' u.values (left_true (is_given g u.v) _ (u.seen refl)))
+    member_follows t (case v as') b b' l n e f k = boxed_follows t (case v as') (case v (unbox_arms M true as')) b b' l n f k (λ s u. bare_number g u.v u.v' u.values (and_left (is_given g u.v) _ (u.seen refl)))
+    member_follows t (nested q) b b' l n e f k = boxed_follows t (nested q) (nested (unbox_code M true q)) b b' l n f k (λ s u. bare_number g u.v u.v' u.values (and_left (is_given g u.v) _ (u.seen refl)))
     member_follows t (unit v) b b' l n e f k = cc
     member_follows t (fetch a) b b' l n e f k = cc
     member_follows t (fetch_word a i) b b' l n e f k = cc

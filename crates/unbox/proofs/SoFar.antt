@@ -1,6 +1,8 @@
 -- What loops over statements and alternatives have found so far.
 use Rattle.std.proofs.Common.{◌≡◌, ℕ, ◌+◌, ◌<◌, ◌≤◌, Bool, true, false, ◌&&◌, ◌||◌, List, [], ◌∷◌, ◌++◌, map, take, length, get_or, append_assoc, refl, sym, ap, ◌∙◌, subst}
 use Rattle.std.proofs.lemmas.List.{take_all}
+use Rattle.seq.proofs.Lists.{append_nil, take_next}
+use Rattle.seq.proofs.Truth.{or_false, and_assoc, and_true}
 use Rattle.grin_syntax.specs.declared.program.ProcId.{ProcId}
 use Rattle.grin_syntax.specs.declared.program.Target.{Target}
 use Rattle.grin_syntax.specs.declared.program.Shape.{Shape}
@@ -12,7 +14,7 @@ use Rattle.grin_syntax.specs.declared.program.Stmt.{Stmt}
 use Rattle.grin_syntax.specs.declared.program.Stmt.TheVariants.{Store, Bind}
 use Rattle.grin_syntax.specs.Tree.{Code, end, Act, Arms, no_arm, arm, act_of, before_of, arm_of, code_of, all_before, arms_of}
 use Rattle.grin_syntax.proofs.TreeOf.{before_of-Store, before_of-Bind, code_of-parts, arm_of-parts}
-use Rattle.grin_syntax.proofs.Pieces.{take_next, all_before_push}
+use Rattle.grin_syntax.proofs.Pieces.{all_before_push}
 use Rattle.flow_system.specs.Solution.{Solution}
 use Rattle.unbox.specs.declared.ties.Tie.{Tie}
 use Rattle.unbox.specs.Ends.{Procedures, act_calls, code_calls, arms_calls}
@@ -23,10 +25,6 @@ use Rattle.unbox.specs.Ties.{act_called, code_called, arms_called, act_ints, cod
 arms_snoc : (as' : List Alt) (a : Alt) (rest : List (Shape × Code)) → map arm_of (as' ++ a ∷ []) ++ rest ≡ map arm_of as' ++ (arm_of a ∷ rest)
 arms_snoc [] a rest = refl
 arms_snoc (x ∷ as') a rest = ap (λ l. arm_of x ∷ l) (arms_snoc as' a rest)
-
-pub append_nil : {X : Type 0} (l : List X) → l ++ [] ≡ l
-append_nil [] = refl
-append_nil (x ∷ l) = ap (λ k. x ∷ k) (append_nil l)
 
 -- what is found in alternatives, by what is found in their blocks
 module _ {X : Type 0} (plus : X → X → X) (one : Code → X) (whole : Arms → X) where
@@ -49,18 +47,6 @@ module _ {X : Type 0} (plus : X → X → X) (one : Code → X) (whole : Arms �
 or_assoc : (a b c : Bool) → ((a || b) || c) ≡ (a || (b || c))
 or_assoc true b c = refl
 or_assoc false b c = refl
-
-or_false : (a : Bool) → (a || false) ≡ a
-or_false true = refl
-or_false false = refl
-
-and_assoc : (a b c : Bool) → ((a && b) && c) ≡ (a && (b && c))
-and_assoc true b c = refl
-and_assoc false b c = refl
-
-and_true : (a : Bool) → (a && true) ≡ a
-and_true true = refl
-and_true false = refl
 
 -- calls of members
 module _ (S : Procedures) where

@@ -1,9 +1,10 @@
 -- What the loops over ties and procedures have taken out so far.
 use Rattle.std.proofs.Common.{◌≡◌, ℕ, zero, suc, ◌+◌, ◌<◌, ◌≤◌, Bool, true, false, cond, ◌&&◌, ◌||◌, List, [], ◌∷◌, ◌++◌, take, length, get_or, slice_set, refl, sym, ap, ◌∙◌, subst, arith}
 use Rattle.std.proofs.lemmas.List.{take_all, take_more}
+use Rattle.seq.proofs.Truth.{and_assoc}
+use Rattle.seq.proofs.Lists.{take_next}
 use Rattle.grin_syntax.specs.declared.program.ProcId.{ProcId}
 use Rattle.grin_syntax.specs.Formed.{AllOf}
-use Rattle.grin_syntax.proofs.Pieces.{take_next}
 use Rattle.unbox.specs.declared.ties.Tie.{Tie}
 use Rattle.unbox.specs.Ends.{Procedures, is_member}
 use Rattle.unbox.specs.Ties.{all_in, Heeds, IsGreatest}
@@ -17,10 +18,6 @@ one_out old new f inside h e k = subst (Taken old new (f ∷ [])) (sym e) (one_t
 
 pub one_not_in : (old : List Bool) (f : ProcId) (inside : Bool) → inside ≡ is_member old f.0 → inside ≡ false → Taken old old (f ∷ []) inside
 one_not_in old f inside h e = subst (Taken old old (f ∷ [])) (sym e) (none_taken old f (sym h ∙ e))
-
-and_assoc : (a b c : Bool) → ((a && b) && c) ≡ (a && (b && c))
-and_assoc true b c = refl
-and_assoc false b c = refl
 
 and_true : (a : Bool) → a ≡ (a && true)
 and_true true = refl

@@ -6,14 +6,16 @@ use Rattle.std.specs.List.Sorted.{IsStrictlyIncreasing}
 use Rattle.std.proofs.lemmas.Bool.Decides.{nat_tests}
 use Rattle.std.proofs.lemmas.List.Elements.{filter-append}
 use Rattle.std.proofs.lemmas.List.{take_all}
+use Rattle.seq.proofs.Member.{none_in, cons_in}
+use Rattle.seq.proofs.Truth.{not_both}
+use Rattle.seq.proofs.Lists.{take_next, map_push}
 use Rattle.grin_syntax.specs.declared.program.TagId.{TagId}
 use Rattle.grin_syntax.specs.Formed.{AllOf}
-use Rattle.grin_syntax.proofs.Pieces.{take_next, map_push}
 use Rattle.flow_system.specs.declared.fact.Element.TheVariants.{Tag as tag}
 use Rattle.flow_system.specs.declared.fact.Place.TheVariants.{Var as var}
 use Rattle.flow_system.specs.declared.fact.Part.TheVariants.{Tags as tags, Word as word}
 use Rattle.flow_system.specs.Solution.{Solution, At}
-use Rattle.points_to.specs.Held.{In, here, there}
+use Rattle.points_to.specs.Held.{In, there}
 use Rattle.update_special.specs.Updates.{those, stands_for, tags_of}
 
 -- what is asked of each tag that is listed
@@ -34,19 +36,9 @@ all_rising : (xs : List ℕ) → IsStrictlyIncreasing xs → Rising 0 xs
 all_rising [] h = tt
 all_rising (x ∷ xs) h = rising 0 x xs h (omega arith)
 
-none_in : {P : Type 0} {x : ℕ} → In x [] → P
-none_in h = elim h [ ]
-
-cons_in : {x : ℕ} (y : ℕ) (ys : List ℕ) → In x (y ∷ ys) → (x ≡ y) ⊎ In x ys
-cons_in y ys here = inl refl
-cons_in y ys (there h) = inr h
-
 below_none : {P : Type 0} (i t : ℕ) (xs : List ℕ) → Rising i xs → t < i → In t xs → P
 below_none i t [] r lt h = none_in h
 below_none i t (x ∷ xs) r lt h = ⊎_elim (λ e. absurd (omega (arith, r.0, e))) (λ k. below_none (suc x) t xs r.1 (omega (arith, r.0)) k) (cons_in x xs h)
-
-not_both : {P : Type 0} (b : Bool) → b ≡ true → b ≡ false → P
-not_both b h k = cc
 
 module _ (test : ℕ → Bool) (n : ℕ) where
   abbrev P : ℕ → Bool

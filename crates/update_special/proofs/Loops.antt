@@ -2,6 +2,7 @@
 use Rattle.std.proofs.Common.{◌≡◌, ℕ, ◌+◌, ◌<◌, ◌≤◌, true, false, cond, nat_le, List, [], ◌∷◌, ◌++◌, map, take, length, get_or, refl, sym, ap, ◌∙◌, arith}
 use Rattle.std.proofs.lemmas.Bool.{le-leb, lt-leb}
 use Rattle.std.proofs.lemmas.List.{length-map, take_all}
+use Rattle.seq.proofs.Lists.{take_next, map_push}
 use Rattle.grin_syntax.specs.declared.program.Word.{Word}
 use Rattle.grin_syntax.specs.declared.program.TagId.{TagId}
 use Rattle.grin_syntax.specs.declared.program.Shape.{Shape}
@@ -11,7 +12,7 @@ use Rattle.grin_syntax.specs.declared.program.Stmt.{Stmt}
 use Rattle.grin_syntax.specs.declared.program.Op.TheVariants.{Case, Update}
 use Rattle.grin_syntax.specs.Tree.{Code, arm, update, case, act_of, before_of, arm_of, all_before, arms_of}
 use Rattle.grin_syntax.proofs.TreeOf.{act_of-Case, act_of-Update}
-use Rattle.grin_syntax.proofs.Pieces.{take_next, all_before_push, map_push}
+use Rattle.grin_syntax.proofs.Pieces.{all_before_push}
 use Rattle.update_special.specs.Updates.{most_tags, by_tags, update_with, update_arms, update_act, update_code, update_all, update_arm}
 
 module _ (T : ℕ → List ℕ) where

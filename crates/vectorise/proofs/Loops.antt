@@ -1,6 +1,7 @@
 -- What the loops keep.
 use Rattle.std.proofs.Common.{◌≡◌, ℕ, zero, suc, ◌+◌, ◌<◌, ◌≤◌, max, List, [], ◌∷◌, ◌++◌, map, take, length, length-take, get_or, replicate, slice_get, slice_set, refl, sym, ap, ◌∙◌, subst, arith}
 use Rattle.std.proofs.lemmas.List.{take_more, take_all}
+use Rattle.seq.proofs.Lists.{take_next, map_push}
 use Rattle.grin_syntax.specs.declared.program.VarId.{VarId}
 use Rattle.grin_syntax.specs.declared.program.Tag.{Tag}
 use Rattle.grin_syntax.specs.declared.program.Word as W
@@ -13,7 +14,7 @@ use Rattle.grin_syntax.specs.declared.program.Proc.{Proc}
 use Rattle.grin_syntax.specs.declared.program.Op.TheVariants.{Case}
 use Rattle.grin_syntax.specs.Tree.{Code, end, Arms, no_arm, arm, case, Procedure, act_of, before_of, arm_of, code_of, all_before, arms_of, procedure_of}
 use Rattle.grin_syntax.proofs.TreeOf.{code_of-parts, act_of-Case}
-use Rattle.grin_syntax.proofs.Pieces.{take_next, all_arms, all_arms_none, all_arms_push, all_before_push, map_push}
+use Rattle.grin_syntax.proofs.Pieces.{all_arms, all_arms_none, all_arms_push, all_before_push}
 use Rattle.grin_meaning.specs.Ready.{value_fields, most_fields, most_value_fields}
 use Rattle.vectorise.specs.declared.known.Known.{Known}
 use Rattle.vectorise.specs.declared.known.Known.TheVariants.{Field}

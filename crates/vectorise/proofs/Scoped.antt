@@ -1,6 +1,7 @@
 -- Which variables the vectorised program has in scope, and that none is bound twice.
-use Rattle.std.proofs.Common.{◌≡◌, ◌≢◌, ℕ, zero, suc, ◌+◌, ◌*◌, ◌-◌, ◌<◌, ◌≤◌, Bool, true, false, nat_eq, nat_lt, List, [], ◌∷◌, ◌++◌, map, length, Some, None, slice_get, refl, sym, ap, ◌∙◌, subst, inl, inr, ◌⊎◌, ⊎_elim, arith}
+use Rattle.std.proofs.Common.{◌≡◌, ◌≢◌, ℕ, zero, suc, ◌+◌, ◌*◌, ◌-◌, ◌<◌, ◌≤◌, Bool, true, false, nat_eq, List, [], ◌∷◌, ◌++◌, map, length, Some, None, slice_get, refl, sym, ap, ◌∙◌, subst, inl, inr, ◌⊎◌, ⊎_elim, arith}
 use Rattle.std.proofs.lemmas.Bool.Decides.{nat_tests}
+use Rattle.seq.proofs.Order.{lt_or_le}
 use Rattle.grin_syntax.specs.declared.program.VarId.{VarId}
 use Rattle.grin_syntax.specs.declared.program.Tag.{Tag}
 use Rattle.grin_syntax.specs.declared.program.TagKind.TheVariants as kind
@@ -47,20 +48,13 @@ fresh_past u y (suc k) h =
     differ : y + suc k ≤ u → u ≢ y
     differ h e = absurd (omega (arith, e, h))
 
-pub below_or_not : (x y : ℕ) → (x < y) ⊎ (y ≤ x)
-below_or_not x y = go (nat_lt x y) refl
-  where
-    go : (b : Bool) → nat_lt x y ≡ b → (x < y) ⊎ (y ≤ x)
-    go true e = inl (grind (arith, nat_tests))
-    go false e = inr (grind (arith, nat_tests))
-
 -- the place of a number among runs of the same length
 place : (m n : ℕ) → (q : ℕ) × (q * suc m ≤ n) × (n < q * suc m + suc m)
 place m zero = (0, omega arith, omega arith)
 place m (suc n) = go (place m n)
   where
     go : (q : ℕ) × (q * suc m ≤ n) × (n < q * suc m + suc m) → (q : ℕ) × (q * suc m ≤ suc n) × (suc n < q * suc m + suc m)
-    go (q, le, lt) = ⊎_elim (λ h. (q, omega (arith, le), h)) (λ h. (suc q, next q lt h, omega (arith, le, h))) (below_or_not (suc n) (q * suc m + suc m))
+    go (q, le, lt) = ⊎_elim (λ h. (q, omega (arith, le), h)) (λ h. (suc q, next q lt h, omega (arith, le, h))) (lt_or_le (suc n) (q * suc m + suc m))
       where
         next : (q : ℕ) → n < q * suc m + suc m → q * suc m + suc m ≤ suc n → suc q * suc m ≤ suc n
         next q lt h = omega (arith, h)
@@ -74,7 +68,7 @@ module _ (l : Layout) where
   Origin u z = ((u < l.base) × (u ≡ z)) ⊎ ((vector_start l z ≤ u) × (u < vector_start l z + suc l.most))
 
   pub origin_of : (u : ℕ) → (z : ℕ) × Origin u z
-  origin_of u = ⊎_elim (λ h. (u, inl (h, refl))) (λ h. go h (place l.most (u - l.base))) (below_or_not u l.base)
+  origin_of u = ⊎_elim (λ h. (u, inl (h, refl))) (λ h. go h (place l.most (u - l.base))) (lt_or_le u l.base)
     where
       go : l.base ≤ u → (q : ℕ) × (q * suc l.most ≤ u - l.base) × (u - l.base < q * suc l.most + suc l.most) → (z : ℕ) × Origin u z
       go h (q, le, lt) = (q, inr (omega (arith, h, le), omega (arith, h, lt)))
@@ -88,11 +82,11 @@ module _ (l : Layout) where
 
   vector_counts : (u z x k : ℕ) → Origin u z → k ≤ suc l.most → x < l.base → times u (numbers_of (variables (vector_start l x) k)) ≤ counts (nat_eq z x)
   vector_counts u z x k (inl (b, e)) le lt = let h : fresh u (vector_start l x) k ≡ 0 = fresh_below u (vector_start l x) k (omega (arith, b)) in omega (arith, h)
-  vector_counts u z x k (inr (from, to')) le lt = by (below_or_not z x) (below_or_not x z)
+  vector_counts u z x k (inr (from, to')) le lt = by (lt_or_le z x) (lt_or_le x z)
     where
       by : (z < x) ⊎ (x ≤ z) → (x < z) ⊎ (z ≤ x) → times u (numbers_of (variables (vector_start l x) k)) ≤ counts (nat_eq z x)
-      by (inl h) o = let r : fresh u (vector_start l x) k ≡ 0 = fresh_below u (vector_start l x) k (⊎_elim (λ s. s) (λ s. absurd (no_later u z x h to' s)) (below_or_not u (vector_start l x))) in omega (arith, r)
-      by (inr g) (inl h) = let r : fresh u (vector_start l x) k ≡ 0 = fresh_past u (vector_start l x) k (⊎_elim (λ s. absurd (no_later u x z h (far s) from)) (λ s. s) (below_or_not u (vector_start l x + k))) in omega (arith, r)
+      by (inl h) o = let r : fresh u (vector_start l x) k ≡ 0 = fresh_below u (vector_start l x) k (⊎_elim (λ s. s) (λ s. absurd (no_later u z x h to' s)) (lt_or_le u (vector_start l x))) in omega (arith, r)
+      by (inr g) (inl h) = let r : fresh u (vector_start l x) k ≡ 0 = fresh_past u (vector_start l x) k (⊎_elim (λ s. absurd (no_later u x z h (far s) from)) (λ s. s) (lt_or_le u (vector_start l x + k))) in omega (arith, r)
         where
           far : u < vector_start l x + k → u < vector_start l x + suc l.most
           far s = omega (arith, s, le)

@@ -1,5 +1,6 @@
 -- The text of a vectorised program.
 use Rattle.std.proofs.Common.{◌≡◌, ℕ, zero, suc, ◌+◌, ◌≤◌, Bool, true, false, List, [], ◌∷◌, ◌++◌, map, length, refl, ap, ◌∙◌, arith}
+use Rattle.seq.proofs.Lists.{length_map}
 use Rattle.grin_syntax.specs.declared.program.Cell.{Cell}
 use Rattle.grin_syntax.specs.declared.program.Target.{Target}
 use Rattle.grin_syntax.specs.declared.program.Target.TheVariants as to
@@ -24,10 +25,6 @@ use Rattle.vectorise.specs.Widened.{Width, ActWidths, CodeWidths, ArmsWidths, Wi
 run_length : (s k : ℕ) → length (variables s k) ≡ k
 run_length s zero = refl
 run_length s (suc k) = let h : length (variables (suc s) k) ≡ k = run_length (suc s) k in omega (arith, h)
-
-map_length : {A B : Type 0} (f : A → B) (xs : List A) → length (map f xs) ≡ length xs
-map_length f [] = refl
-map_length f (x ∷ xs) = let h : length (map f xs) ≡ length xs = map_length f xs in omega (arith, h)
 
 module _ (l : Layout) (k : Table) where
   -- ---- nothing but vectors
@@ -133,9 +130,9 @@ module _ (l : Layout) (k : Table) where
   -- ---- few results
 
   given_narrow : (v : V.Val) → val_width (1 + l.most_value) (given_val l k v) ≤ val_width (1 + l.most_value) v
-  given_narrow (NodeVar x) = let h : length (vector_words l x (suc l.most_value)) ≡ suc l.most_value = map_length Var (variables (vector_start l x.0) (suc l.most_value)) ∙ run_length (vector_start l x.0) (suc l.most_value) in omega (arith, h)
+  given_narrow (NodeVar x) = let h : length (vector_words l x (suc l.most_value)) ≡ suc l.most_value = length_map Var (variables (vector_start l x.0) (suc l.most_value)) ∙ run_length (vector_start l x.0) (suc l.most_value) in omega (arith, h)
   given_narrow (Node t ws) = omega arith
-  given_narrow (Vector ws) = let h : length (as_words k ws) ≡ length ws = map_length _ ws in omega (arith, h)
+  given_narrow (Vector ws) = let h : length (as_words k ws) ≡ length ws = length_map _ ws in omega (arith, h)
   given_narrow (One w) = omega arith
 
   mutual
@@ -263,15 +260,15 @@ module _ (l : Layout) (k : Table) where
 
     val_light : (v : V.Val) → val_weight (wide_val l k v) ≤ val_weight v
     val_light (NodeVar x) =
-        let h : length (vector_words l x (suc (room_of l k x))) ≡ suc (room_of l k x) = map_length Var (variables (vector_start l x.0) (suc (room_of l k x))) ∙ run_length (vector_start l x.0) (suc (room_of l k x)) in
+        let h : length (vector_words l x (suc (room_of l k x))) ≡ suc (room_of l k x) = length_map Var (variables (vector_start l x.0) (suc (room_of l k x))) ∙ run_length (vector_start l x.0) (suc (room_of l k x)) in
         let r : suc (room_of l k x) ≤ 14 = room_short _ in
         omega (arith, h, r)
     val_light (Node t ws) = omega arith
-    val_light (Vector ws) = let h : length (as_words k ws) ≡ length ws = map_length _ ws in omega (arith, h)
+    val_light (Vector ws) = let h : length (as_words k ws) ≡ length ws = length_map _ ws in omega (arith, h)
     val_light (One w) = omega arith
 
     given_light : (v : V.Val) → val_weight (given_val l k v) ≤ val_weight v
-    given_light (NodeVar x) = let h : length (vector_words l x (suc l.most_value)) ≡ suc l.most_value = map_length Var (variables (vector_start l x.0) (suc l.most_value)) ∙ run_length (vector_start l x.0) (suc l.most_value) in omega (arith, h, few, short)
+    given_light (NodeVar x) = let h : length (vector_words l x (suc l.most_value)) ≡ suc l.most_value = length_map Var (variables (vector_start l x.0) (suc l.most_value)) ∙ run_length (vector_start l x.0) (suc l.most_value) in omega (arith, h, few, short)
     given_light (Node t ws) = val_light (Node t ws)
     given_light (Vector ws) = val_light (Vector ws)
     given_light (One w) = val_light (One w)
@@ -298,7 +295,7 @@ module _ (l : Layout) (k : Table) where
       act_light (update a v) = let h : val_weight (wide_val l k v) ≤ val_weight v = val_light v in omega (arith, h)
       act_light (eval a) = omega arith
       act_light (apply v a) = let h : val_weight (wide_val l k v) ≤ val_weight v = val_light v in omega (arith, h)
-      act_light (call f ws) = let h : length (as_words k ws) ≡ length ws = map_length _ ws in omega (arith, h)
+      act_light (call f ws) = let h : length (as_words k ws) ≡ length ws = length_map _ ws in omega (arith, h)
       act_light (prim f a b) = omega arith
       act_light read = omega arith
       act_light (write a) = omega arith
@@ -408,7 +405,7 @@ module _ (l : Layout) (k : Table) where
 
       words_in_code : (b : Code) → code_words (wide_code l k b) ≤ code_words b
       words_in_code (end o) = let e : end_words (wide_act l k o) ≡ end_words o = ends_stay o in let h : inner_words (wide_act l k o) ≤ inner_words o = words_in_act o in omega (arith, e, h)
-      words_in_code (store cs b) = let e : length (wide_cells l k cs) ≡ length cs = map_length _ cs in let h : code_words (wide_code l k b) ≤ code_words b = words_in_code b in omega (arith, e, h)
+      words_in_code (store cs b) = let e : length (wide_cells l k cs) ≡ length cs = length_map _ cs in let h : code_words (wide_code l k b) ≤ code_words b = words_in_code b in omega (arith, e, h)
       words_in_code (bind t o b) =
           let h : target_weight (wide_target l (is_fetch o) t) ≤ target_weight t = target_light (is_fetch o) t in
           let e : node_words (wide_act l k o) ≡ node_words o = nodes_stay o in

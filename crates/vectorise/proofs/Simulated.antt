@@ -1,6 +1,8 @@
 -- A vectorised program does what the program does, with no deeper nesting.
 use Rattle.std.proofs.Common.{◌≡◌, ℕ, zero, suc, ◌+◌, ◌<◌, ◌≤◌, Bool, true, false, cond, not, ◌&&◌, List, [], ◌∷◌, ◌++◌, map, length, Option, Some, None, slice_get, slice_set, refl, sym, ap, ◌∙◌, subst, arith}
 use Rattle.std.proofs.lemmas.List.{length-map}
+use Rattle.seq.proofs.Lists.{all_get}
+use Rattle.seq.proofs.Truth.{and_from, and_left, and_right}
 use Rattle.grin_syntax.specs.declared.program.Tag.{Tag}
 use Rattle.grin_syntax.specs.declared.program.TagKind.{TagKind}
 use Rattle.grin_syntax.specs.declared.program.TagKind.TheVariants as kind
@@ -13,7 +15,6 @@ use Rattle.grin_syntax.specs.Binders.{times, numbers_of, target_vars, shape_vars
 use Rattle.grin_syntax.specs.Formed.{AllOf, Scope, InScope, with_words, with_target, params_scope, WordFormed, CellFormed, ActFormed, CodeFormed, ArmsFormed, ProcedureFormed, Formed}
 use Rattle.grin_syntax.specs.Fresh.{past_vars, past_target, past_cells, past_act, past_code, past_arms, past_procs}
 use Rattle.grin_syntax.proofs.Counted.{times_append}
-use Rattle.grin_syntax.proofs.Scopes.{all_get}
 use Rattle.grin_meaning.specs.Values.{Datum, Node, Value, node, words, Env, HeapCell, and_then, Binding, with_vars, one_each, as_node, word_of, value_of, bindings_of}
 use Rattle.grin_meaning.specs.Run.{Calls, places, cells_of, place_of, is_fun_kind, is_some_and}
 use Rattle.grin_meaning.specs.Checks.{has_block, is_fetch, is_node_target, is_delayed, not_delayed, is_given, fills, all_fill, is_bound_well}
@@ -23,7 +24,6 @@ use Rattle.grin_meaning.specs.Keeps.{Keeps}
 use Rattle.grin_meaning.specs.Looking.{look, NeverMissed}
 use Rattle.grin_meaning.specs.Follows.{Same, same}
 use Rattle.grin_meaning.specs.Full.{FullNode, FullCell, FullState}
-use Rattle.grin_meaning.proofs.Checked.{both_true, left_true, right_true}
 use Rattle.grin_meaning.proofs.Back.{CallsBack}
 use Rattle.grin_meaning.proofs.Fullness.{nodes_full}
 use Rattle.grin_meaning.proofs.Beside.{no_deeper, Beside, Likewise}
@@ -146,8 +146,8 @@ module _ (g : Program) (formed : Formed g) (never : NeverMissed g) (inlined : Ea
   block_stays fail = refl
 
   bound_too : (t : Target) (o : Act) {v v' : Value} → Gives g l.most_value v v' → is_bound_well g t o v ≡ true → is_bound_well g (wide_target l (is_fetch o) t) (wide_act l K o) v' ≡ true
-  bound_too t o {v} {v'} u h = both_true (cond (has_block (wide_act l K o)) (is_given g v') true) (cond (is_node_target (wide_target l (is_fetch o) t) && not (is_fetch (wide_act l K o))) (not_delayed g v') true)
-      (ap (λ b. cond b (is_given g v') true) (block_stays o) ∙ of_block (has_block o) (left_true (cond (has_block o) (is_given g v) true) (cond (is_node_target t && not (is_fetch o)) (not_delayed g v) true) h))
+  bound_too t o {v} {v'} u h = and_from (cond (has_block (wide_act l K o)) (is_given g v') true) (cond (is_node_target (wide_target l (is_fetch o) t) && not (is_fetch (wide_act l K o))) (not_delayed g v') true)
+      (ap (λ b. cond b (is_given g v') true) (block_stays o) ∙ of_block (has_block o) (and_left (cond (has_block o) (is_given g v) true) (cond (is_node_target t && not (is_fetch o)) (not_delayed g v) true) h))
       (ap (λ b. cond (b && not (is_fetch (wide_act l K o))) (not_delayed g v') true) (is_node_gone (is_fetch o) t))
     where
       of_block : (b : Bool) → cond b (is_given g v) true ≡ true → cond b (is_given g v') true ≡ true
@@ -166,7 +166,7 @@ module _ (g : Program) (formed : Formed g) (never : NeverMissed g) (inlined : Ea
   goes_to t o {v} {v'} bs wt u there w e = go (is_fetch o) refl u refl there
     where
       well : is_fetch o ≡ false → (t : Target) → NoVectorTarget t → is_bound_well g t o v ≡ true → (n : Node) → v ≡ node n → bindings_of g t v ≡ Some bs → not_delayed g v ≡ true
-      well q (to.Node x) wt w n r e = ap (λ b. cond (true && not b) (not_delayed g v) true) (sym q) ∙ right_true (cond (has_block o) (is_given g v) true) (cond (true && not (is_fetch o)) (not_delayed g v) true) w
+      well q (to.Node x) wt w n r e = ap (λ b. cond (true && not b) (not_delayed g v) true) (sym q) ∙ and_right (cond (has_block o) (is_given g v) true) (cond (true && not (is_fetch o)) (not_delayed g v) true) w
       well q to.Nothing wt w n r e = nothing_node (sym (ap (bindings_of g to.Nothing) r) ∙ e)
         where
           nothing_node : {A : Type 0} → ◌≡◌ {A = Option (List Binding)} None (Some bs) → A

@@ -1,6 +1,7 @@
 -- The variables of the two programs: a word stands for a word, and a vector for a node.
 use Rattle.std.proofs.Common.{◌≡◌, ℕ, zero, suc, ◌+◌, ◌<◌, ◌≤◌, Bool, true, false, cond, nat_eq, List, [], ◌∷◌, ◌++◌, map, length, Option, Some, None, slice_get, refl, sym, ap, ◌∙◌, subst, inl, inr, ◌⊎◌, ⊎_elim, arith}
 use Rattle.std.proofs.lemmas.Bool.Decides.{nat_tests}
+use Rattle.seq.proofs.Order.{lt_or_le}
 use Rattle.grin_syntax.specs.declared.program.VarId.{VarId}
 use Rattle.grin_syntax.specs.declared.program.Cell.{Cell}
 use Rattle.grin_syntax.specs.declared.program.Target.TheVariants as to
@@ -17,7 +18,7 @@ use Rattle.grin_meaning.specs.Run.{places}
 use Rattle.vectorise.specs.Known.{Layout, Table, vector_start, room_of, word_for, vector_words}
 use Rattle.vectorise.specs.Vectors.{wide_cells}
 use Rattle.vectorise.proofs.Noted.{Once, in_later, IsPlain, FieldsKnown}
-use Rattle.vectorise.proofs.Scoped.{below_or_not, Origin, all_counts, WordIn, Carries, Below, words_carry, words_below, is_first, fresh_past}
+use Rattle.vectorise.proofs.Scoped.{Origin, all_counts, WordIn, Carries, Below, words_carry, words_below, is_first, fresh_past}
 use Rattle.vectorise.proofs.Vals.{filled, filled_length, padded_filled, vector_of, Stands, named, one_each_named, names_stand}
 
 same_var : (x y : VarId) → x.0 ≡ y.0 → x ≡ y
@@ -266,7 +267,7 @@ module _ (l : Layout) (K : Table) (g : Program) (procs : List Procedure) (same_c
 
   -- a variable in scope isn't one of the vector that is bound now
   vector_new : (scope : Scope) (scope' : List ℕ) (x k : ℕ) → k ≤ suc l.most → Held scope scope' → times x scope.nodes ≡ 0 → times x scope.words ≡ 0 → (u : ℕ) → InScope scope' u → times u (numbers_of (variables (vector_start l x) k)) ≡ 0
-  vector_new scope scope' x k le h n w u i = go (below_or_not u (vector_start l x)) (below_or_not u (vector_start l x + k))
+  vector_new scope scope' x k le h n w u i = go (lt_or_le u (vector_start l x)) (lt_or_le u (vector_start l x + k))
     where
       go : (u < vector_start l x) ⊎ (vector_start l x ≤ u) → (u < vector_start l x + k) ⊎ (vector_start l x + k ≤ u) → times u (numbers_of (variables (vector_start l x) k)) ≡ 0
       go (inl a) o = fresh_below u (vector_start l x) k a

@@ -2,6 +2,7 @@
 use Rattle.std.proofs.Common.{◌≡◌, ℕ, zero, suc, ◌+◌, ◌<◌, ◌≤◌, Bool, true, false, cond, nat_eq, nat_le, take, List, [], ◌∷◌, length, Option, Some, None, slice_get, refl, sym, ap, ◌∙◌, subst, arith}
 use Rattle.std.specs.Prelude.{ℤ, IfSome}
 use Rattle.std.proofs.lemmas.Bool.Decides.{nat_tests}
+use Rattle.seq.proofs.Truth.{and_from}
 use Rattle.grin_syntax.specs.declared.program.VarId.{VarId}
 use Rattle.grin_syntax.specs.declared.program.Cell.{Cell}
 use Rattle.grin_syntax.specs.declared.program.Target.{Target}
@@ -22,7 +23,6 @@ use Rattle.grin_meaning.specs.Run.{cells_of}
 use Rattle.grin_meaning.specs.Checks.{is_none_or, is_given, is_filled, fills, all_fill}
 use Rattle.grin_meaning.specs.Full.{FullNode, FullValue}
 use Rattle.grin_meaning.proofs.Fullness.{as_node_full}
-use Rattle.grin_meaning.proofs.Checked.{both_true}
 use Rattle.vectorise.specs.Known.{Layout, Table, vector_start, room, is_fetched, room_of, word_for, as_word, as_words, vector_words, field_words}
 use Rattle.vectorise.specs.Vectors.{wide_val, given_val, wide_target, bare, wide_cells}
 use Rattle.vectorise.specs.Whole.{NoVector, NoVectorTarget, NoWord}
@@ -220,7 +220,7 @@ module _ (l : Layout) (K : Table) (g : Program) (procs : List Procedure) (same_c
           let m : Made c.val n.0 = node_goes c.val f.0 w.0 n.0 n.1 in
           let r : (cells_of g env' (wide_cells l K cs) ≡ Some y.0) × (all_fill g env' (wide_cells l K cs) ≡ true) = cells_go cs f.1 w.1 y.0 y.1 in (
             (λ i. and_then (and_then (m.made i) (λ n. Some (record { site = c.site.0; node = n }))) (λ b. and_then (r.0 i) (λ bs. Some (b ∷ bs)))) ∙ ap (λ b. Some (b ∷ y.0)) (some_is n.2) ∙ y.2,
-            both_true (fills g env' (wide_val l K c.val)) (all_fill g env' (wide_cells l K cs)) m.filled r.1,
+            and_from (fills g env' (wide_val l K c.val)) (all_fill g env' (wide_cells l K cs)) m.filled r.1,
           )
 
   -- ---- targets

@@ -1,6 +1,7 @@
 -- Vectors of nodes.
 use Rattle.std.proofs.Common.{◌≡◌, ℕ, zero, suc, pos, ◌<◌, ◌≤◌, Bool, true, false, cond, not, nat_eq, nat_le, List, [], ◌∷◌, map, length, take, drop, Option, Some, None, refl, sym, ap, ◌∙◌, subst, arith}
 use Rattle.std.proofs.lemmas.Bool.Decides.{nat_tests}
+use Rattle.seq.proofs.Truth.{true_not_false, and_from, and_left, and_right}
 use Rattle.grin_syntax.specs.declared.program.Word as W
 use Rattle.grin_syntax.specs.declared.program.Word.TheVariants.{Var}
 use Rattle.grin_syntax.specs.Tree.{Program}
@@ -8,7 +9,6 @@ use Rattle.grin_syntax.specs.Fresh.{variables}
 use Rattle.grin_meaning.specs.Values.{Datum, number, tag, cell, Node, Value, node, words, Env, and_then, only_word, padded, Binding, with_vars, one_each, fields_of, as_node, word_of, words_of}
 use Rattle.grin_meaning.specs.Checks.{is_none_or, is_zero, all_zero, number_then_zeros, plain_after, plain_number, is_delayed, not_delayed, is_given, is_filled}
 use Rattle.grin_meaning.specs.Full.{FullNode}
-use Rattle.grin_meaning.proofs.Checked.{true_not_false, both_true, left_true, right_true}
 
 -- so many words: these, and zeros
 abbrev pub filled : ℕ → List Datum → List Datum
@@ -48,7 +48,7 @@ drop_filled (suc k) (d ∷ ds) = drop_filled k ds
 zeros_kept : (k : ℕ) (ds : List Datum) → all_zero ds ≡ true → all_zero (filled k ds) ≡ true
 zeros_kept zero ds h = refl
 zeros_kept (suc k) [] h = zeros_filled k
-zeros_kept (suc k) (d ∷ ds) h = both_true (is_zero d) (all_zero (filled k ds)) (left_true (is_zero d) (all_zero ds) h) (zeros_kept k ds (right_true (is_zero d) (all_zero ds) h))
+zeros_kept (suc k) (d ∷ ds) h = and_from (is_zero d) (all_zero (filled k ds)) (and_left (is_zero d) (all_zero ds) h) (zeros_kept k ds (and_right (is_zero d) (all_zero ds) h))
 
 -- ---- variables for words
 
@@ -109,8 +109,8 @@ module _ (g : Program) where
       go (Some j) = on j (nat_le j (length (filled k n.fields)))
 
   pub vector_given : (k : ℕ) (n : Node) → 0 < k → is_given g (node n) ≡ true → is_given g (words (vector_of k n)) ≡ true
-  vector_given k n lt h = both_true (not_delayed g (words (vector_of k n))) (plain_number (words (vector_of k n)))
-      (vector_not_delayed k n (left_true (not_delayed g (node n)) (plain_number (node n)) h)) (after_filled k n.tag n.fields lt (right_true (not_delayed g (node n)) (plain_number (node n)) h))
+  vector_given k n lt h = and_from (not_delayed g (words (vector_of k n))) (plain_number (words (vector_of k n)))
+      (vector_not_delayed k n (and_left (not_delayed g (node n)) (plain_number (node n)) h)) (after_filled k n.tag n.fields lt (and_right (not_delayed g (node n)) (plain_number (node n)) h))
 
   -- ---- words that stand for data
 

@@ -1,6 +1,6 @@
 use Rattle.std.proofs.Common.{◌≡◌, suc, ◌-◌, subst, arith}
+use Rattle.seq.proofs.Lists.{get_is}
 use Rattle.apply_inline.specs.Parts.{SearchStarts}
-use Rattle.apply_inline.proofs.Begins.{got}
 use Rattle.apply_inline.proofs.starts.part_starts.Goals as goal
 
 pub back-preserved : goal.back-preserved
@@ -8,5 +8,5 @@ back-preserved c =
     let e : c.back.at ≡ suc (c.back.at - 1) = omega arith in
     record {
       within = omega arith;
-      begin = c.note.ensures c.args.tags.now (got c.args.tags.now (c.back.at - 1) _ (omega arith) c.index-tags-at.is) (subst (SearchStarts c.args.tags.now c.back.starts.items) e c.back.invariant.begin);
+      begin = c.note.ensures c.args.tags.now (get_is c.args.tags.now (c.back.at - 1) _ (omega arith) c.index-tags-at.is) (subst (SearchStarts c.args.tags.now c.back.starts.items) e c.back.invariant.begin);
     }

@@ -2,13 +2,13 @@ use Rattle.std.proofs.Common.{◌≡◌, ℕ, ◌+◌, ◌<◌, List, [], ◌∷
 use Rattle.std.specs.Prelude.{slice_get}
 use Rattle.std.specs.List.{All}
 use Rattle.std.proofs.lemmas.List.{take_more, map-append}
+use Rattle.seq.proofs.Lists.{get_is}
 use Rattle.core_reader.specs.declared.syntax.Data.{Data}
 use Rattle.core_reader.specs.Tree.{Program, data_of, program}
 use Rattle.core_reader.specs.Readable as readable
 use Rattle.arity_check.specs.declared.normal.Con.{Con}
 use Rattle.arity_check.specs.Normal.{Pairwise, IsConstructor}
 use Rattle.arity_check.proofs.Steps.{same_item}
-use Rattle.arity_check.proofs.Normals.{at_some}
 use Rattle.arity_check.proofs.Finish.{pairwise_snoc, all_at, text_within}
 use Rattle.arity_check.proofs.check.constructors.Goals as goal
 
@@ -38,7 +38,7 @@ loop-con-preserved c =
     let all : map data_of (take (i + 1) items) ≡ map data_of (take i items) ++ data_of x ∷ [] = ap (map data_of) place ∙ map-append data_of (take i items) (x ∷ []) in
     let l : x.name.0 < length c.texts-names.result.now = within c.args.core.now.names c.texts-names.result.now c.args.core.now.constructors items i none c.requires c.texts-names.ensures c.as_slice-con-items.ensures (omega arith) in
     let name : slice_get p.names x.name.0 ≡ Some con.name =
-    ap (λ ns. slice_get ns x.name.0) (sym c.texts-names.ensures) ∙ at_some c.texts-names.result.now x.name.0 c.index-names-con.result l c.index-names-con.is ∙ ap Some (sym c.in_ok-name.ensures) in
+    ap (λ ns. slice_get ns x.name.0) (sym c.texts-names.ensures) ∙ get_is c.texts-names.result.now x.name.0 c.index-names-con.result l c.index-names-con.is ∙ ap Some (sym c.in_ok-name.ensures) in
     let is : IsConstructor p (data_of x) con = record { name = name; fields = refl } in
     let more = pairwise_snoc (IsConstructor p) (map data_of (take i items)) c.loop-con.cons (data_of x) con c.loop-con.invariant is in
     subst (λ ds. Pairwise (IsConstructor p) ds c.push.new.self) (sym all) (subst (λ cs. Pairwise (IsConstructor p) (map data_of (take i items) ++ data_of x ∷ []) cs) (sym c.in_ok-push.ensures.ok) more)

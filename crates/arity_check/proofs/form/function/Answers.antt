@@ -2,6 +2,7 @@ use Rattle.std.proofs.Common.{◌≡◌, List, [], length, sym, ap, ◌∙◌, s
 use Rattle.std.specs.Prelude.{slice_get, false}
 use Rattle.std.specs.List.{range_with_len}
 use Rattle.std.proofs.lemmas.List.FromFn.{length-range_with_len}
+use Rattle.seq.proofs.Lists.{get_is}
 use Rattle.core_reader.specs.declared.syntax.Binder.{Binder}
 use Rattle.core_reader.specs.Tree.{expr}
 use Rattle.arity_check.specs.Scope.{binds_all}
@@ -13,7 +14,7 @@ use Rattle.arity_check.specs.Program.{term}
 use Rattle.arity_check.specs.Normal.{IsNormal}
 use Rattle.arity_check.proofs.NoFaults.{no_back}
 use Rattle.arity_check.proofs.Scopes.{expr_behind}
-use Rattle.arity_check.proofs.Normals.{scope_by, at_some}
+use Rattle.arity_check.proofs.Normals.{scope_by}
 use Rattle.arity_check.proofs.form.function.Goals as goal
 
 pub enter_all-requires : goal.enter_all-requires
@@ -39,7 +40,7 @@ returns c = λ p e n.
     c.in_ok-enter_all.ensures.scope ∙ (λ i. all_named k (names_of (c.as_slice.ensures i)) (numbers i) ((c.in_ok-params.ensures.scope ∙ c.new.ensures) i)) ∙ scope_by p k e params (range_with_len 0 (length params)) [] in
     record {
       name = ap (λ names. slice_get names c.args.function.now.name.0) n
-          ∙ at_some c.args.names.now c.args.function.now.name.0 c.index-names-function.result c.requires.name c.index-names-function.is ∙ ap Some (sym c.in_ok-name.ensures);
+          ∙ get_is c.args.names.now c.args.function.now.name.0 c.index-names-function.result c.requires.name c.index-names-function.is ∙ ap Some (sym c.in_ok-name.ensures);
       params = next;
       after = c.body.new.self.next;
       body = subst (λ s. IsNormal p s (length params) (expr c.args.function.now.body) (term c.in_ok-body.body) c.body.new.self.next) scope

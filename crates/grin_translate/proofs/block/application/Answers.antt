@@ -1,4 +1,5 @@
 use Rattle.std.proofs.Common.{rules, ◌≡◌, get_or, ◌+◌, ◌*◌, IfOk, map, drop, subst, sym, ap, ◌∙◌, arith}
+use Rattle.seq.proofs.Lists.{drop_next, drop_past}
 use Rattle.arity_check.specs.declared.normal.Var.TheVariants.{Local}
 use Rattle.arity_check.specs.Program.{program}
 use Rattle.grin_syntax.specs.declared.program.Op.TheVariants.{Apply}
@@ -7,7 +8,7 @@ use Rattle.grin_syntax.specs.Tree.{act_of, before_of, code_of, all_before, eval}
 use Rattle.grin_syntax.proofs.TreeOf.{act_of-Apply, act_of-Eval}
 use Rattle.grin_translate.specs.Blocks.{word}
 use Rattle.grin_translate.specs.Pieces.{variable, given_to}
-use Rattle.grin_translate.proofs.Pushed.{at_copy, drop_all, given_more, applied_same}
+use Rattle.grin_translate.proofs.Pushed.{given_more, applied_same}
 use Rattle.grin_translate.proofs.block.application.Goals as goal
 
 pub loop-a-preserved : goal.loop-a-preserved
@@ -25,7 +26,7 @@ loop-a-preserved c =
           (act_of-Apply (NodeVar c.in_ok-v.v) c.in_ok-word-2.field-0)
           (c.in_ok-v.ensures.is ∙ ap (λ b. variable (b + 2 * c.loop-a.variables.bound + 1)) c.loop-a.invariant.base)
           (c.in_ok-word-2.ensures ∙ ap (λ b. word p b (get_or c.args.xs.now c.loop-a.a-index (Local 0))) here)
-          (at_copy c.args.xs.now c.loop-a.a-index (Local 0) c.loop-a-test.true)
+          (drop_next c.args.xs.now c.loop-a.a-index (Local 0) c.loop-a-test.true)
           ∙ c.loop-a.invariant.so_far;
     }
 
@@ -35,7 +36,7 @@ returns-clause-is c =
     let base = c.args.variables.now.base in
     let t = c.args.variables.now.bound in
     subst (λ z. IfOk c.ended.result (λ b. code_of b ≡ z))
-    (ap (λ ys. all_before (map before_of c.loop-a.stmts) (given_to p base c.loop-a.variables.bound (act_of c.loop-a.op) (map (word p base) ys))) (sym (drop_all c.args.xs.now c.loop-a.a-index (omega arith)))
+    (ap (λ ys. all_before (map before_of c.loop-a.stmts) (given_to p base c.loop-a.variables.bound (act_of c.loop-a.op) (map (word p base) ys))) (sym (drop_past c.args.xs.now c.loop-a.a-index (omega arith)))
     ∙ c.loop-a.invariant.so_far
     ∙ ap (all_before (map before_of c.args.before)) ((λ z. given_to p base t ((act_of-Eval c.in_ok-word.field-0 ∙ ap eval c.in_ok-word.ensures) z) (map (word p base) c.args.xs.now)) ∙ applied_same p base t (word p base c.args.x) (map (word p base) c.args.xs.now)))
     c.ended.ensures

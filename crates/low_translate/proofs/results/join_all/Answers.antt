@@ -1,7 +1,7 @@
 use Rattle.std.proofs.Common.{◌≡◌, sym, ◌∙◌, subst}
 use Rattle.std.proofs.lemmas.List.{take_more}
+use Rattle.seq.proofs.Lists.{all_push}
 use Rattle.grin_syntax.specs.Formed.{AllOf}
-use Rattle.low_translate.proofs.LastOps.{all_push}
 use Rattle.low_translate.proofs.results.join_all.Goals as goal
 
 pub loop-call-preserved : goal.loop-call-preserved

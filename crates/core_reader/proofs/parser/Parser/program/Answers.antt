@@ -1,9 +1,9 @@
 use Rattle.std.proofs.Common.{map, ◌++◌, ◌∷◌, [], ◌∙◌, ap, sym}
+use Rattle.seq.proofs.Lists.{map_push}
 use Rattle.core_reader.specs.Grammar.{at_most_200}
-use Rattle.core_reader.specs.Tree.{NoTerms, AndTerm, Let, Case, NoAlts, AndAlt, Expr, Alts}
 use Rattle.core_reader.specs.Machine.{data_decl, function_decl, Top, front}
 use Rattle.core_reader.specs.Tree as tree
-use Rattle.core_reader.proofs.Taking.{map_last, constructors_last, refuses, no_decl, fails_from, finishes, constructors_same, functions_last, functions_same}
+use Rattle.core_reader.proofs.Taking.{constructors_last, refuses, no_decl, fails_from, finishes, constructors_same, functions_last, functions_same}
 use Rattle.core_reader.proofs.parser.Parser.program.Goals as goal
 
 pub loop-constructors-preserved-in_ok-push-in-Data : goal.loop-constructors-preserved-in_ok-push-in-Data
@@ -13,7 +13,7 @@ loop-constructors-preserved-in_ok-push-in-Data c =
     record {
       reads = (
         i.0 ++ data_decl d ∷ [],
-        constructors_last i.0 (tree.data_of d) ∙ ap (λ w. w ++ tree.data_of d ∷ []) i.1 ∙ sym (map_last tree.data_of c.loop-constructors.constructors.items d) ∙ ap (map tree.data_of) (sym c.in_ok-push-in-Data.ensures.items),
+        constructors_last i.0 (tree.data_of d) ∙ ap (λ w. w ++ tree.data_of d ∷ []) i.1 ∙ sym (map_push tree.data_of c.loop-constructors.constructors.items d) ∙ ap (map tree.data_of) (sym c.in_ok-push-in-Data.ensures.items),
         functions_same i.0 (tree.data_of d) ∙ i.2,
         i.3 ∙ c.in_ok-constructor-in-Data.ensures.reads i.0,
       );
@@ -40,7 +40,7 @@ loop-constructors-preserved c =
       reads = (
         i.0 ++ function_decl f ∷ [],
         constructors_same i.0 (tree.function f) ∙ i.1,
-        functions_last i.0 (tree.function f) ∙ ap (λ w. w ++ tree.function f ∷ []) i.2 ∙ sym (map_last tree.function c.loop-constructors.functions.items f) ∙ ap (map tree.function) (sym c.in_ok-push-in-Name.ensures.items),
+        functions_last i.0 (tree.function f) ∙ ap (λ w. w ++ tree.function f ∷ []) i.2 ∙ sym (map_push tree.function c.loop-constructors.functions.items f) ∙ ap (map tree.function) (sym c.in_ok-push-in-Name.ensures.items),
         i.3 ∙ c.in_ok-function-in-Name.ensures.reads i.0,
       );
       depth = c.in_ok-function-in-Name.ensures.depth;

@@ -1,5 +1,6 @@
 use Rattle.std.proofs.Common.{rules, sym, ◌∙◌, subst}
-use Rattle.low_translate.proofs.Operations.{end_alone, plain_first, plain_second, plain_third, ok_follows, take_next, stmts_next, block_is, plain_act, plain_end_act, case_done, nested_done, case_ends, nested_ends, store_done, bind_done, stmts_then, block_done, whole_block}
+use Rattle.seq.proofs.Lists.{take_next}
+use Rattle.low_translate.proofs.Operations.{end_alone, plain_first, plain_second, plain_third, ok_follows, stmts_next, block_is, plain_act, plain_end_act, case_done, nested_done, case_ends, nested_ends, store_done, bind_done, stmts_then, block_done, whole_block}
 use Rattle.low_translate.proofs.Alternatives.{ArmsSoFar, no_items, all_items, choice_is, choice_with, one_arm_more, arms_done, no_arms_done}
 use Rattle.low_translate.proofs.blocks.Plan.+blocks.Goals as goal
 

@@ -1,4 +1,4 @@
-use Rattle.std.proofs.Common.{[], ◌∷◌, take, get_or, sym, subst}
+use Rattle.std.proofs.Common.{sym, subst}
 use Rattle.std.proofs.lemmas.List.{take_all, take_more}
 use Rattle.points_to.specs.Worklist.{RegistersAt}
 use Rattle.points_to.proofs.Registered.{registers_none, registers_more}

@@ -1,4 +1,4 @@
-use Rattle.std.proofs.Common.{[], ◌++◌, ap, ◌∙◌, subst}
+use Rattle.std.proofs.Common.{◌++◌, ap, ◌∙◌, subst}
 use Rattle.flow_system.specs.Shown.{tables_of, inclusion_of}
 use Rattle.points_to.specs.Known.{held}
 use Rattle.points_to.specs.Reads.{reads}

@@ -7,9 +7,7 @@ use Rattle.points_to.specs.Asked.{facts_at}
 use Rattle.points_to.specs.Bits.{block_words}
 use Rattle.points_to.specs.Held.{in_part, elements, fetched_at}
 use Rattle.points_to.specs.Known.{held}
-use Rattle.points_to.specs.Reads.{cell_reads}
 use Rattle.points_to.specs.Rows.{GetsAll}
-use Rattle.points_to.specs.Worklist.{RegistersAt}
 use Rattle.points_to.proofs.Registered.{satisfies_fetch}
 use Rattle.points_to.proofs.worklist.Worklist.satisfy_fetch.Goals as goal
 
