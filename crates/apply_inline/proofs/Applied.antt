@@ -1,5 +1,6 @@
 -- A case over the functions that an application meets does what the application does.
 use Rattle.std.proofs.Common.{◌≡◌, ℕ, zero, suc, ◌<◌, ◌≤◌, ◌+◌, Bool, true, false, cond, not, nat_eq, ◌&&◌, List, [], ◌∷◌, ◌++◌, map, length, Option, Some, None, slice_get, refl, sym, ap, ◌∙◌, subst, ⊎_elim, arith}
+use Rattle.seq.proofs.Member.{none_in, cons_in}
 use Rattle.seq.proofs.Truth.{and_right, and_from}
 use Rattle.seq.proofs.Order.{eq_from, differs_from}
 use Rattle.grin_syntax.specs.declared.program.ProcId.{ProcId}
@@ -18,11 +19,12 @@ use Rattle.grin_meaning.proofs.Alike.{Agree, word_same, value_same, Sim, same_ar
 use Rattle.grin_meaning.proofs.Related.{CallsFollow}
 use Rattle.flow_system.specs.Solution.{Solution}
 use Rattle.flow_system.specs.Covers.{Lies}
-use Rattle.eval_inline.specs.Inlining.{those}
 use Rattle.apply_inline.specs.Inlining.{value_has, is_part_tag, apply_body, part_body, apply_arms, part_tags_of, others_of, else_fail}
-use Rattle.eval_inline.proofs.Known.{Among, those_have}
-use Rattle.eval_inline.proofs.Inlining.{it, named, names_stand, fields_fit_named, agree_named}
+use Rattle.eval_inline.proofs.Inlining.{it, names_stand, fields_fit_named, agree_named}
 use Rattle.apply_inline.proofs.ValueTags.{Had, value_had}
+use Rattle.seq.specs.Lists.{those, In}
+use Rattle.grin_meaning.proofs.Bindings.{named}
+use Rattle.seq.proofs.Those.{those_have}
 
 -- each of a list
 abbrev pub Each : (ℕ → Type 0) → List ℕ → Type 0
@@ -90,17 +92,17 @@ module _ (K : Depths) (g : Program) (A : Solution) (x0 : ℕ) (procs : List Proc
   -- the alternatives, one of which has the function's tag
   part_sim : (a : Word) (v : Value) (n : Node) (x : Datum) (t : Tag) (last : Arms) (env env' : Env) (d d' : ℕ) (w : World) (ss : List State) (e : ℕ) → WordOk Ok a → Agree Ok env env' → word_of g env a ≡ Some x
       → as_node g v ≡ Some n → slice_get g.tags n.tag ≡ Some t → length n.fields ≡ t.fields → K.Deep d' d → K.Deep e w.depth
-      → (ks : List ℕ) (y : ℕ) → x0 ≤ y → Among n.tag ks → Sim P K (need t.proc w (λ f. apply_part g c d n x f.0 t.missing w)) (arms h c' env' d' v (apply_arms g A a y ks last) (other w ss e))
+      → (ks : List ℕ) (y : ℕ) → x0 ≤ y → In n.tag ks → Sim P K (need t.proc w (λ f. apply_part g c d n x f.0 t.missing w)) (arms h c' env' d' v (apply_arms g A a y ks last) (other w ss e))
   unfolding act
-  part_sim a v n x t last env env' d d' w ss e ok ag at is_n is full dd de [] y fresh among = absurd among
+  part_sim a v n x t last env env' d d' w ss e ok ag at is_n is full dd de [] y fresh among = none_in among
   part_sim a v n x t last env env' d d' w ss e ok ag at is_n is full dd de (k ∷ ks) y fresh among =
       try (λ z le r. part_sim a v n x t last env env' d d' w ss e ok ag at is_n is full dd de ks z le r) (nat_eq n.tag k) refl (slice_get g.tags k) refl
     where
       same_tag : nat_eq n.tag k ≡ true → slice_get g.tags k ≡ Some t
       same_tag p = ap (slice_get g.tags) (sym (eq_from n.tag k p)) ∙ is
 
-      later : nat_eq n.tag k ≡ false → Among n.tag ks
-      later p = ⊎_elim (λ q. absurd (differs_from n.tag k p q)) (λ r. r) among
+      later : nat_eq n.tag k ≡ false → In n.tag ks
+      later p = ⊎_elim (λ q. absurd (differs_from n.tag k p q)) (λ r. r) (cons_in k ks among)
 
       env'' : Env
       env'' = with_vars (named y n.fields) env'
@@ -108,7 +110,7 @@ module _ (K : Depths) (g : Program) (A : Solution) (x0 : ℕ) (procs : List Proc
       stand : words_of g env'' (map Var (names y (length n.fields)) ++ a ∷ []) ≡ Some (n.fields ++ x ∷ [])
       stand = words_more g env'' (map Var (names y (length n.fields))) a n.fields x (names_stand g y n.fields env') (word_same g Ok env env'' (agree_named K g A x0 procs c c' cb cf env env' y n.fields fresh ag) a ok ∙ at)
 
-      try : ((z : ℕ) → x0 ≤ z → Among n.tag ks → Sim P K (need t.proc w (λ f. apply_part g c d n x f.0 t.missing w)) (arms h c' env' d' v (apply_arms g A a z ks last) (other w ss e)))
+      try : ((z : ℕ) → x0 ≤ z → In n.tag ks → Sim P K (need t.proc w (λ f. apply_part g c d n x f.0 t.missing w)) (arms h c' env' d' v (apply_arms g A a z ks last) (other w ss e)))
           → (b : Bool) → nat_eq n.tag k ≡ b → (o : Option Tag) → slice_get g.tags k ≡ o
           → Sim P K (need t.proc w (λ f. apply_part g c d n x f.0 t.missing w)) (arms h c' env' d' v (apply_arms g A a y (k ∷ ks) last) (other w ss e))
       try next true p o q = rw (same_tag p, is_n, p, ← full, fields_fit_named y n.fields) (proc_sim a y n x t t.proc env'' d d' w _ e dd de stand full)
@@ -117,9 +119,9 @@ module _ (K : Depths) (g : Program) (A : Solution) (x0 : ℕ) (procs : List Proc
 
   -- no alternative but the last has the tag
   else_sim : (a : Word) (v : Value) (n : Node) (env' : Env) (d' : ℕ) (w : World) (ss : List State) (e : ℕ) → as_node g v ≡ Some n → is_part_tag g A n.tag ≡ false → K.Deep e w.depth
-      → (others : List ℕ) → Among n.tag others → (ks : List ℕ) (y : ℕ) → Each (λ t. is_part_tag g A t ≡ true) ks → Sim P K (stops no_alternative w) (arms h c' env' d' v (apply_arms g A a y ks (else_fail g A others)) (other w ss e))
+      → (others : List ℕ) → In n.tag others → (ks : List ℕ) (y : ℕ) → Each (λ t. is_part_tag g A t ≡ true) ks → Sim P K (stops no_alternative w) (arms h c' env' d' v (apply_arms g A a y ks (else_fail g A others)) (other w ss e))
   unfolding act
-  else_sim a v n env' d' w ss e is_n non de [] among [] y all = absurd among
+  else_sim a v n env' d' w ss e is_n non de [] among [] y all = none_in among
   else_sim a v n env' d' w ss e is_n non de (z ∷ zs) among [] y all = λ _. stops_too _ e de
   else_sim a v n env' d' w ss e is_n non de others among (k ∷ ks) y all = try (λ z. else_sim a v n env' d' w ss e is_n non de others among ks z all.1) (nat_eq n.tag k) refl (slice_get g.tags k) refl
     where

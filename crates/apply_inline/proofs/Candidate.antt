@@ -17,7 +17,7 @@ use Rattle.flow_system.specs.Solution.{Solution, among, At}
 use Rattle.apply_inline.specs.Inlining.{word_has}
 use Rattle.points_to.specs.Held.{In, here}
 use Rattle.seq.proofs.Member.{none_in}
-use Rattle.seq.proofs.Truth.{and_left}
+use Rattle.seq.proofs.Truth.{and_left, or_from}
 use Rattle.apply_inline.specs.Applied.{Candidates}
 
 same : (t t' : ℕ) → nat_eq t t' ≡ true → In t (t' ∷ [])
@@ -29,11 +29,6 @@ one_ascends t k lt = absurd (omega arith)
 or_cases : (a b : Bool) → (a || b) ≡ true → a ≡ true ⊎ b ≡ true
 or_cases true b e = inl refl
 or_cases false b e = inr e
-
-or_true : (a b : Bool) → a ≡ true ⊎ b ≡ true → true ≡ (a || b)
-or_true true b h = refl
-or_true false b (inl e) = cc
-or_true false b (inr e) = sym e
 
 module _ (p : Program) (A : Solution) where
   pub own_tag : (w : W.Word) (t : TagId) (ts : List TagId) → w ≡ TagWord t → ts ≡ t ∷ [] → (s : ℕ) → word_has p A s w ≡ true → In s (map (λ t. t.0) ts)
@@ -50,7 +45,7 @@ module _ (p : Program) (A : Solution) where
   of_variable v x ts e up exact = subst (λ v. Candidates p A v ts) (sym e) (record {
     ascending = up;
     all = λ t h. (exact t).1 (⊎_elim (λ a. inl (record { there = a })) (λ b. inr (record { there = b })) (or_cases (among (tag t) (A (var x.0) tags)) (among (tag t) (A (var x.0) (word 0))) h));
-    fitting = λ t i m is. or_true (among (tag t) (A (var x.0) tags)) (among (tag t) (A (var x.0) (word 0))) (⊎_elim (λ a. inl a.there) (λ b. inr b.there) ((exact t).0 m));
+    fitting = λ t i m is. sym (or_from (among (tag t) (A (var x.0) tags)) (among (tag t) (A (var x.0) (word 0))) (⊎_elim (λ a. inl a.there) (λ b. inr b.there) ((exact t).0 m)));
   })
 
   pub of_word : (v : V.Val) (a : W.Word) (ts : List ℕ) → v ≡ One a → IsStrictlyIncreasing ts → ((t : ℕ) → word_has p A t a ≡ true → In t ts) → Candidates p A v ts

@@ -1,5 +1,4 @@
 pub mod Applied
-pub mod Begins
 pub mod Binding
 pub mod Candidate
 pub mod Done

@@ -16,16 +16,14 @@ use Rattle.eval_inline.specs.Inlining.{fields_at, call_body, eval_arm, eval_arms
 use Rattle.apply_inline.specs.Inlining.{is_part_tag, value_has, with_one_more, apply_body, part_body, apply_arm, apply_arms, part_tags_of, others_of, else_fail, apply_act, apply_code, apply_all, apply_procs, apply_act_room, apply_code_room, inlined_size}
 use Rattle.eval_inline.specs.Without.{NotEval}
 use Rattle.apply_inline.specs.Expanded.{called_size, eval_tag_size, eval_tags_size, given_size, part_body_size, part_tag_size, parts_size, else_size, expanded_act, expanded_code, expanded_arms, expanded_procedure}
-use Rattle.apply_inline.specs.Parts.{there_is, HaveNext}
+use Rattle.apply_inline.specs.Parts.{HaveNext}
 use Rattle.apply_inline.proofs.Applied.{Each, those_parts}
 use Rattle.apply_inline.proofs.EvaluationsStay.{ended_still, bound_still}
+use Rattle.grin_syntax.proofs.Counted.{length_variables}
+use Rattle.seq.specs.Lists.{there_is}
 
-pub variables_many : (x k : ℕ) → length (variables x k) ≡ k
-variables_many x zero = refl
-variables_many x (suc k) = omega (arith, variables_many (suc x) k)
-
-words_many : (x k : ℕ) → length (map Var (variables x k)) ≡ k
-words_many x k = length-map (variables x k) Var ∙ variables_many x k
+pub words_many : (x k : ℕ) → length (map Var (variables x k)) ≡ k
+words_many x k = length-map (variables x k) Var ∙ length_variables x k
 
 with_argument : (x k : ℕ) (a : W.Word) → length (map Var (variables x k) ++ a ∷ []) ≡ suc k
 with_argument x k a = omega (arith, length-append (map Var (variables x k)) (a ∷ []), words_many x k)
@@ -48,7 +46,7 @@ module _ (p : Program) (A : Solution) where
   eval_arm_size : (a : W.Word) (n x t : ℕ) (o : Option Tag) (as' : Arms) → arms_size (eval_arm p A a n x t o as') ≡ eval_tag_size p A o + arms_size as'
   unfolding act_size
   eval_arm_size a n x t None as' = omega arith
-  eval_arm_size a n x t (Some i) as' = omega (arith, variables_many x i.fields, body_size a n x i (is_fun_kind i.kind))
+  eval_arm_size a n x t (Some i) as' = omega (arith, length_variables x i.fields, body_size a n x i (is_fun_kind i.kind))
 
   eval_arms_size : (a : W.Word) (n x : ℕ) (ts : List ℕ) → arms_size (eval_arms p A a n x ts) ≡ eval_tags_size p A ts
   unfolding act_size
@@ -81,7 +79,7 @@ module _ (p : Program) (A : Solution) where
     apply_arm_size : (a : W.Word) (x t : ℕ) (o : Option Tag) (as' : Arms) → slice_get p.tags t ≡ o → is_part_tag p A t ≡ true → arms_size (apply_arm e A a x t o as') ≡ part_tag_size p A o + arms_size as'
     unfolding act_size
     apply_arm_size a x t None as' is kind = omega arith
-    apply_arm_size a x t (Some i) as' is kind = omega (arith, variables_many x i.fields, part x a t i i.proc is (ap (λ o. is_some_and o (λ i. is_part_kind i.kind)) (sym is) ∙ kind) refl)
+    apply_arm_size a x t (Some i) as' is kind = omega (arith, length_variables x i.fields, part x a t i i.proc is (ap (λ o. is_some_and o (λ i. is_part_kind i.kind)) (sym is) ∙ kind) refl)
 
     apply_arms_size : (a : W.Word) (x : ℕ) (ts : List ℕ) (last : Arms) → Each (λ t. is_part_tag p A t ≡ true) ts → arms_size (apply_arms e A a x ts last) ≡ parts_size p A ts + arms_size last
     apply_arms_size a x [] last h = omega arith

@@ -8,7 +8,8 @@ use Rattle.grin_syntax.specs.declared.program.TagKind.TheVariants as kind
 use Rattle.grin_syntax.specs.Tree.{Program}
 use Rattle.grin_syntax.specs.Formed.{Formed, KindFormed, TagFormed, HasNext}
 use Rattle.grin_syntax.specs.Tags.{is_part, is_part_kind, part_from}
-use Rattle.apply_inline.specs.Parts.{there_is, HaveNext}
+use Rattle.apply_inline.specs.Parts.{HaveNext}
+use Rattle.seq.specs.Lists.{there_is}
 
 some_part : (i : ℕ) (ts : List Tag) (f r : ℕ) (u : Tag) (us : List Tag) → filter (is_part f r) ts ≡ u ∷ us → there_is (part_from i ts f r) ≡ true
 some_part i [] f r u us e = cc

@@ -21,11 +21,12 @@ use Rattle.apply_inline.specs.Size.{val_size, target_size, shape_size, cells_siz
 use Rattle.flow_system.specs.declared.fact.Element.TheVariants.{Tag as tag}
 use Rattle.flow_system.specs.declared.fact.Place.TheVariants.{Site as site}
 use Rattle.flow_system.specs.declared.fact.Part.TheVariants.{Tags as tags}
-use Rattle.eval_inline.specs.Inlining.{those, some_of, sites_of}
+use Rattle.eval_inline.specs.Inlining.{some_of, sites_of}
 use Rattle.eval_inline.specs.Met.{tags_from}
 use Rattle.apply_inline.specs.Applied.{arms_before}
 use Rattle.apply_inline.specs.Expanded.{capped, eval_tag_size, eval_tags_size, evaluation_size, part_tag_size, parts_size, application_size, expanded_act, expanded_code, expanded_arms}
 use Rattle.apply_inline.proofs.Loops.{arms_before-push, arms_of_before}
+use Rattle.seq.specs.Lists.{those}
 
 cells_push : (cs : List Cell) (c : Cell) → cells_size (cs ++ c ∷ []) ≡ cells_size cs + (2 + val_size c.val)
 cells_push [] c = omega arith

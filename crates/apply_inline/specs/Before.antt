@@ -4,7 +4,7 @@ use Rattle.grin_syntax.specs.Tree.{Program}
 use Rattle.flow_system.specs.Solution.{Solution}
 use Rattle.eval_inline.specs.Inlining.{eval_inlined}
 use Rattle.eval_inline.specs.Analysed.{IsAnalysed}
-use Rattle.apply_inline.specs.Law.{NeverMissing}
+use Rattle.grin_meaning.specs.Looking.{NeverMissing}
 
 -- what became of an analysed program, no run of which is missing, by the same solution
 pub record IsEvalInlined (A : Solution) (q : Program) : Type 0 where

@@ -15,8 +15,9 @@ use Rattle.flow_system.specs.declared.fact.Element.TheVariants.{Tag as tag}
 use Rattle.flow_system.specs.declared.fact.Place.TheVariants.{Var as var}
 use Rattle.flow_system.specs.declared.fact.Part.TheVariants.{Tags as tags, Word as word}
 use Rattle.flow_system.specs.Solution.{Solution, among}
-use Rattle.eval_inline.specs.Inlining.{those, fields_at, eval_inlined}
+use Rattle.eval_inline.specs.Inlining.{fields_at, eval_inlined}
 use Rattle.apply_inline.specs.Size.{size}
+use Rattle.seq.specs.Lists.{those}
 
 module _ (p : Program) (A : Solution) where
   -- whether the solution has a tag for a value

@@ -1,9 +1,6 @@
 -- Inlining of evaluations and applications keeps what a program does.
-use Rattle.std.specs.Prelude.{ℕ, List, ◌≢◌}
 use Rattle.grin_syntax.specs.Tree.{Program}
-use Rattle.grin_meaning.specs.Values.{missing}
-use Rattle.grin_meaning.specs.Run.{run}
-use Rattle.grin_meaning.specs.Keeps.{ended, end_of, Keeps}
+use Rattle.grin_meaning.specs.Keeps.{Keeps}
 use Rattle.flow_system.specs.Tables.{tables}
 use Rattle.flow_system.specs.System.{system}
 use Rattle.flow_system.specs.Solution.{Solution, Solves}
@@ -11,10 +8,7 @@ use Rattle.flow_system.specs.Covers.{Started}
 use Rattle.eval_inline.specs.Inlining.{eval_inlined}
 use Rattle.apply_inline.specs.Inlining.{inlined}
 use Rattle.eval_inline.specs.Law.{UsesBound}
-
--- no run of the program is missing
-abbrev pub NeverMissing : Program → Type 0
-NeverMissing p = (i : List ℕ) (n : ℕ) → end_of (run p i n) ≢ ended missing
+use Rattle.grin_meaning.specs.Looking.{NeverMissing}
 
 abbrev pub InliningKeeps : Type 0
 InliningKeeps =

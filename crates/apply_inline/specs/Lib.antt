@@ -6,3 +6,4 @@ pub mod Law
 pub mod Parts
 pub mod Small
 pub mod Size
+pub mod Known

@@ -3,16 +3,16 @@
 
 ghost use Rattle.std.specs.Prelude.{◌≡◌, ℕ, ◌+◌, [], ◌∷◌, ◌++◌, map, drop, Some, slice_get, IfOk, OnOk};
 ghost use Rattle.grin_syntax.specs.declared.program.Word.TheVariants.{Var};
-ghost use Rattle.grin_syntax.specs.Tree.{Code, Arms, arm, end, case, act_of, before_of, arm_of, arms_of, code_of, procedure_of, program_of};
+ghost use Rattle.grin_syntax.specs.Tree.{Code, Arms, arm, end, case, act_of, before_of, arm_of, arms_of, code_of, procedure_of};
 ghost use Rattle.grin_syntax.specs.Tags.{part_from};
 ghost use Rattle.grin_syntax.specs.Fresh.{variables};
 ghost use Rattle.apply_inline.specs.Inlining.{part_body, apply_body, apply_arm, apply_arms, part_tags_of, others_of, else_fail, parts_room, apply_act, apply_code, apply_all, apply_procs, apply_act_room, apply_code_room, apply_arms_room};
-ghost use Rattle.points_to.specs.Found.{found};
+ghost use Rattle.apply_inline.specs.Known.{program, solution};
 ghost use Rattle.apply_inline.specs.Applied.{arms_before};
-ghost use Rattle.apply_inline.specs.Parts.{SearchStarts};
+ghost use Rattle.flow_system.specs.Starts.{SearchStarts};
 
 use crate::known::Known;
-use crate::starts::part_tag;
+use flow_system::starts::part_tag;
 use grin_syntax::fresh::Fresh;
 use grin_syntax::{Alt, Block, Op, Proc, ProcId, Shape, Stmt, Tag, TagId, Val, VarId, Word};
 use seq::Seq;
@@ -35,9 +35,8 @@ impl Inlining<'_> {
         fresh: &mut Fresh,
         procs: Seq<Proc>,
     ) -> Result<Seq<Proc>, AllocError>
-        ensures { IfOk result (λ made. map procedure_of made
-            ≡ apply_procs (program_of self.now.known.program.now) (found self.now.known.flow.now)
-            fresh.old.next (map procedure_of procs)) }
+        ensures { IfOk result (λ made. map procedure_of made ≡ apply_procs (program self.now.known)
+            (solution self.now.known) fresh.old.next (map procedure_of procs)) }
     {
         let mut made = Seq::new(alloc);
         for proc in procs.into_vec() {
@@ -50,12 +49,10 @@ impl Inlining<'_> {
     // A block with its applications inlined.
     #[cycle(inline)]
     fn block(&self, alloc: Global, fresh: &mut Fresh, block: Block) -> Result<Block, AllocError>
-        ensures is { IfOk result (λ b. code_of b
-            ≡ apply_code (program_of self.now.known.program.now) (found self.now.known.flow.now)
-            fresh.old.next (code_of block)) }
-        ensures next { OnOk result (fresh.new.next
-            ≡ fresh.old.next + apply_code_room (program_of self.now.known.program.now)
-            (found self.now.known.flow.now) (code_of block)) }
+        ensures is { IfOk result (λ b. code_of b ≡ apply_code (program self.now.known)
+            (solution self.now.known) fresh.old.next (code_of block)) }
+        ensures next { OnOk result (fresh.new.next ≡ fresh.old.next
+            + apply_code_room (program self.now.known) (solution self.now.known) (code_of block)) }
     {
         let mut stmts = Seq::new(alloc);
         for stmt in block.stmts.into_vec() {
@@ -71,15 +68,13 @@ impl Inlining<'_> {
     #[cycle(inline)]
     fn stmt(&self, alloc: Global, fresh: &mut Fresh, stmt: Stmt) -> Result<Stmt, AllocError>
         ensures is { IfOk result (λ s. (c : Code)
-            → before_of s (apply_code (program_of self.now.known.program.now)
-            (found self.now.known.flow.now) fresh.new.next c)
-            ≡ apply_code (program_of self.now.known.program.now) (found self.now.known.flow.now)
+            → before_of s (apply_code (program self.now.known) (solution self.now.known)
+            fresh.new.next c) ≡ apply_code (program self.now.known) (solution self.now.known)
             fresh.old.next (before_of stmt c)) }
-        ensures next { OnOk result ((c : Code)
-            → fresh.new.next + apply_code_room (program_of self.now.known.program.now)
-            (found self.now.known.flow.now) c
-            ≡ fresh.old.next + apply_code_room (program_of self.now.known.program.now)
-            (found self.now.known.flow.now) (before_of stmt c)) }
+        ensures next { OnOk result ((c : Code) → fresh.new.next
+            + apply_code_room (program self.now.known) (solution self.now.known) c ≡ fresh.old.next
+            + apply_code_room (program self.now.known) (solution self.now.known)
+            (before_of stmt c)) }
     {
         match stmt {
             Stmt::Store(cells) => Ok(Stmt::Store(cells)),
@@ -89,12 +84,10 @@ impl Inlining<'_> {
 
     #[cycle(inline)]
     fn op(&self, alloc: Global, fresh: &mut Fresh, op: Op) -> Result<Op, AllocError>
-        ensures is { IfOk result (λ o. act_of o
-            ≡ apply_act (program_of self.now.known.program.now) (found self.now.known.flow.now)
-            fresh.old.next (act_of op)) }
-        ensures next { OnOk result (fresh.new.next
-            ≡ fresh.old.next + apply_act_room (program_of self.now.known.program.now)
-            (found self.now.known.flow.now) (act_of op)) }
+        ensures is { IfOk result (λ o. act_of o ≡ apply_act (program self.now.known)
+            (solution self.now.known) fresh.old.next (act_of op)) }
+        ensures next { OnOk result (fresh.new.next ≡ fresh.old.next
+            + apply_act_room (program self.now.known) (solution self.now.known) (act_of op)) }
     {
         match op {
             Op::Apply(v, a) => self.application(alloc, fresh, v, a),
@@ -114,11 +107,11 @@ impl Inlining<'_> {
     #[cycle(inline)]
     fn alts(&self, alloc: Global, fresh: &mut Fresh, alts: Seq<Alt>) -> Result<Seq<Alt>, AllocError>
         ensures is { IfOk result (λ made. arms_of (map arm_of made)
-            ≡ apply_all (program_of self.now.known.program.now) (found self.now.known.flow.now)
-            fresh.old.next (arms_of (map arm_of alts))) }
-        ensures next { OnOk result (fresh.new.next
-            ≡ fresh.old.next + apply_arms_room (program_of self.now.known.program.now)
-            (found self.now.known.flow.now) (arms_of (map arm_of alts))) }
+            ≡ apply_all (program self.now.known) (solution self.now.known) fresh.old.next
+            (arms_of (map arm_of alts))) }
+        ensures next { OnOk result (fresh.new.next ≡ fresh.old.next
+            + apply_arms_room (program self.now.known) (solution self.now.known)
+            (arms_of (map arm_of alts))) }
     {
         let mut made = Seq::new(alloc);
         for alt in alts.into_vec() {
@@ -139,17 +132,13 @@ impl Inlining<'_> {
         a: Word,
     ) -> Result<Op, AllocError>
         ensures is { IfOk result (λ o. act_of o
-            ≡ case v (apply_arms (program_of self.now.known.program.now)
-            (found self.now.known.flow.now) a fresh.old.next
-            (part_tags_of (program_of self.now.known.program.now) (found self.now.known.flow.now) v)
-            (else_fail (program_of self.now.known.program.now) (found self.now.known.flow.now)
-            (others_of (program_of self.now.known.program.now) (found self.now.known.flow.now)
-            v)))) }
-        ensures next { OnOk result (fresh.new.next
-            ≡ fresh.old.next + parts_room (program_of self.now.known.program.now)
-            (found self.now.known.flow.now)
-            (part_tags_of (program_of self.now.known.program.now) (found self.now.known.flow.now)
-            v)) }
+            ≡ case v (apply_arms (program self.now.known) (solution self.now.known) a fresh.old.next
+            (part_tags_of (program self.now.known) (solution self.now.known) v)
+            (else_fail (program self.now.known) (solution self.now.known)
+            (others_of (program self.now.known) (solution self.now.known) v)))) }
+        ensures next { OnOk result (fresh.new.next ≡ fresh.old.next
+            + parts_room (program self.now.known) (solution self.now.known)
+            (part_tags_of (program self.now.known) (solution self.now.known) v)) }
     {
         let mut alts = self.parts(alloc, fresh, &v, a)?;
         if self.known.has_other(&v) {
@@ -170,14 +159,11 @@ impl Inlining<'_> {
         a: Word,
     ) -> Result<Seq<Alt>, AllocError>
         ensures are { IfOk result (λ alts. (last : Arms) → arms_before (map arm_of alts) last
-            ≡ apply_arms (program_of self.now.known.program.now) (found self.now.known.flow.now) a
-            fresh.old.next (part_tags_of (program_of self.now.known.program.now)
-            (found self.now.known.flow.now) v.now) last) }
-        ensures next { OnOk result (fresh.new.next
-            ≡ fresh.old.next + parts_room (program_of self.now.known.program.now)
-            (found self.now.known.flow.now)
-            (part_tags_of (program_of self.now.known.program.now) (found self.now.known.flow.now)
-            v.now)) }
+            ≡ apply_arms (program self.now.known) (solution self.now.known) a fresh.old.next
+            (part_tags_of (program self.now.known) (solution self.now.known) v.now) last) }
+        ensures next { OnOk result (fresh.new.next ≡ fresh.old.next
+            + parts_room (program self.now.known) (solution self.now.known)
+            (part_tags_of (program self.now.known) (solution self.now.known) v.now)) }
     {
         let mut alts = Seq::new(alloc);
         for t in self.known.candidates(v) {
@@ -199,8 +185,8 @@ impl Inlining<'_> {
         a: Word,
     ) -> Result<Alt, AllocError>
         ensures is { IfOk result (λ alt. (rest : Arms) → arm alt.pattern (code_of alt.body) rest
-            ≡ apply_arm (program_of self.now.known.program.now) (found self.now.known.flow.now) a
-            fresh.old.next t.0 (Some tag.now) rest) }
+            ≡ apply_arm (program self.now.known) (solution self.now.known) a fresh.old.next t.0
+            (Some tag.now) rest) }
         ensures next { OnOk result (fresh.new.next ≡ fresh.old.next + tag.now.fields) }
     {
         let fields = fresh.variables(alloc, tag.fields)?;
@@ -215,8 +201,8 @@ impl Inlining<'_> {
     // otherwise its node with one argument more.
     fn applied(&self, alloc: Global, fields: &[VarId], tag: &Tag, a: Word) -> Result<Op, AllocError>
         ensures { IfOk result (λ o. (x : ℕ) → fields.now ≡ variables x tag.now.fields
-            → end (act_of o) ≡ part_body (program_of self.now.known.program.now)
-            (found self.now.known.flow.now) x a tag.now tag.now.proc) }
+            → end (act_of o) ≡ part_body (program self.now.known) (solution self.now.known) x a
+            tag.now tag.now.proc) }
     {
         match tag.proc {
             Some(f) => self.given(f, tag.missing, with_argument(alloc, fields, a)?),
@@ -225,9 +211,8 @@ impl Inlining<'_> {
     }
 
     fn given(&self, f: ProcId, missing: u32, words: Seq<Word>) -> Result<Op, AllocError>
-        ensures { IfOk result (λ o. end (act_of o)
-            ≡ apply_body (program_of self.now.known.program.now) (found self.now.known.flow.now) f.0
-            missing words) }
+        ensures { IfOk result (λ o. end (act_of o) ≡ apply_body (program self.now.known)
+            (solution self.now.known) f.0 missing words) }
     {
         match missing {
             0 => Ok(Op::Fail),

@@ -3,10 +3,10 @@
 #![tactic(auto, using(grin_syntax::proofs::TreeOf::tree_of), unfolding(crate::specs::Expanded::expanded_act, crate::specs::Size::act_size))]
 
 ghost use Rattle.std.specs.Prelude.{◌≡◌, ◌+◌, map, slice_get};
-ghost use Rattle.grin_syntax.specs.Tree.{Code, act_of, before_of, arm_of, arms_of, code_of, procedure_of, program_of};
+ghost use Rattle.grin_syntax.specs.Tree.{Code, act_of, before_of, arm_of, arms_of, code_of, procedure_of};
 ghost use Rattle.apply_inline.specs.Inlining.{part_tags_of};
 ghost use Rattle.apply_inline.specs.Size.{val_size, target_size, shape_size, cells_size, total};
-ghost use Rattle.points_to.specs.Found.{found};
+ghost use Rattle.apply_inline.specs.Known.{program, solution};
 ghost use Rattle.apply_inline.specs.Expanded.{capped, eval_body_size, eval_tag_size, evaluation_size, part_body_size, parts_size, application_size, expanded_act, expanded_code, expanded_arms, expanded_procedure};
 
 use crate::known::Known;
@@ -18,8 +18,7 @@ use grin_syntax::{
 impl Known<'_> {
     /// The size of these procedures once they are inlined.
     pub(crate) fn procs_size(&self, procs: &[Proc]) -> u64
-        ensures { result ≡ capped
-            (total (expanded_procedure (program_of self.now.program.now) (found self.now.flow.now))
+        ensures { result ≡ capped (total (expanded_procedure (program self.now) (solution self.now))
             (map procedure_of procs.now)) }
     {
         let mut size = 0u64;
@@ -30,8 +29,7 @@ impl Known<'_> {
     }
 
     fn proc_size(&self, proc: &Proc) -> u64
-        ensures { result ≡ capped
-            (expanded_procedure (program_of self.now.program.now) (found self.now.flow.now)
+        ensures { result ≡ capped (expanded_procedure (program self.now) (solution self.now)
             (procedure_of proc.now)) }
     {
         let params = proc.params.len() as u64;
@@ -40,8 +38,7 @@ impl Known<'_> {
 
     #[cycle(size)]
     fn block_size(&self, block: &Block) -> u64
-        ensures { result ≡ capped
-            (expanded_code (program_of self.now.program.now) (found self.now.flow.now)
+        ensures { result ≡ capped (expanded_code (program self.now) (solution self.now)
             (code_of block.now)) }
     {
         let mut size = 0u64;
@@ -53,11 +50,9 @@ impl Known<'_> {
 
     #[cycle(size)]
     fn stmt_size(&self, stmt: &Stmt) -> u64
-        ensures { (c : Code) → capped
-            (expanded_code (program_of self.now.program.now) (found self.now.flow.now)
-            (before_of stmt.now c))
-            ≡ capped (result + expanded_code (program_of self.now.program.now)
-            (found self.now.flow.now) c) }
+        ensures { (c : Code) → capped (expanded_code (program self.now) (solution self.now)
+            (before_of stmt.now c)) ≡ capped (result + expanded_code (program self.now)
+            (solution self.now) c) }
     {
         match stmt {
             Stmt::Store(cells) => cells_size(cells.as_slice()),
@@ -67,8 +62,7 @@ impl Known<'_> {
 
     #[cycle(size)]
     fn alts_size(&self, alts: &[Alt]) -> u64
-        ensures { result ≡ capped
-            (expanded_arms (program_of self.now.program.now) (found self.now.flow.now)
+        ensures { result ≡ capped (expanded_arms (program self.now) (solution self.now)
             (arms_of (map arm_of alts.now))) }
     {
         let mut size = 0u64;
@@ -81,8 +75,7 @@ impl Known<'_> {
 
     #[cycle(size)]
     fn op_size(&self, op: &Op) -> u64
-        ensures { result ≡ capped
-            (expanded_act (program_of self.now.program.now) (found self.now.flow.now)
+        ensures { result ≡ capped (expanded_act (program self.now) (solution self.now)
             (act_of op.now)) }
     {
         match op {
@@ -107,8 +100,8 @@ impl Known<'_> {
 
     // The fetch that binds a node variable, and the case on it.
     fn evaluation_size(&self, word: &Word) -> u64
-        ensures { result ≡ capped
-            (evaluation_size (program_of self.now.program.now) (found self.now.flow.now) word.now) }
+        ensures { result ≡ capped (evaluation_size (program self.now) (solution self.now)
+            word.now) }
     {
         let mut size = 5u64;
         let mut from = 0;
@@ -121,8 +114,7 @@ impl Known<'_> {
 
     // The alternative of an evaluation for a tag.
     fn eval_tag_size(&self, t: TagId) -> u64
-        ensures { result ≡ capped
-            (eval_tag_size (program_of self.now.program.now) (found self.now.flow.now)
+        ensures { result ≡ capped (eval_tag_size (program self.now) (solution self.now)
             (slice_get self.now.program.now.tags t.0)) }
     {
         match self.program.tags.get(t.0 as usize) {
@@ -132,8 +124,7 @@ impl Known<'_> {
     }
 
     fn application_size(&self, v: &Val) -> u64
-        ensures { result ≡ capped
-            (application_size (program_of self.now.program.now) (found self.now.flow.now) v.now) }
+        ensures { result ≡ capped (application_size (program self.now) (solution self.now) v.now) }
     {
         let scrutinee = val_size(v).saturating_add(1);
         let last = u64::from(self.has_other(v));
@@ -144,9 +135,8 @@ impl Known<'_> {
 
     // The alternatives of an application.
     fn parts_size(&self, v: &Val) -> u64
-        ensures { result ≡ capped
-            (parts_size (program_of self.now.program.now) (found self.now.flow.now)
-            (part_tags_of (program_of self.now.program.now) (found self.now.flow.now) v.now)) }
+        ensures { result ≡ capped (parts_size (program self.now) (solution self.now)
+            (part_tags_of (program self.now) (solution self.now) v.now)) }
     {
         let mut size = 0u64;
         for t in self.candidates(v) {

@@ -2,14 +2,14 @@
 
 ghost use Rattle.std.specs.Prelude.{◌≡◌, ◌&&◌, not, true, false, ℕ, map, Some, slice_get, MatchOption};
 ghost use Rattle.std.specs.List.Sorted.{IsStrictlyIncreasing};
-ghost use Rattle.grin_syntax.specs.Tree.{program_of};
 ghost use Rattle.grin_meaning.specs.Run.{is_part_kind};
 ghost use Rattle.apply_inline.specs.Inlining.{word_has, others_of};
-ghost use Rattle.points_to.specs.Found.{found};
+ghost use Rattle.apply_inline.specs.Known.{program, solution};
 ghost use Rattle.points_to.specs.Held.{In};
 ghost use Rattle.apply_inline.specs.Applied.{words_fit, fits, meets_part, meets_other, has_some, Candidates};
 
-use grin_syntax::{Grin, Tag, TagId, TagKind, Val, Word};
+use flow_system::starts::is_part;
+use grin_syntax::{Grin, Tag, TagId, Val, Word};
 use points_to::Flow;
 use std::slice;
 
@@ -24,10 +24,9 @@ impl Known<'_> {
     /// The tag of this number, where it is that of a function that lacks arguments, and one that
     /// the solution has for a value. The number is one of the value's candidates.
     pub(crate) fn part(&self, v: &Val, t: TagId) -> Option<&Tag>
-        ensures { MatchOption result
-            (meets_part (program_of self.now.program.now) (found self.now.flow.now) v.now t.0
-            ≡ false) (λ i. (meets_part (program_of self.now.program.now) (found self.now.flow.now)
-            v.now t.0 ≡ true) × (slice_get self.now.program.now.tags t.0 ≡ Some i.now)) }
+        ensures { MatchOption result (meets_part (program self.now) (solution self.now) v.now t.0
+            ≡ false) (λ i. (meets_part (program self.now) (solution self.now) v.now t.0 ≡ true)
+            × (slice_get self.now.program.now.tags t.0 ≡ Some i.now)) }
     {
         match self.program.tags.get(t.0 as usize) {
             Some(tag) => {
@@ -44,8 +43,7 @@ impl Known<'_> {
     /// Whether the solution has a tag for a value that is not one of a function that lacks
     /// arguments.
     pub(crate) fn has_other(&self, v: &Val) -> bool
-        ensures { result ≡ has_some
-            (others_of (program_of self.now.program.now) (found self.now.flow.now) v.now) }
+        ensures { result ≡ has_some (others_of (program self.now) (solution self.now) v.now) }
     {
         for t in self.candidates(v) {
             if self.is_other(v, *t) {
@@ -56,15 +54,14 @@ impl Known<'_> {
     }
 
     fn is_part(&self, v: &Val, t: TagId, tag: &Tag) -> bool
-        ensures { result ≡ (is_part_kind tag.now.kind && fits (program_of self.now.program.now)
-            (found self.now.flow.now) v.now t.0 tag.now) }
+        ensures { result ≡ (is_part_kind tag.now.kind && fits (program self.now) (solution self.now)
+            v.now t.0 tag.now) }
     {
         is_part(tag.kind) && self.fits(v, t, tag)
     }
 
     fn is_other(&self, v: &Val, t: TagId) -> bool
-        ensures { result ≡ meets_other (program_of self.now.program.now) (found self.now.flow.now)
-            v.now t.0 }
+        ensures { result ≡ meets_other (program self.now) (solution self.now) v.now t.0 }
     {
         match self.program.tags.get(t.0 as usize) {
             Some(tag) => !is_part(tag.kind) && self.fits(v, t, tag),
@@ -74,7 +71,7 @@ impl Known<'_> {
 
     /// Tags among which are all that the solution has for a value, ascending.
     pub(crate) fn candidates<'b>(&'b self, v: &'b Val) -> &'b [TagId]
-        ensures { Candidates (program_of self.now.program.now) (found self.now.flow.now) v.now
+        ensures { Candidates (program self.now) (solution self.now) v.now
             (map (λ t. t.0) result.now) }
     {
         match v {
@@ -91,8 +88,8 @@ impl Known<'_> {
     // Tags among which are all that the solution has for a word, ascending.
     fn first_tags<'b>(&'b self, word: &'b Word) -> &'b [TagId]
         ensures ascending { IsStrictlyIncreasing (map (λ t. t.0) result.now) }
-        ensures all { (t : ℕ) → word_has (program_of self.now.program.now) (found self.now.flow.now)
-            t word.now ≡ true → In t (map (λ t. t.0) result.now) }
+        ensures all { (t : ℕ) → word_has (program self.now) (solution self.now) t word.now ≡ true
+            → In t (map (λ t. t.0) result.now) }
     {
         match word {
             Word::Var(x) => self.flow.nodes_of(*x),
@@ -104,8 +101,7 @@ impl Known<'_> {
 
     // Whether the solution has one of a value's candidates for the value.
     fn fits(&self, v: &Val, t: TagId, tag: &Tag) -> bool
-        ensures { result ≡ fits (program_of self.now.program.now) (found self.now.flow.now) v.now
-            t.0 tag.now }
+        ensures { result ≡ fits (program self.now) (solution self.now) v.now t.0 tag.now }
     {
         match v {
             Val::NodeVar(_) => true,
@@ -116,8 +112,7 @@ impl Known<'_> {
     }
 
     fn words_fit(&self, words: &[Word], t: TagId, fields: u32) -> bool
-        ensures { result ≡ words_fit (program_of self.now.program.now) (found self.now.flow.now)
-            words.now t.0 fields }
+        ensures { result ≡ words_fit (program self.now) (solution self.now) words.now t.0 fields }
     {
         match words.first() {
             Some(word) => self.word_has(t, word) && (fields as usize) < words.len(),
@@ -126,8 +121,7 @@ impl Known<'_> {
     }
 
     fn word_has(&self, t: TagId, word: &Word) -> bool
-        ensures { result ≡ word_has (program_of self.now.program.now) (found self.now.flow.now) t.0
-            word.now }
+        ensures { result ≡ word_has (program self.now) (solution self.now) t.0 word.now }
     {
         match word {
             Word::Var(x) => self.flow.holds_tag(*x, t),
@@ -135,16 +129,5 @@ impl Known<'_> {
             Word::Lit(_) => false,
             Word::Global(_) => false,
         }
-    }
-}
-
-/// Whether a tag of this kind is that of a function that lacks arguments.
-pub(crate) fn is_part(kind: TagKind) -> bool
-    ensures { result ≡ is_part_kind kind }
-{
-    match kind {
-        TagKind::Part => true,
-        TagKind::Con => false,
-        TagKind::Fun => false,
     }
 }

@@ -1,5 +1,5 @@
-// Applications by a case over the functions that they meet, and the size of a program with its
-// evaluations and applications inlined.
+//! Applications by a case over the functions that they meet, and the size of a program with its
+//! evaluations and applications inlined.
 #![tactic(auto)]
 
 ghost use Rattle.std.specs.Prelude.{◌≡◌, ◌<◌, ◌^◌, IfOk};
@@ -16,15 +16,14 @@ mod blocks;
 mod expanded;
 mod known;
 pub mod laws;
-mod starts;
 
 use blocks::Inlining;
+use flow_system::starts::part_starts;
 use grin_syntax::Grin;
 use grin_syntax::fresh::Fresh;
 use known::Known;
 use points_to::Flow;
 use seq::Seq;
-use starts::part_starts;
 use std::alloc::{AllocError, Global};
 use std::mem;
 

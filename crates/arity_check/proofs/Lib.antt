@@ -1,13 +1,13 @@
 mod Counted
 pub mod Weight
 mod Derived
-mod Numbers
+pub mod Numbers
 mod Single
 mod Snoc
 pub mod Counts
 mod Unique
 mod Steps
-mod Names
+pub mod Names
 mod Noted
 mod Apps
 mod Exprs
@@ -17,7 +17,7 @@ mod Least
 pub mod Building
 pub mod Rows
 mod Scopes
-mod TermOf
+pub mod TermOf
 mod Normals
 mod Finish
 mod Exists

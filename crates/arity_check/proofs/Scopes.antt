@@ -1,6 +1,6 @@
 -- Binders enter a scope, under their numbers or under others, and leave it.
-use Rattle.std.proofs.Common.{◌≡◌, ℕ, ◌+◌, ◌-◌, ◌<◌, Bool, true, false, List, [], ◌∷◌, ◌++◌, length, drop, get_or, refl, sym, ap, ◌∙◌, arith, Option, Some, None, append_assoc, length-append}
-use Rattle.std.proofs.lemmas.List.{drop_more, drop_at}
+use Rattle.std.proofs.Common.{◌≡◌, ℕ, ◌+◌, ◌-◌, ◌<◌, Bool, true, false, List, [], ◌∷◌, ◌++◌, length, drop, get_or, refl, sym, ap, ◌∙◌, arith, Option, Some, None, append_assoc}
+use Rattle.std.proofs.lemmas.List.{drop_more}
 use Rattle.std.specs.Prelude.{◌==◌, if◌then◌else◌}
 use Rattle.core_reader.specs.declared.syntax.Binder.{Binder}
 use Rattle.core_reader.specs.Tree.{Program, Term, Terms, Name, Con, Int, Bracket, NoTerms, AndTerm, Application, Expr, App, Let, Case, Alts, Bind, NoAlts, AndAlt}
@@ -11,6 +11,8 @@ use Rattle.arity_check.specs.Whole.{known_of}
 use Rattle.arity_check.specs.Pieces.{names_of, binders_of, bound_by}
 use Rattle.arity_check.specs.Faults.{meaning_faults, applied_to, size_faults, head_faults, args_faults, app_faults, members_faults, binders_faults, patterns_faults, no_patterns, expr_faults, alts_faults}
 use Rattle.arity_check.proofs.Names.{nameless_named}
+use Rattle.arity_check.proofs.Counts.{left_append}
+use Rattle.seq.specs.Lists.{there_is}
 
 -- ---- by the tables and by the program
 
@@ -35,11 +37,6 @@ named_append k (x ∷ xs) (y ∷ ys) s =
     go true t added e = (added, e)
     go false t added e = (added ++ ((x, y) ∷ []), e ∙ sym (append_assoc added ((x, y) ∷ []) s))
 
-left_append : (xs s : Scope) → drop (length (xs ++ s) - length s) (xs ++ s) ≡ s
-left_append xs s =
-    let n : length (xs ++ s) - length s ≡ length xs = omega (arith, length-append xs s) in
-    ap (λ n. drop n (xs ++ s)) n ∙ drop_at xs s (length xs) refl
-
 pub leaves_named : (k : Known) (xs ys : List ℕ) (s t u v : Scope) (depth : ℕ) → depth ≡ length s → t ≡ all_named k xs ys s → u ≡ t → v ≡ drop (length u - depth) u → v ≡ s
 leaves_named k xs ys s t u v depth d e f g =
     let a = named_append k xs ys s in
@@ -56,19 +53,15 @@ one_named k xs ys i x y s t r l e is js h f =
 
 -- ---- the numbers of the locals are of no account for the rules
 
-abbrev pub is_local : Option ℕ → Bool
-is_local None = false
-is_local (Some y) = true
-
 -- the same names are locals
 abbrev pub SameLocals : Scope → Scope → Type 0
-SameLocals s s' = (x : ℕ) → is_local (local_in s x) ≡ is_local (local_in s' x)
+SameLocals s s' = (x : ℕ) → there_is (local_in s x) ≡ there_is (local_in s' x)
 
 module _ (k : Known) where
   meaning_same : (s s' : Scope) → SameLocals s s' → (x at n : ℕ) → meaning_faults (meaning k s x) at n ≡ meaning_faults (meaning k s' x) at n
   meaning_same s s' a x at n = go (is_nameless k x) (kind_meaning (k.kind x))
     where
-      locals : (o o' : Option ℕ) → is_local o ≡ is_local o' → meaning_faults (local_meaning k x o) at n ≡ meaning_faults (local_meaning k x o') at n
+      locals : (o o' : Option ℕ) → there_is o ≡ there_is o' → meaning_faults (local_meaning k x o) at n ≡ meaning_faults (local_meaning k x o') at n
       locals None None e = refl
       locals None (Some y) e = cc
       locals (Some y) None e = cc
@@ -87,7 +80,7 @@ module _ (k : Known) where
   named_same : (s s' : Scope) (x y y' : ℕ) → SameLocals s s' → SameLocals (named k x y s) (named k x y' s')
   named_same s s' x y y' a = go (is_nameless k x)
     where
-      at : (q : ℕ) (b : Bool) → is_local (if b then Some y else local_in s q) ≡ is_local (if b then Some y' else local_in s' q)
+      at : (q : ℕ) (b : Bool) → there_is (if b then Some y else local_in s q) ≡ there_is (if b then Some y' else local_in s' q)
       at q true = refl
       at q false = a q
 

@@ -10,7 +10,8 @@ use Rattle.grin_meaning.specs.Run.{Calls, act_by, code_by, looking, passing, pla
 use Rattle.grin_meaning.specs.Checks.{is_bound_well}
 use Rattle.arity_raise.specs.Raising.{Raising, Decisions, field_fetches, fetches_for, arguments_for}
 use Rattle.arity_raise.proofs.Related.{EachIs, each_same, Agrees, Held, ArgsFor, CellsReady}
-use Rattle.arity_raise.proofs.Entry.{in_a_row, row_out, row_each}
+use Rattle.arity_raise.proofs.Entry.{row_each}
+use Rattle.grin_meaning.proofs.Bindings.{named, named_below}
 
 agrees_self : (n : ℕ) (env : Env) → Agrees n env env
 agrees_self n env y lt = refl
@@ -71,11 +72,11 @@ module _ (h : Program) (c' : Calls) (d' : ℕ) where
       rest v w' = looking true (is_bound_well h (to.One (variable n)) (fetch_word a (suc i)) v) w' (need (bindings_of h (to.One (variable n)) v) w' (λ bs. code_by h c' true (with_vars bs env) d' b (passing (with_vars bs env) w')))
 
   field_comes : (a : Word) (c : ℕ) (y : HeapCell) (b : Code) (fs : List Datum) (n i : ℕ) (env : Env) (w : World) → ((env2 : Env) → Agrees n env env2 → word_of h env2 a ≡ Some (cell c)) → slice_get w.cells c ≡ Some y
-      → ((j : ℕ) → nth_or_zero y.node.fields (i + j) ≡ nth_or_zero fs j) → Comes env w (field_fetches a n i (length fs) b) b (with_vars (in_a_row n fs) env)
+      → ((j : ℕ) → nth_or_zero y.node.fields (i + j) ≡ nth_or_zero fs j) → Comes env w (field_fetches a n i (length fs) b) b (with_vars (named n fs) env)
   field_comes a c y b [] n i env w e q f = record { seen = w.seen; is = refl }
   field_comes a c y b (d ∷ fs) n i env w e q f =
-      let rest : Comes env1 (passing env1 w) (field_fetches a (suc n) (suc i) (length fs) b) b (with_vars (in_a_row (suc n) fs) env1)
-      = field_comes a c y b fs (suc n) (suc i) env1 (passing env1 w) (λ env2 g. e env2 (agrees_on n (suc n) env env1 env2 (omega arith) (row_out n (d ∷ []) env) g)) q later in
+      let rest : Comes env1 (passing env1 w) (field_fetches a (suc n) (suc i) (length fs) b) b (with_vars (named (suc n) fs) env1)
+      = field_comes a c y b fs (suc n) (suc i) env1 (passing env1 w) (λ env2 g. e env2 (agrees_on n (suc n) env env1 env2 (omega arith) (named_below n (d ∷ []) env) g)) q later in
       record { seen = rest.seen; is = one_fetch env w a c y n i d (field_fetches a (suc n) (suc i) (length fs) b) (e env (agrees_self n env)) q here ∙ rest.is }
     where
       here : nth_or_zero y.node.fields i ≡ d
@@ -117,13 +118,13 @@ module _ (h : Program) (c' : Calls) (d' : ℕ) where
         agrees y lt = k.agrees y (omega (arith, lt))
 
     fields_fetched : (b : Code) (r : Raising) (ds : Decisions) (a : Word) (ws : List Word) (x : Datum) (xs : List Datum) (n : ℕ) (env : Env) (w : World) (held : Held F r x)
-        (one : Comes env w (field_fetches a n 0 r.fields (fetches_for (n + r.fields) ds ws b)) (fetches_for (n + r.fields) ds ws b) (with_vars (in_a_row n held.y.node.fields) env))
-        → Fetched (n + r.fields) (with_vars (in_a_row n held.y.node.fields) env) (record w { seen = one.seen }) (fetches_for (n + r.fields) ds ws b) b ds (arguments_for (n + r.fields) ds ws) xs
+        (one : Comes env w (field_fetches a n 0 r.fields (fetches_for (n + r.fields) ds ws b)) (fetches_for (n + r.fields) ds ws b) (with_vars (named n held.y.node.fields) env))
+        → Fetched (n + r.fields) (with_vars (named n held.y.node.fields) env) (record w { seen = one.seen }) (fetches_for (n + r.fields) ds ws b) b ds (arguments_for (n + r.fields) ds ws) xs
         → Fetched n env w (fetches_for n (Some r ∷ ds) (a ∷ ws) b) b (Some r ∷ ds) (arguments_for n (Some r ∷ ds) (a ∷ ws)) (x ∷ xs)
     fields_fetched b r ds a ws x xs n env w held one k = record {
       env2 = k.env2;
       comes = record { seen = k.comes.seen; is = one.is ∙ k.comes.is };
-      agrees = λ y lt. k.agrees y (omega (arith, lt)) ∙ row_out n fs env y lt;
+      agrees = λ y lt. k.agrees y (omega (arith, lt)) ∙ named_below n fs env y lt;
       xs' = fs ++ k.xs';
       there = subst (λ m. words_of h k.env2 (map Var (variables n m) ++ arguments_for (n + r.fields) ds ws) ≡ Some (fs ++ k.xs')) held.many
           (words_more h k.env2 n fs (arguments_for (n + r.fields) ds ws) k.xs' each k.there);
@@ -134,7 +135,7 @@ module _ (h : Program) (c' : Calls) (d' : ℕ) where
         fs = held.y.node.fields
 
         each : EachIs k.env2 n fs
-        each = each_same (with_vars (in_a_row n fs) env) k.env2 n fs (λ j le lt. k.agrees j (let m : length fs ≡ r.fields = held.many in omega (arith, lt, m))) (row_each n fs env)
+        each = each_same (with_vars (named n fs) env) k.env2 n fs (λ j le lt. k.agrees j (let m : length fs ≡ r.fields = held.many in omega (arith, lt, m))) (row_each n fs env)
 
     pub args_come : (b : Code) (ds : Decisions) (ws : List Word) (xs : List Datum) (n : ℕ) (env : Env) (w : World) → Steady n env ws xs → CellsReady F w.cells ds xs → Fetched n env w (fetches_for n ds ws b) b ds (arguments_for n ds ws) xs
     args_come b [] ws xs n env w s q = record { env2 = env; comes = record { seen = w.seen; is = refl }; agrees = agrees_self n env; xs' = xs; there = s env (agrees_self n env); related = refl }
@@ -143,7 +144,7 @@ module _ (h : Program) (c' : Calls) (d' : ℕ) where
     args_come b (d ∷ ds) (a ∷ ws) [] n env w s q = absurd (no_words h env a ws (s env (agrees_self n env)))
     args_come b (None ∷ ds) (a ∷ ws) (x ∷ xs) n env w s q = stays_fetched b ds a ws x xs n env w s (args_come b ds ws xs (n + 0) env w (λ env2 g. (first_word h env2 a ws x xs (s env2 (λ y lt. g y (omega (arith, lt))))).others) q)
     args_come b (Some r ∷ ds) (a ∷ ws) (x ∷ xs) n env w s q = fields_fetched b r ds a ws x xs n env w held one
-        (args_come b ds ws xs (n + r.fields) (with_vars (in_a_row n held.y.node.fields) env) (record w { seen = one.seen }) (λ env2 g. (first_word h env2 a ws x xs (s env2 (below env2 g))).others) q.2)
+        (args_come b ds ws xs (n + r.fields) (with_vars (named n held.y.node.fields) env) (record w { seen = one.seen }) (λ env2 g. (first_word h env2 a ws x xs (s env2 (below env2 g))).others) q.2)
       where
         held : Held F r x
         held = q.0
@@ -151,9 +152,9 @@ module _ (h : Program) (c' : Calls) (d' : ℕ) where
         rest : Code
         rest = fetches_for (n + r.fields) ds ws b
 
-        one : Comes env w (field_fetches a n 0 r.fields rest) rest (with_vars (in_a_row n held.y.node.fields) env)
-        one = subst (λ m. Comes env w (field_fetches a n 0 m rest) rest (with_vars (in_a_row n held.y.node.fields) env)) held.many
+        one : Comes env w (field_fetches a n 0 r.fields rest) rest (with_vars (named n held.y.node.fields) env)
+        one = subst (λ m. Comes env w (field_fetches a n 0 m rest) rest (with_vars (named n held.y.node.fields) env)) held.many
             (field_comes a held.c held.y rest held.y.node.fields n 0 env w (λ env2 g. (first_word h env2 a ws x xs (s env2 g)).first ∙ ap Some held.is) q.1 (λ j. ap (nth_or_zero held.y.node.fields) (let z : 0 + j ≡ j = omega arith in z)))
 
-        below : (env2 : Env) → Agrees (n + r.fields) (with_vars (in_a_row n held.y.node.fields) env) env2 → Agrees n env env2
-        below env2 g y lt = g y (omega (arith, lt)) ∙ row_out n held.y.node.fields env y lt
+        below : (env2 : Env) → Agrees (n + r.fields) (with_vars (named n held.y.node.fields) env) env2 → Agrees n env env2
+        below env2 g y lt = g y (omega (arith, lt)) ∙ named_below n held.y.node.fields env y lt

@@ -4,7 +4,6 @@ use Rattle.std.proofs.lemmas.Bool.Decides.{nat_tests}
 use Rattle.std.proofs.lemmas.List.{length-append}
 use Rattle.std.proofs.lemmas.Option.{slice_get_within}
 use Rattle.grin_syntax.specs.declared.program.VarId.{VarId}
-use Rattle.grin_syntax.specs.Fresh.{variables}
 use Rattle.grin_syntax.specs.Formed.{AllOf}
 use Rattle.grin_syntax.specs.Tree.{Procedure, Program}
 use Rattle.flow_system.specs.Solution.{Solution}
@@ -12,10 +11,7 @@ use Rattle.arity_raise.specs.Raisable.{Raisable}
 use Rattle.arity_raise.specs.Raising.{Raising, Decisions, fields_of, raised_params, decided, new_code, raised_procedure, raised_procs}
 use Rattle.arity_raise.specs.Decided.{AllStay, Decided, ProcedureDecided, AllDecided}
 use Rattle.arity_raise.specs.Raised.{Turns, none, stays, replaced, ProceduresRaised}
-
-count_of : (x k : ℕ) → length (variables x k) ≡ k
-count_of x zero = refl
-count_of x (suc k) = ap suc (count_of (suc x) k)
+use Rattle.grin_syntax.proofs.Counted.{length_variables}
 
 -- ---- where all stay
 
@@ -81,7 +77,7 @@ module _ (A : Solution) (g : Program) where
       let room : count + s.fields ≤ 17 = d.1 in
       let h : length (raised_params ds xs) + (count + s.fields - 1) ≤ 16 + length xs = few_of q (count + s.fields - 1) xs ds d.2 (omega (arith, le)) (omega (arith, room)) in
       let e : length (fields_of s ++ raised_params ds xs) ≡ length (fields_of s) + length (raised_params ds xs) = length-append (fields_of s) (raised_params ds xs) in
-      let f : length (fields_of s) ≡ s.fields = count_of s.first.0 s.fields in
+      let f : length (fields_of s) ≡ s.fields = length_variables s.first.0 s.fields in
       omega (arith, h, e, f, le)
 
   turns : (q : Procedure) (count : ℕ) (xs : List VarId) (ds : Decisions) → Decided A g q count xs ds → Turns A g q count xs (raised_params ds xs)
@@ -89,7 +85,7 @@ module _ (A : Solution) (g : Program) where
   turns q count [] (o ∷ ds) d = absurd d
   turns q count (x ∷ xs) [] d = absurd d
   turns q count (x ∷ xs) (None ∷ ds) d = stays d.0 (turns q count xs ds d.1)
-  turns q count (x ∷ xs) (Some s ∷ ds) d = replaced (fields_of s) d.0 d.1 (count_of s.first.0 s.fields) (turns q (count + s.fields - 1) xs ds d.2)
+  turns q count (x ∷ xs) (Some s ∷ ds) d = replaced (fields_of s) d.0 d.1 (length_variables s.first.0 s.fields) (turns q (count + s.fields - 1) xs ds d.2)
 
   few_here : (f : ℕ) (q : Procedure) (ds : Decisions) → ProcedureDecided A g f q ds → length q.params ≤ 16 → length (raised_params ds q.params) ≤ 16
   few_here f q ds d few = go (nat_eq f g.start.0) refl

@@ -4,12 +4,14 @@ use Rattle.grin_syntax.specs.declared.program.VarId.{VarId}
 use Rattle.grin_syntax.specs.declared.program.Word as W
 use Rattle.grin_syntax.specs.declared.program.Word.TheVariants.{Lit, Var, Global, TagWord}
 use Rattle.grin_syntax.specs.Tree.{Code, end, store, bind, Act, fetch_word, call, case, nested, Arms, no_arm, arm, Procedure}
-use Rattle.grin_syntax.specs.Binders.{times, numbers_of, target_vars, shape_vars, cell_vars, act_vars, code_vars, arms_vars, procs_vars}
+use Rattle.grin_syntax.specs.Binders.{numbers_of, target_vars, shape_vars, cell_vars, act_vars, code_vars, arms_vars, procs_vars}
 use Rattle.grin_syntax.specs.Fresh.{variables, past_procs}
-use Rattle.grin_syntax.proofs.Counted.{times_append, counts, fresh, fresh_below, fresh_once, fresh_next, fresh_split}
+use Rattle.grin_syntax.proofs.Counted.{fresh, fresh_below, fresh_once, fresh_next, fresh_split}
 use Rattle.grin_syntax.proofs.Unbound.{past_procs_none}
 use Rattle.arity_raise.specs.Raising.{Raising, Decisions, fields_of, raised_params, decided, fetched_of, fetched, new_of, new_for, field_fetches, fetches_for, decisions_at, new_before, fetches_before, new_act, new_code, new_arms, raised_act, raised_code, raised_arms, raised_procs}
 use Rattle.arity_raise.specs.Decided.{new_params, all_new_params}
+use Rattle.seq.specs.Lists.{times}
+use Rattle.seq.proofs.Counted.{counts, times_append}
 
 pub numbers_append : (xs ys : List VarId) → numbers_of (xs ++ ys) ≡ numbers_of xs ++ numbers_of ys
 numbers_append [] ys = refl

@@ -1,11 +1,11 @@
 -- Where a procedure begins: the parameters, and those that stand in their place, take related arguments.
 use Rattle.std.proofs.Common.{◌≡◌, ℕ, suc, ◌+◌, ◌<◌, ◌≤◌, Bool, true, false, cond, nat_eq, List, [], ◌∷◌, ◌++◌, length, Option, Some, None, refl, sym, ap, ◌∙◌, subst, arith}
-use Rattle.seq.proofs.Order.{eq_from, eq_self, eq_false}
+use Rattle.seq.proofs.Order.{eq_from, eq_self}
 use Rattle.grin_syntax.specs.declared.program.VarId.{VarId}
-use Rattle.grin_syntax.specs.Binders.{times, numbers_of}
+use Rattle.grin_syntax.specs.Binders.{numbers_of}
 use Rattle.grin_syntax.specs.Formed.{InScope}
 use Rattle.grin_syntax.specs.Fresh.{variables}
-use Rattle.grin_syntax.proofs.Counted.{counts, one_at, fresh}
+use Rattle.grin_syntax.proofs.Counted.{fresh}
 use Rattle.grin_meaning.specs.Values.{Datum, Value, words, Env, HeapCell, and_then, Binding, with_vars, one_each}
 use Rattle.arity_raise.specs.Raising.{Raising, Decisions, fields_of, raised_params, decided}
 use Rattle.arity_raise.specs.Decided.{new_params}
@@ -13,26 +13,19 @@ use Rattle.pass_ground.proofs.Tests.{never_both, times_vars}
 use Rattle.pass_ground.proofs.Bound.{names_of, vars_out, vars_in, vars_append, one_each_names}
 use Rattle.arity_raise.proofs.Facts.{fresh_in}
 use Rattle.arity_raise.proofs.Related.{EachIs, each_same, Held, ArgsFor, FieldsOf}
+use Rattle.seq.specs.Lists.{times}
+use Rattle.seq.proofs.Counted.{counts, one_at}
+use Rattle.grin_meaning.proofs.Bindings.{named, named_below}
 
 -- ---- variables in a row
 
-abbrev pub in_a_row : ℕ → List Datum → List Binding
-in_a_row k [] = []
-in_a_row k (d ∷ ds) = (k, words (d ∷ [])) ∷ in_a_row (suc k) ds
-
-pub row_out : (k : ℕ) (ds : List Datum) (env : Env) (y : ℕ) → y < k → with_vars (in_a_row k ds) env y ≡ env y
-row_out k [] env y lt = refl
-row_out k (d ∷ ds) env y lt =
-    row_out (suc k) ds (λ z. cond (nat_eq z k) (Some (words (d ∷ []))) (env z)) y (omega arith)
-    ∙ ap (λ b. cond b (Some (words (d ∷ []))) (env y)) (eq_false y k (λ q. (let no : ⊥ = omega arith in no)))
-
-pub row_each : (k : ℕ) (ds : List Datum) (env : Env) → EachIs (with_vars (in_a_row k ds) env) k ds
+pub row_each : (k : ℕ) (ds : List Datum) (env : Env) → EachIs (with_vars (named k ds) env) k ds
 row_each k [] env = tt
 row_each k (d ∷ ds) env =
     let env1 : Env = λ z. cond (nat_eq z k) (Some (words (d ∷ []))) (env z) in
-    (row_out (suc k) ds env1 k (omega arith) ∙ ap (λ b. cond b (Some (words (d ∷ []))) (env k)) (eq_self k), row_each (suc k) ds env1)
+    (named_below (suc k) ds env1 k (omega arith) ∙ ap (λ b. cond b (Some (words (d ∷ []))) (env k)) (eq_self k), row_each (suc k) ds env1)
 
-row_more : (k : ℕ) (ds rest : List Datum) (ys : List VarId) (cs : List Binding) → one_each ys rest ≡ Some cs → one_each (variables k (length ds) ++ ys) (ds ++ rest) ≡ Some (in_a_row k ds ++ cs)
+row_more : (k : ℕ) (ds rest : List Datum) (ys : List VarId) (cs : List Binding) → one_each ys rest ≡ Some cs → one_each (variables k (length ds) ++ ys) (ds ++ rest) ≡ Some (named k ds ++ cs)
 row_more k [] rest ys cs e = e
 row_more k (d ∷ ds) rest ys cs e = ap (λ o. and_then o (λ bs. Some ((k, words (d ∷ [])) ∷ bs))) (row_more (suc k) ds rest ys cs e)
 
@@ -152,7 +145,7 @@ module _ (F : List HeapCell) where
       fs = held.y.node.fields
 
       row : List Binding
-      row = in_a_row r.first.0 fs
+      row = named r.first.0 fs
 
       not_later : times x.0 (names_of cs) ≡ 0
       not_later =

@@ -8,10 +8,11 @@ use Rattle.grin_syntax.specs.declared.program.Target.TheVariants as to
 use Rattle.grin_syntax.specs.Binders.{numbers_of, shape_vars}
 use Rattle.grin_syntax.specs.Formed.{AllOf, InScope}
 use Rattle.grin_syntax.specs.Tree.{Program}
-use Rattle.grin_syntax.proofs.Counted.{counts, none_at, one_at, fresh}
+use Rattle.grin_syntax.proofs.Counted.{fresh}
 use Rattle.grin_meaning.specs.Values.{Datum, number, tag, cell, Node, Value, Binding, one_each, fits, fits_not, fits_if, fields_fit, node_fit, number_fit, int_fit, fit_of, as_node}
 use Rattle.numbers.specs.Numbers.{same_number}
 use Rattle.pass_ground.proofs.Bound.{names_of, one_each_names}
+use Rattle.seq.proofs.Counted.{counts, one_at}
 
 -- where it holds of each number that stands in the list
 pub all_in : (P : ℕ → Type 0) (xs : List ℕ) → ((y : ℕ) → InScope xs y → P y) → AllOf P xs
@@ -35,13 +36,6 @@ fresh_in x y (suc k) le lt = go (nat_eq x y) refl (fresh_in x (suc y) k)
         let ne : x ≢ y = differs_from x y e in
         let r : 1 ≤ fresh x (suc y) k = f (omega (arith, ne, le)) (omega (arith, lt)) in
         omega (arith, r)
-
-pub fresh_past : (x y k : ℕ) → y + k ≤ x → fresh x y k ≡ 0
-fresh_past x y zero h = refl
-fresh_past x y (suc k) h =
-    let e : counts (nat_eq x y) ≡ 0 = none_at x y (omega arith) in
-    let r : fresh x (suc y) k ≡ 0 = fresh_past x (suc y) k (omega arith) in
-    omega arith
 
 -- what a pattern binds is as P says of its variables
 pub fit_names : (P : ℕ → Type 0) (g : Program) (s : Shape) (v : Value) (bs : List Binding) → AllOf P (shape_vars s) → fit_of g s v ≡ fits bs → AllOf P (names_of bs)

@@ -21,6 +21,8 @@ use Rattle.flow_system.proofs.Lying.{from_some, place_lies}
 use Rattle.arity_raise.specs.UpdatedCells.{act_updated, code_updated, arms_updated, updated_of}
 use Rattle.arity_raise.specs.Raisable.{NeverUpdated}
 use Rattle.pass_ground.proofs.Tests.{all_front, all_back}
+use Rattle.flow_system.proofs.Covered.{site_is}
+use Rattle.grin_meaning.proofs.Fullness.{every_and}
 
 -- ---- places in heaps
 
@@ -35,16 +37,6 @@ set_elsewhere (x ∷ c) zero zero new y n e = absurd (n refl)
 set_elsewhere (x ∷ c) zero (suc a) new y n e = e
 set_elsewhere (x ∷ c) (suc i) zero new y n e = e
 set_elsewhere (x ∷ c) (suc i) (suc a) new y n e = set_elsewhere c i a new y (λ q. n (ap suc q)) e
-
-pub site_is : (c : List HeapCell) (i s : ℕ) (y : HeapCell) → site_at c i ≡ Some s → slice_get c i ≡ Some y → s ≡ y.site
-site_is c i s y e q =
-    let f : site_at c i ≡ Some y.site = ap (λ o. and_then o (λ k. Some k.site)) q in
-    let h : Some s ≡ Some y.site = sym e ∙ f in
-    cc
-
-every_more : (P : State → Type 0) (ss : List State) (s : State) → Every P ss → P s → Every P (ss ++ s ∷ [])
-every_more P [] s e y = (y, tt)
-every_more P (x ∷ ss) s e y = (e.0, every_more P ss s e.1 y)
 
 pub every_both : (P Q : State → Type 0) (ss : List State) → Every P ss → Every Q ss → Every (λ s. P s × Q s) ss
 every_both P Q [] h k = tt
@@ -150,7 +142,7 @@ module _ (g : Program) (A : Solution) where
     entering : (env : Env) (d : ℕ) (b : Code) (w : World) → (Lies g A (state env w) → Moves (passing env w) (code_by g c looks env d b (passing env w))) → Moves w (code_by g c looks env d b (passing env w))
     entering env d b w f = λ all good.
         let at : Lies g A (state env w) = every_last (Lies g A) w.seen _ (code_by_back (Lies g A) g c cb looks env d b (passing env w) all) in
-        let x : Moved (passing env w) (world_of (code_by g c looks env d b (passing env w))) = f at all (every_more (λ s. Later s.heap w.cells) w.seen (state env w) good (later_self w.cells)) in
+        let x : Moved (passing env w) (world_of (code_by g c looks env d b (passing env w))) = f at all (every_and (λ s. Later s.heap w.cells) w.seen (state env w) good (later_self w.cells)) in
         record { cells = x.cells; seen = x.seen }
 
     put_moves : (env : Env) (w : World) → Lies g A (state env w) → (a : Word) → Apart (a ∷ []) → (i : ℕ) (y : HeapCell) (n : Node) → and_then (word_of g env a) place_of ≡ Some i → slice_get w.cells i ≡ Some y

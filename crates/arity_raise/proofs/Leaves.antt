@@ -23,7 +23,7 @@ use Rattle.grin_meaning.proofs.Back.{CallsBack}
 use Rattle.grin_meaning.proofs.Beside.{Beside, beside, gives_too, no_deeper, Sim, need_first}
 use Rattle.grin_meaning.proofs.Procedures.{side_by_side}
 use Rattle.grin_meaning.proofs.Rules.{Relation, Plan, Here, Setting, CallsFollow, ActFollows, CodeFollows, ArmsFollow, FitsToo, CellToo, unit_follows, fetch_word_follows, update_follows, prim_follows, read_follows, write_follows, fail_follows, store_follows, case_follows, no_arm_follows, arm_follows}
-use Rattle.grin_meaning.proofs.Plain.{then_has, word_has, value_has, node_has, cells_have, fills_too, node_fills, all_fill_too, On}
+use Rattle.grin_meaning.proofs.Plain.{then_has, word_has, value_has, node_has, cells_have, fills_too, node_fills, all_fill_too, On, same_is}
 use Rattle.flow_system.specs.declared.fact.Element.TheVariants.{Cell as cell_of}
 use Rattle.flow_system.specs.declared.fact.Place.TheVariants.{Var as var}
 use Rattle.flow_system.specs.declared.fact.Part.TheVariants.{Word as word}
@@ -34,12 +34,10 @@ use Rattle.arity_raise.specs.Raising.{Raising, Decisions, word_at, fetched_of, f
 use Rattle.arity_raise.specs.Raisable.{Raisable}
 use Rattle.pass_ground.proofs.Bound.{places_names}
 use Rattle.arity_raise.proofs.Facts.{fit_names}
-use Rattle.arity_raise.proofs.Frozen.{site_is, Later}
+use Rattle.arity_raise.proofs.Frozen.{Later}
 use Rattle.arity_raise.proofs.Related.{EachIs, Held, ArgsFor, FieldsOf, NewOnes, Plain, Related, related_bind}
 use Rattle.arity_raise.proofs.Piece.{Stays}
-
-same_is : {X : Type 0} {a b : X} → Same a b → b ≡ a
-same_is same = refl
+use Rattle.flow_system.proofs.Covered.{site_is}
 
 is_same : {X : Type 0} {a b : X} → b ≡ a → Same a b
 is_same {a = a} e = subst (Same a) (sym e) same

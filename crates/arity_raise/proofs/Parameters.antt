@@ -2,19 +2,21 @@
 use Rattle.std.proofs.Common.{◌≡◌, ℕ, zero, suc, ◌+◌, ◌-◌, ◌<◌, ◌≤◌, Bool, true, false, cond, nat_eq, List, [], ◌∷◌, ◌++◌, length, Some, None, slice_get, refl, sym, ap, ◌∙◌, subst, arith}
 use Rattle.seq.proofs.Order.{eq_from, eq_self, differs_from}
 use Rattle.grin_syntax.specs.declared.program.VarId.{VarId}
-use Rattle.grin_syntax.specs.Binders.{times, numbers_of}
+use Rattle.grin_syntax.specs.Binders.{numbers_of}
 use Rattle.grin_syntax.specs.Fresh.{past_procs}
 use Rattle.grin_syntax.specs.Tree.{Procedure, Program}
-use Rattle.grin_syntax.proofs.Counted.{counts, fresh, fresh_below, fresh_once}
+use Rattle.grin_syntax.proofs.Counted.{fresh, fresh_below, fresh_once, fresh_past}
 use Rattle.grin_meaning.specs.Values.{Datum, HeapCell}
 use Rattle.flow_system.specs.Solution.{Solution}
 use Rattle.arity_raise.specs.Raising.{Raising, Decisions, fields_of, decided}
 use Rattle.arity_raise.specs.Raisable.{Raisable}
 use Rattle.arity_raise.specs.Decided.{AllStay, Decided, ProcedureDecided, AllDecided, new_params, all_new_params, Numbered}
 use Rattle.pass_ground.proofs.Tests.{times_vars}
-use Rattle.arity_raise.proofs.Facts.{fresh_in, fresh_past}
+use Rattle.arity_raise.proofs.Facts.{fresh_in}
 use Rattle.arity_raise.proofs.Related.{ArgsFor, NewOnes}
 use Rattle.arity_raise.proofs.Arguments.{AllRaisable}
+use Rattle.seq.specs.Lists.{times}
+use Rattle.seq.proofs.Counted.{counts}
 
 -- ---- the start takes what it took
 

@@ -96,10 +96,6 @@ module _ (D : List Decisions) where
         let e : y ≡ x + (0 + new_arms D (all_arms (map arm_of alts) no_arm)) = let h = u.room no_arm in omega arith in
         e ∙ ap (λ r. x + (0 + new_arms D r)) (all_arms_none (map arm_of alts)) ∙ ap (λ o. x + (new_before D o + new_act D o)) (sym (act_of-Case v alts))
 
-pub map_same : {X : Type 0} (xs : List X) → map (λ x. x) xs ≡ xs
-map_same [] = refl
-map_same (x ∷ xs) = ap (λ l. x ∷ l) (map_same xs)
-
 -- ---- procedures
 
 -- procedures that were made of others, so many, with new variables from x to y

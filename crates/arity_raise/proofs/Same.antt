@@ -2,10 +2,9 @@
 use Rattle.std.proofs.Common.{◌≡◌, ℕ, zero, suc, ◌+◌, ◌<◌, ◌≤◌, true, List, [], ◌∷◌, ◌++◌, Option, Some, None, slice_get, refl, sym, ap, ◌∙◌, subst, arith}
 use Rattle.grin_syntax.specs.declared.program.VarId.{VarId}
 use Rattle.grin_syntax.specs.Tree.{Procedure, Program}
-use Rattle.grin_syntax.specs.Binders.{times, numbers_of, code_vars, procs_vars}
+use Rattle.grin_syntax.specs.Binders.{numbers_of, code_vars, procs_vars}
 use Rattle.grin_syntax.specs.Formed.{InScope}
 use Rattle.grin_syntax.specs.Fresh.{past_vars, past_code, past_procs}
-use Rattle.grin_syntax.proofs.Counted.{times_append}
 use Rattle.grin_syntax.proofs.Unbound.{past_vars_none, past_code_none}
 use Rattle.grin_meaning.specs.Values.{Datum, Value, HeapCell, Binding, with_vars, one_each}
 use Rattle.grin_meaning.specs.Run.{Calls, start_words}
@@ -17,7 +16,7 @@ use Rattle.grin_meaning.specs.Follows.{Same, same, Every}
 use Rattle.grin_meaning.proofs.Back.{CallsBack}
 use Rattle.grin_meaning.proofs.Beside.{no_deeper, Likewise, Seen}
 use Rattle.grin_meaning.proofs.Rules.{CallsFollow}
-use Rattle.grin_meaning.proofs.Procedures.{nothing, BodyFollows, BodiesFollow, no_more, one_more, run_follows}
+use Rattle.grin_meaning.proofs.Procedures.{BodyFollows, BodiesFollow, no_more, one_more, run_follows}
 use Rattle.grin_meaning.proofs.KeptBy.{likewise_kept, looking_kept}
 use Rattle.grin_meaning.proofs.Looked.{looking_law}
 use Rattle.grin_meaning.proofs.LooksBack.{look_agrees}
@@ -42,17 +41,12 @@ use Rattle.arity_raise.proofs.Arguments.{AllRaisable}
 use Rattle.arity_raise.proofs.Leaves.{plan, it}
 use Rattle.arity_raise.proofs.Bodies.{Known, body_like}
 use Rattle.arity_raise.proofs.Parameters.{stays_for, none_decided, past_top, new_ones, params_once, all_raisable, raisable_at, DecidedAt, decided_at}
+use Rattle.seq.specs.Lists.{times}
+use Rattle.seq.proofs.Counted.{times_append}
+use Rattle.grin_meaning.proofs.Scopes.{scope_below}
+use Rattle.grin_meaning.proofs.Paired.{nothing}
 
--- what a piece binds is below the first variable that is past it
-below : (p : ℕ) (xs : List ℕ) → ((y : ℕ) → p ≤ y → times y xs ≡ 0) → (y : ℕ) → InScope xs y → y < p
-below p xs f y i = go (times y xs) refl (f y)
-  where
-    go : (m : ℕ) → times y xs ≡ m → (p ≤ y → times y xs ≡ 0) → y < p
-    go zero q k = absurd (omega (arith, q, i))
-    go (suc m) q k = less (λ l. omega (arith, q, k l))
-      where
-        less : (p ≤ y → ⊥) → y < p
-        less n = omega (arith, n)
+-- what a piece binds is scope_below the first variable that is past it
 
 -- ---- where a procedure begins
 
@@ -117,7 +111,7 @@ module _ (g : Program) (A : Solution) (D : List Decisions) (n : ℕ) (of : OfVec
       V = Same;
       enters = λ cells xs xs' bs a e lies. entry_related F first ds q.params xs xs' bs
           (params_once g D n dec.numbered f ds q.params at (λ y. (let o : times y (numbers_of q.params) + times y (code_vars q.body) ≤ 1 = once y in omega (arith, o))) out)
-          (below first (numbers_of q.params) out) (subst (λ l. ArgsFor F l xs xs') (ap or_none at) a) e;
+          (scope_below first (numbers_of q.params) out) (subst (λ l. ArgsFor F l xs xs') (ap or_none at) a) e;
       body = body_like g A D n F known (past_top g D n dec.numbered) c c' cb cf q (decided ds q.params) (new_ones g D n dec.numbered f ds q.params at) (λ y r e. raisable_at g A q y r q.params ds ra e) (into_result f) m q.body le (record {
         free = λ y r e. (let R : Raisable A g q y r.tag.0 r.fields = raisable_at g A q y r q.params ds ra e in R.only_fetched);
         plain = all_in (Plain first (decided ds q.params)) (code_vars q.body) (λ y i. (low y i, none_decided y ds q.params (let o : times y (numbers_of q.params) + times y (code_vars q.body) ≤ 1 = once y in omega (arith, o, i))));
@@ -132,7 +126,7 @@ module _ (g : Program) (A : Solution) (D : List Decisions) (n : ℕ) (of : OfVec
         out y h = past_vars_none y q.params (omega (arith, h, pq))
 
         low : (y : ℕ) → InScope (code_vars q.body) y → y < first
-        low y i = let l : y < past_code q.body = below (past_code q.body) (code_vars q.body) (λ y h. past_code_none y q.body h) y i in omega (arith, l, pb)
+        low y i = let l : y < past_code q.body = scope_below (past_code q.body) (code_vars q.body) (λ y h. past_code_none y q.body h) y i in omega (arith, l, pb)
 
     bodies_follow : (f m : ℕ) (qs : List Procedure) (dss : List Decisions) → n ≤ m → Rest f qs dss → BodiesFollow (it g A D n F c c' cb cf) f qs (raised_procs D m dss qs)
     bodies_follow f m [] [] le h = no_more

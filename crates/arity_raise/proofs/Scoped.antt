@@ -13,23 +13,19 @@ use Rattle.grin_syntax.specs.declared.program.Val.TheVariants.{NodeVar, Node, Ve
 use Rattle.grin_syntax.specs.declared.program.Target as T
 use Rattle.grin_syntax.specs.declared.program.Target.TheVariants as to
 use Rattle.grin_syntax.specs.Tree.{Code, end, store, bind, Act, unit, fetch, fetch_word, update, eval, apply, call, prim, read, write, case, nested, fail, Arms, no_arm, arm, Procedure, Program}
-use Rattle.grin_syntax.specs.Binders.{times, numbers_of, shape_vars, cell_vars}
+use Rattle.grin_syntax.specs.Binders.{numbers_of, shape_vars, cell_vars}
 use Rattle.grin_syntax.specs.Formed.{AllOf, Scope, InScope, with_words, with_target, params_scope, TagKnown, WordFormed, ValFormed, CellFormed, ActFormed, CodeFormed, ArmsFormed}
 use Rattle.grin_syntax.specs.Fresh.{variable, variables}
-use Rattle.grin_syntax.proofs.Counted.{times_append, counts, one_at}
 use Rattle.grin_syntax.proofs.Scopes.{Within, within_self, within_chain, within_words, still_in, with_procs, known_again, word_stays, words_stay, shape_stays}
 use Rattle.grin_meaning.specs.Ready.{EachAct, EachCode, EachArms, by_words_kind}
 use Rattle.pass_ground.specs.Uses.{word_is, words_use, val_uses, cells_use, act_takes, code_takes, arms_take, act_mentions}
 use Rattle.arity_raise.specs.Raising.{Raising, Decisions, raised_param, raised_params, decided, word_at, fetched_of, fetched, new_of, field_fetches, fetches_for, argument_for, arguments_for, decisions_at, new_before, fetches_before, new_act, new_code, raised_act, raised_code, raised_arms}
 use Rattle.arity_raise.proofs.Counts.{numbers_append}
+use Rattle.seq.specs.Lists.{times}
+use Rattle.seq.proofs.Counted.{counts, times_append, one_at}
+use Rattle.grin_meaning.proofs.Scopes.{scope_left, scope_right}
 
 -- ---- small facts
-
-in_left : (xs ys : List ℕ) (y : ℕ) → InScope xs y → InScope (xs ++ ys) y
-in_left xs ys y i = let e : times y (xs ++ ys) ≡ times y xs + times y ys = times_append y xs ys in omega (arith, e, i)
-
-in_right : (xs ys : List ℕ) (y : ℕ) → InScope ys y → InScope (xs ++ ys) y
-in_right xs ys y i = let e : times y (xs ++ ys) ≡ times y xs + times y ys = times_append y xs ys in omega (arith, e, i)
 
 -- by what is decided of each variable
 module _ (N : ℕ → Option Raising) where
@@ -53,12 +49,12 @@ module _ (N : ℕ → Option Raising) where
   fits_words xs s s' f = record {
     nodes = f.nodes;
     stays = λ y e i. go y e i (times y xs) refl;
-    fields = λ y r i e lt. in_right xs s'.words (r.first.0 + i) (f.fields y r i e lt);
+    fields = λ y r i e lt. scope_right xs s'.words (r.first.0 + i) (f.fields y r i e lt);
   }
     where
       go : (y : ℕ) → N y ≡ None → InScope (xs ++ s.words) y → (m : ℕ) → times y xs ≡ m → InScope (xs ++ s'.words) y
-      go y e i zero q = in_right xs s'.words y (f.stays y e (let t : times y (xs ++ s.words) ≡ times y xs + times y s.words = times_append y xs s.words in omega (arith, t, i, q)))
-      go y e i (suc m) q = in_left xs s'.words y (omega (arith, q))
+      go y e i zero q = scope_right xs s'.words y (f.stays y e (let t : times y (xs ++ s.words) ≡ times y xs + times y s.words = times_append y xs s.words in omega (arith, t, i, q)))
+      go y e i (suc m) q = scope_left xs s'.words y (omega (arith, q))
 
   fits_node : (x : ℕ) (s s' : Scope) → Fits s s' → Fits (record { nodes = x ∷ s.nodes; words = s.words }) (record { nodes = x ∷ s'.nodes; words = s'.words })
   fits_node x s s' f = record { nodes = λ y i. go y i (counts (nat_eq y x)) refl; stays = f.stays; fields = f.fields }
@@ -92,7 +88,7 @@ params_stay_in (d ∷ ds) (x ∷ xs) y e i = go (nat_eq x.0 y) refl e (λ h j. p
     first (Some r) q h = cc
 
     later : (o : Option Raising) → InScope (numbers_of (raised_params ds xs)) y → InScope (numbers_of (raised_param o x ++ raised_params ds xs)) y
-    later o h = subst (λ l. InScope l y) (sym (numbers_append (raised_param o x) (raised_params ds xs))) (in_right (numbers_of (raised_param o x)) (numbers_of (raised_params ds xs)) y h)
+    later o h = subst (λ l. InScope l y) (sym (numbers_append (raised_param o x) (raised_params ds xs))) (scope_right (numbers_of (raised_param o x)) (numbers_of (raised_params ds xs)) y h)
 
     go : (b : Bool) → nat_eq x.0 y ≡ b → cond b d (decided ds xs y) ≡ None → (decided ds xs y ≡ None → InScope (numbers_of xs) y → InScope (numbers_of (raised_params ds xs)) y)
         → InScope (numbers_of (raised_param d x ++ raised_params ds xs)) y
@@ -104,7 +100,7 @@ variables_in x zero i lt = absurd (omega (arith, lt))
 variables_in x (suc k) zero lt = let e : counts (nat_eq (x + 0) x) ≡ 1 = subst (λ z. counts (nat_eq z x) ≡ 1) (let f : x ≡ x + 0 = omega arith in f) (one_at x) in omega (arith, e)
 variables_in x (suc k) (suc i) lt =
     let h : InScope (numbers_of (variables (suc x) k)) (suc x + i) = variables_in (suc x) k i (omega (arith, lt)) in
-    subst (InScope (numbers_of (variables x (suc k)))) (let f : suc x + i ≡ x + suc i = omega arith in f) (in_right (x ∷ []) (numbers_of (variables (suc x) k)) (suc x + i) h)
+    subst (InScope (numbers_of (variables x (suc k)))) (let f : suc x + i ≡ x + suc i = omega arith in f) (scope_right (x ∷ []) (numbers_of (variables (suc x) k)) (suc x + i) h)
 
 params_fields_in : (ds : Decisions) (xs : List VarId) (y : ℕ) (r : Raising) (i : ℕ) → decided ds xs y ≡ Some r → i < r.fields → InScope (numbers_of (raised_params ds xs)) (r.first.0 + i)
 params_fields_in [] xs y r i e lt = cc
@@ -114,10 +110,10 @@ params_fields_in (d ∷ ds) (x ∷ xs) y r i e lt = go (nat_eq x.0 y) e (λ h. p
     first : (o : Option Raising) → o ≡ Some r → InScope (numbers_of (raised_param o x ++ raised_params ds xs)) (r.first.0 + i)
     first o h = subst (λ o. InScope (numbers_of (raised_param o x ++ raised_params ds xs)) (r.first.0 + i)) (sym h)
         (subst (λ l. InScope l (r.first.0 + i)) (sym (numbers_append (raised_param (Some r) x) (raised_params ds xs)))
-        (in_left (numbers_of (raised_param (Some r) x)) (numbers_of (raised_params ds xs)) (r.first.0 + i) (variables_in r.first.0 r.fields i lt)))
+        (scope_left (numbers_of (raised_param (Some r) x)) (numbers_of (raised_params ds xs)) (r.first.0 + i) (variables_in r.first.0 r.fields i lt)))
 
     later : (o : Option Raising) → InScope (numbers_of (raised_params ds xs)) (r.first.0 + i) → InScope (numbers_of (raised_param o x ++ raised_params ds xs)) (r.first.0 + i)
-    later o h = subst (λ l. InScope l (r.first.0 + i)) (sym (numbers_append (raised_param o x) (raised_params ds xs))) (in_right (numbers_of (raised_param o x)) (numbers_of (raised_params ds xs)) (r.first.0 + i) h)
+    later o h = subst (λ l. InScope l (r.first.0 + i)) (sym (numbers_append (raised_param o x) (raised_params ds xs))) (scope_right (numbers_of (raised_param o x)) (numbers_of (raised_params ds xs)) (r.first.0 + i) h)
 
     go : (b : Bool) → cond b d (decided ds xs y) ≡ Some r → (decided ds xs y ≡ Some r → InScope (numbers_of (raised_params ds xs)) (r.first.0 + i)) → InScope (numbers_of (raised_param d x ++ raised_params ds xs)) (r.first.0 + i)
     go true h f = first d h

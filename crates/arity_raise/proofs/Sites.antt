@@ -37,6 +37,7 @@ use Rattle.seq.proofs.Lists.{take_next, map_push}
 use Rattle.arity_raise.specs.UpdatedCells.{act_updated, code_updated, arms_updated, updated_of}
 use Rattle.arity_raise.specs.Raisable.{NeverUpdated}
 use Rattle.arity_raise.specs.Fixed.{SitesJoin, UpdatedSites}
+use Rattle.flow_system.proofs.Numbered.{nat_equal}
 
 -- ---- words that pieces update, from those that were there
 
@@ -92,9 +93,6 @@ proc_words_next ps i p old new lt e n o =
 
 nat_self : (n : ℕ) → is_eq (nat_cmp n n) ≡ true
 nat_self n = grind (arith, nat_tests)
-
-nat_equal : (m n : ℕ) → nat_cmp m n ≡ Equal → m ≡ n
-nat_equal m n e = grind (arith, nat_tests)
 
 any_in : (n : ℕ) (ks : List ℕ) → list_any (is_at (nat_cmp n)) ks ≡ true → In n ks
 any_in n [] e = cc

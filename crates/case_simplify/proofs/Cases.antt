@@ -1,13 +1,13 @@
 -- What a case becomes has what its alternatives have.
 use Rattle.std.proofs.Common.{◌≡◌, Bool, true, false, cond, Option, Some, None, refl, subst}
+use Rattle.seq.proofs.Lists.{none_is_some, some_is}
 use Rattle.grin_syntax.specs.declared.program.TagId.{TagId}
 use Rattle.grin_syntax.specs.declared.program.Shape.{Shape}
 use Rattle.grin_syntax.specs.declared.program.Val.{Val}
-use Rattle.grin_syntax.specs.Tree.{Code, end, Act, case, fail, Arms, no_arm, arm}
+use Rattle.grin_syntax.specs.Tree.{Code, end, Act, case, fail, Arms, no_arm, arm, as_act}
 use Rattle.case_simplify.specs.Known.{Known, Tag, Number, Facts, told_first, told_second}
 use Rattle.case_simplify.specs.Choice.{Verdict, Takes, Passes, Open, verdict, by_verdict, taken, taken_by}
-use Rattle.case_simplify.specs.Simple.{as_act, gives_back, first_act, block_or_case, simple_case}
-use Rattle.case_simplify.proofs.Held.{some_is, none_is_some}
+use Rattle.case_simplify.specs.Simple.{gives_back, first_act, block_or_case, simple_case}
 
 module _ (HasAct : Act → Type 0) (HasCode : Code → Type 0) (HasArms : Arms → Type 0)
     (as_block : (b : Code) → HasCode b → HasAct (as_act b)) (failing : HasCode (end fail)) (split : (s : Shape) (b : Code) (as' : Arms) → HasArms (arm s b as') → HasCode b × HasArms as') where

@@ -1,6 +1,7 @@
 -- What is known holds in the runs: the variables hold it, and a case on a known tag takes the alternative that is chosen.
-use Rattle.std.proofs.Common.{◌≡◌, ℕ, zero, suc, ℤ, pos, negsuc, Bool, true, false, cond, nat_eq, nat_le, List, [], ◌∷◌, map, take, length, Option, Some, None, slice_get, refl, sym, ap, ◌∙◌, subst, arith}
+use Rattle.std.proofs.Common.{◌≡◌, ℕ, zero, suc, ℤ, pos, negsuc, Bool, true, false, cond, nat_eq, nat_le, List, [], ◌∷◌, take, length, Option, Some, None, slice_get, refl, sym, ap, ◌∙◌, subst, arith}
 use Rattle.std.proofs.lemmas.Bool.Decides.{nat_tests}
+use Rattle.seq.proofs.Lists.{none_is_some, some_is}
 use Rattle.seq.proofs.Truth.{true_not_false}
 use Rattle.seq.proofs.Order.{eq_self}
 use Rattle.grin_syntax.specs.declared.program.VarId.{VarId}
@@ -16,18 +17,15 @@ use Rattle.grin_syntax.specs.declared.program.Val as V
 use Rattle.grin_syntax.specs.declared.program.Val.TheVariants.{NodeVar, Node as NodeVal, Vector, One}
 use Rattle.grin_syntax.specs.Tags.{tag_id}
 use Rattle.grin_syntax.specs.Tree.{Program}
-use Rattle.grin_syntax.specs.Binders.{times, numbers_of, target_vars, shape_vars, cell_vars}
+use Rattle.grin_syntax.specs.Binders.{numbers_of, target_vars, shape_vars, cell_vars}
 use Rattle.grin_meaning.specs.Values.{Datum, number, tag, cell, Node, Value, node, words, Env, and_then, Binding, with_vars, one_each, only_word, fits, fits_not, unclear, node_fit, number_fit, int_fit, fields_of, made_node, as_node, word_of, words_of, value_of, bindings_of, fit_of}
 use Rattle.grin_meaning.specs.Run.{places}
 use Rattle.numbers.specs.Numbers.{same_number}
 use Rattle.case_simplify.specs.Known.{Known, Tag, Number, Facts, note, told, first_word, second_word, told_first, told_second, note_word, noted}
 use Rattle.case_simplify.specs.Choice.{Takes, Passes, Open, number_verdict, verdict}
-
-pub some_is : {A : Type 0} {a b : A} → ◌≡◌ {A = Option A} (Some a) (Some b) → a ≡ b
-some_is h = cc
-
-pub none_is_some : {A B : Type 0} {a : A} → ◌≡◌ {A = Option A} None (Some a) → B
-none_is_some h = cc
+use Rattle.seq.specs.Lists.{times}
+use Rattle.numbers.proofs.Same.{same_itself}
+use Rattle.grin_meaning.proofs.Bindings.{keys}
 
 pub some_and : {A B : Type 0} (o : Option A) (f : A → Option B) (b : B) → and_then o f ≡ Some b → (a : A) × (o ≡ Some a) × (f a ≡ Some b)
 some_and None f b e = none_is_some e
@@ -41,10 +39,6 @@ same_number_is (pos a) (negsuc b) h = true_not_false (sym h)
 same_number_is (negsuc a) (pos b) h = true_not_false (sym h)
 same_number_is (negsuc a) (negsuc b) h = let e : a ≡ b = grind (arith, nat_tests) in ap negsuc e
 
-pub same_number_refl : (a : ℤ) → same_number a a ≡ true
-same_number_refl (pos a) = eq_self a
-same_number_refl (negsuc a) = eq_self a
-
 tag_is : {s t : ℕ} → tag s ≡ tag t → s ≡ t
 tag_is h = cc
 
@@ -52,9 +46,6 @@ number_is : {i j : ℤ} → number i ≡ number j → i ≡ j
 number_is h = cc
 
 -- ---- what variables are bound to
-
-abbrev pub keys : List Binding → List ℕ
-keys bs = map (λ b. b.0) bs
 
 pub vars_other : (bs : List Binding) (env : Env) (y : ℕ) → times y (keys bs) ≡ 0 → with_vars bs env y ≡ env y
 vars_other [] env y h = refl
@@ -369,7 +360,7 @@ module _ (g : Program) where
           go : IntFits k y bs → (o : Option Known) → told_second facts v ≡ o → number_verdict k o ≡ Passes → ⊥
           go f None q p = open_passes p
           go f (Some (Tag u)) q p = open_passes p
-          go f (Some (Number i)) q p = takes_passes (sym (ap (λ c. cond c Takes Passes) (ap (λ j. same_number j i) (number_known f.n i k f.ds f.is q f.held) ∙ same_number_refl i)) ∙ p)
+          go f (Some (Number i)) q p = takes_passes (sym (ap (λ c. cond c Takes Passes) (ap (λ j. same_number j i) (number_known f.n i k f.ds f.is q f.held) ∙ same_itself i)) ∙ p)
       passes_by shape.Else bs b p e = takes_passes p
 
       -- what takes never fails to fit

@@ -1,7 +1,7 @@
 -- What the loops keep.
 use Rattle.std.proofs.Common.{◌≡◌, ℕ, zero, suc, ◌+◌, ◌<◌, ◌≤◌, Bool, true, false, cond, ◌&&◌, nat_eq, nat_lt, List, [], ◌∷◌, ◌++◌, map, take, drop, length, get_or, Option, Some, None, slice_get, refl, sym, ap, ◌∙◌, subst, arith}
 use Rattle.std.proofs.lemmas.List.{take_more}
-use Rattle.seq.proofs.Lists.{drop_past, drop_at, get_is}
+use Rattle.seq.proofs.Lists.{drop_again, drop_past, drop_at, get_is}
 use Rattle.grin_syntax.specs.declared.program.VarId.{VarId}
 use Rattle.grin_syntax.specs.declared.program.TagId.{TagId}
 use Rattle.grin_syntax.specs.declared.program.Word as W
@@ -12,7 +12,7 @@ use Rattle.grin_syntax.specs.declared.program.Stmt.{Stmt}
 use Rattle.grin_syntax.specs.declared.program.Stmt.TheVariants.{Store, Bind}
 use Rattle.grin_syntax.specs.declared.program.Block.{Block}
 use Rattle.grin_syntax.specs.declared.program.Op.TheVariants.{Case}
-use Rattle.grin_syntax.specs.Tree.{Code, end, Act, nested, fail, Arms, arm, act_of, before_of, arm_of, code_of, all_before, arms_of}
+use Rattle.grin_syntax.specs.Tree.{Code, end, Act, nested, fail, Arms, arm, act_of, before_of, arm_of, code_of, all_before, arms_of, as_act}
 use Rattle.grin_syntax.proofs.TreeOf.{before_of-Store, before_of-Bind, arm_of-parts, code_of-parts, act_of-Case}
 use Rattle.grin_syntax.proofs.Pieces.{all_before_push}
 use Rattle.grin_meaning.specs.Checks.{is_some_and}
@@ -22,7 +22,7 @@ use Rattle.case_simplify.specs.Known.{Known, Facts, facts_of, and_facts, note, n
 use Rattle.case_simplify.specs.Choice.{Verdict, Takes, Passes, Open, verdict, by_verdict, taken}
 use Rattle.case_simplify.specs.declared.choice.Choice.TheVariants as chosen
 use Rattle.case_simplify.specs.Chosen.{body_at}
-use Rattle.case_simplify.specs.Simple.{same_word, is_front, is_front_val, value_given, gives_val, all_give, gives_back, as_act, simple_case, simple_act, simple_code, simple_arms, simple_arm}
+use Rattle.case_simplify.specs.Simple.{same_word, is_front, is_front_val, value_given, gives_val, all_give, gives_back, simple_case, simple_act, simple_code, simple_arms, simple_arm}
 
 -- ---- facts
 
@@ -54,12 +54,6 @@ drop_get [] (suc i) = refl
 drop_get (x ∷ xs) zero = refl
 drop_get (x ∷ xs) (suc i) = drop_get xs i
 
-drop_tail : {X : Type 0} (xs : List X) (i : ℕ) → drop (suc i) xs ≡ drop 1 (drop i xs)
-drop_tail [] zero = refl
-drop_tail [] (suc i) = refl
-drop_tail (x ∷ xs) zero = refl
-drop_tail (x ∷ xs) (suc i) = drop_tail xs i
-
 -- ---- fronts
 
 front_step : (a : W.Word) (as' ws : List W.Word) → is_front (a ∷ as') ws ≡ is_some_and (slice_get ws 0) (same_word a) && is_front as' (drop 1 ws)
@@ -69,7 +63,7 @@ front_step a as' (w ∷ ws) = refl
 front_at : (as' ws : List W.Word) (i : ℕ) (d : W.Word) → i < length as' → is_front (drop i as') (drop i ws) ≡ is_some_and (slice_get ws i) (same_word (get_or as' i d)) && is_front (drop (suc i) as') (drop (suc i) ws)
 front_at as' ws i d lt = let a : W.Word = get_or as' i d in
     ap (λ l. is_front l (drop i ws)) (drop_at as' i d lt) ∙ front_step a (drop (suc i) as') (drop i ws)
-    ∙ (λ j. is_some_and (sym (drop_get ws i) j) (same_word a) && is_front (drop (suc i) as') (sym (drop_tail ws i) j))
+    ∙ (λ j. is_some_and (sym (drop_get ws i) j) (same_word a) && is_front (drop (suc i) as') (drop_again ws i j))
 
 pub front_next : (as' ws : List W.Word) (i k : ℕ) (d : W.Word) (b : Bool) → i < length as' → k ≡ i → b ≡ is_some_and (slice_get ws k) (same_word (get_or as' i d)) → b ≡ true → is_front as' ws ≡ is_front (drop i as') (drop i ws) → is_front as' ws ≡ is_front (drop (i + 1) as') (drop (i + 1) ws)
 front_next as' ws i k d b lt p f t h = let a : W.Word = get_or as' i d in after (λ j. is_front as' ws ≡ is_front (drop j as') (drop j ws)) i

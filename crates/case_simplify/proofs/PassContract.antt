@@ -4,9 +4,8 @@ use Rattle.std.proofs.lemmas.List.{length-map}
 use Rattle.std.proofs.lemmas.Option.{slice_get-map}
 use Rattle.std.specs.Option.{option_map}
 use Rattle.grin_syntax.specs.Tree.{Procedure, Program}
-use Rattle.grin_syntax.specs.Binders.{times, procs_vars, procs_sites, program_sites}
+use Rattle.grin_syntax.specs.Binders.{procs_vars, procs_sites, program_sites}
 use Rattle.grin_syntax.specs.Formed.{Formed}
-use Rattle.grin_syntax.proofs.Counted.{times_append}
 use Rattle.grin_syntax.proofs.Scopes.{with_procs, formed_with}
 use Rattle.grin_meaning.specs.Ready.{Ready, IsVectorised, most_value_fields, inlined_kind, by_words_kind, vectorised_kind, narrow_kind}
 use Rattle.grin_meaning.specs.Keeps.{Keeps}
@@ -18,6 +17,8 @@ use Rattle.case_simplify.specs.Simplified.{Simplified}
 use Rattle.case_simplify.proofs.Standing.{simple_procedure, procs_vars_fewer, procs_sites_fewer, procs_each, procs_narrow, procs_params, names_stay, bodies_formed}
 use Rattle.case_simplify.proofs.Shape.{procs_simple}
 use Rattle.case_simplify.proofs.Simulated.{simplified_kept}
+use Rattle.seq.specs.Lists.{times}
+use Rattle.seq.proofs.Counted.{times_append}
 
 module _ (g : Program) (formed : Formed g) (ready : Ready g) (vectorised : IsVectorised g) where
   abbrev procs : List Procedure

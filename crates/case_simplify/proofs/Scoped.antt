@@ -1,7 +1,7 @@
 -- Something is known only of variables in scope, which no later place binds.
 use Rattle.std.proofs.Common.{◌≡◌, ℕ, ◌+◌, ◌<◌, ◌≤◌, Bool, true, false, cond, nat_eq, List, [], ◌∷◌, ◌++◌, Option, Some, None, refl, sym, subst, arith}
 use Rattle.std.proofs.lemmas.Bool.Decides.{nat_tests}
-use Rattle.seq.proofs.Lists.{all_get}
+use Rattle.seq.proofs.Lists.{all_get, none_is_some, some_is}
 use Rattle.grin_syntax.specs.declared.program.VarId.{VarId}
 use Rattle.grin_syntax.specs.declared.program.Target.{Target}
 use Rattle.grin_syntax.specs.declared.program.Target.TheVariants as to
@@ -12,15 +12,12 @@ use Rattle.grin_syntax.specs.declared.program.Word.TheVariants.{Lit, Var, Global
 use Rattle.grin_syntax.specs.declared.program.Val as V
 use Rattle.grin_syntax.specs.declared.program.Val.TheVariants.{NodeVar, Node, Vector, One}
 use Rattle.grin_syntax.specs.Tree.{Program}
-use Rattle.grin_syntax.specs.Binders.{times, numbers_of, target_vars}
+use Rattle.grin_syntax.specs.Binders.{numbers_of, target_vars}
 use Rattle.grin_syntax.specs.Formed.{Scope, InScope, with_words, with_target, WordFormed, ValFormed}
-use Rattle.grin_syntax.proofs.Counted.{times_append}
-use Rattle.case_simplify.proofs.Held.{some_is, none_is_some}
 use Rattle.case_simplify.specs.Known.{Known, Facts, note, first_word, second_word, note_word, noted}
-
--- each variable is bound at one place, of those in scope and of those that a piece binds
-abbrev pub Once : Scope → List ℕ → Type 0
-Once scope xs = (y : ℕ) → times y scope.nodes + times y scope.words + times y xs ≤ 1
+use Rattle.seq.specs.Lists.{times}
+use Rattle.grin_meaning.proofs.Scopes.{Once, target_adds}
+use Rattle.seq.proofs.Counted.{times_append}
 
 -- what is known is known of words in scope
 abbrev pub Inside : Facts → Scope → Type 0
@@ -28,24 +25,8 @@ Inside facts scope = (y : ℕ) (k : Known) → facts y ≡ Some k → InScope sc
 
 -- ---- where a piece begins, goes on, and ends
 
-pub once_first : (scope : Scope) (xs bs : List ℕ) → Once scope (xs ++ bs) → Once scope xs
-once_first scope xs bs once y = let o : times y scope.nodes + times y scope.words + times y (xs ++ bs) ≤ 1 = once y in let e : times y (xs ++ bs) ≡ times y xs + times y bs = times_append y xs bs in omega (arith, o, e)
-
 pub once_last : (scope : Scope) (xs bs : List ℕ) → Once scope (xs ++ bs) → Once scope bs
 once_last scope xs bs once y = let o : times y scope.nodes + times y scope.words + times y (xs ++ bs) ≤ 1 = once y in let e : times y (xs ++ bs) ≡ times y xs + times y bs = times_append y xs bs in omega (arith, o, e)
-
-pub once_words : (scope : Scope) (xs bs : List ℕ) → Once scope (xs ++ bs) → Once (with_words xs scope) bs
-once_words scope xs bs once y =
-    let e : times y (xs ++ bs) ≡ times y xs + times y bs = times_append y xs bs in
-    let f : times y (xs ++ scope.words) ≡ times y xs + times y scope.words = times_append y xs scope.words in
-    let o : times y scope.nodes + times y scope.words + times y (xs ++ bs) ≤ 1 = once y in
-    omega (arith, e, f, o)
-
-target_adds : (t : Target) (scope : Scope) (y : ℕ) → times y (with_target t scope).nodes + times y (with_target t scope).words ≡ times y (target_vars t) + (times y scope.nodes + times y scope.words)
-target_adds to.Nothing scope y = omega arith
-target_adds (to.Node x) scope y = omega arith
-target_adds (to.One x) scope y = omega arith
-target_adds (to.Vector xs) scope y = let e : times y (numbers_of xs ++ scope.words) ≡ times y (numbers_of xs) + times y scope.words = times_append y (numbers_of xs) scope.words in omega (arith, e)
 
 pub once_target : (t : Target) (scope : Scope) (bs : List ℕ) → Once scope (target_vars t ++ bs) → Once (with_target t scope) bs
 once_target t scope bs once y =

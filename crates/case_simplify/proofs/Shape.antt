@@ -1,6 +1,7 @@
 -- What is simplified is simple.
 use Rattle.std.proofs.Common.{◌≡◌, ℕ, ℤ, Bool, true, false, cond, ◌&&◌, nat_eq, List, [], ◌∷◌, ◌++◌, map, Option, Some, None, refl, sym, ap, ◌∙◌, subst, arith}
 use Rattle.std.proofs.lemmas.Bool.Decides.{nat_tests}
+use Rattle.seq.proofs.Lists.{none_is_some, some_is}
 use Rattle.seq.proofs.Truth.{and_from, true_not_false}
 use Rattle.seq.proofs.Order.{eq_self}
 use Rattle.grin_syntax.specs.declared.program.VarId.{VarId}
@@ -11,7 +12,7 @@ use Rattle.grin_syntax.specs.declared.program.Word as W
 use Rattle.grin_syntax.specs.declared.program.Word.TheVariants.{Lit, Var, Global, TagWord}
 use Rattle.grin_syntax.specs.declared.program.Val as V
 use Rattle.grin_syntax.specs.declared.program.Val.TheVariants.{NodeVar, Node, Vector, One}
-use Rattle.grin_syntax.specs.Tree.{Code, end, store, bind, Act, unit, fetch, fetch_word, update, eval, apply, call, prim, read, write, case, nested, fail, Arms, no_arm, arm, Procedure}
+use Rattle.grin_syntax.specs.Tree.{Code, end, store, bind, Act, unit, fetch, fetch_word, update, eval, apply, call, prim, read, write, case, nested, fail, Arms, no_arm, arm, Procedure, as_act}
 use Rattle.grin_syntax.specs.Formed.{AllOf}
 use Rattle.grin_meaning.specs.Values.{and_then}
 use Rattle.grin_meaning.specs.Checks.{is_some_and}
@@ -19,10 +20,11 @@ use Rattle.grin_meaning.specs.Rewritten.{rewritten_procedure}
 use Rattle.numbers.specs.Numbers.{same_number}
 use Rattle.case_simplify.specs.Known.{Known, Tag, Number, Facts, nothing_known, note, told, first_word, second_word, told_first, told_second, note_word, noted}
 use Rattle.case_simplify.specs.Choice.{Verdict, Takes, Passes, Open, number_verdict, verdict, by_verdict, taken, taken_by}
-use Rattle.case_simplify.specs.Simple.{same_word, is_front, same_words, same_val, is_front_val, value_given, gives_val, all_give, gives_back, as_act, first_act, unit_or_case, block_or_case, simple_case, simple_act, simple_code, simple_arms}
+use Rattle.case_simplify.specs.Simple.{same_word, is_front, same_words, same_val, is_front_val, value_given, gives_val, all_give, gives_back, first_act, unit_or_case, block_or_case, simple_case, simple_act, simple_code, simple_arms}
 use Rattle.case_simplify.specs.Simplified.{OpenAt, IsOpen, OpenIfKnown, FrontOf, EachGives, IsIdentity, SimpleAct, SimpleCode, SimpleArms}
-use Rattle.case_simplify.proofs.Held.{some_is, none_is_some, same_number_is, same_number_refl}
+use Rattle.case_simplify.proofs.Held.{same_number_is}
 use Rattle.case_simplify.proofs.Steps.{value_given_is, some_true}
+use Rattle.numbers.proofs.Same.{same_itself}
 
 -- ---- the alternative that is taken tells nothing new
 
@@ -73,7 +75,7 @@ noted_same facts v t shape.Else known e = refl
 -- ---- what gives back its value is found
 
 same_word_refl : (a : W.Word) → same_word a a ≡ true
-same_word_refl (Lit k) = same_number_refl k
+same_word_refl (Lit k) = same_itself k
 same_word_refl (Var x) = eq_self x.0
 same_word_refl (Global i) = eq_self i
 same_word_refl (TagWord t) = eq_self t.0

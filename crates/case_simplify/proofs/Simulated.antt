@@ -1,14 +1,14 @@
 -- A simplified program does what the program does, with no deeper nesting.
 use Rattle.std.proofs.Common.{◌≡◌, ℕ, suc, ◌+◌, ◌≤◌, Bool, true, false, cond, not, ◌&&◌, List, [], ◌∷◌, ◌++◌, map, length, Some, refl, sym, ap, ◌∙◌, subst, arith}
+use Rattle.seq.proofs.Lists.{none_is_some}
 use Rattle.seq.proofs.Truth.{and_from, and_left}
 use Rattle.grin_syntax.specs.declared.program.Cell.{Cell}
 use Rattle.grin_syntax.specs.declared.program.Target.{Target}
 use Rattle.grin_syntax.specs.declared.program.Target.TheVariants as to
 use Rattle.grin_syntax.specs.declared.program.Val.{Val}
 use Rattle.grin_syntax.specs.Tree.{Code, end, store, bind, Act, unit, fetch, fetch_word, update, eval, apply, call, prim, read, write, case, nested, fail, Arms, no_arm, arm, Procedure, Program}
-use Rattle.grin_syntax.specs.Binders.{times, numbers_of, target_vars, shape_vars, cell_vars, act_vars, code_vars, arms_vars, procs_vars}
+use Rattle.grin_syntax.specs.Binders.{numbers_of, target_vars, shape_vars, cell_vars, act_vars, code_vars, arms_vars, procs_vars}
 use Rattle.grin_syntax.specs.Formed.{AllOf, Scope, with_words, with_target, params_scope, ValFormed, ActFormed, CodeFormed, ArmsFormed, ProcedureFormed, Formed}
-use Rattle.grin_syntax.proofs.Counted.{times_append}
 use Rattle.grin_meaning.specs.Values.{Datum, Value, Env, HeapCell, Binding, with_vars, one_each, bindings_of}
 use Rattle.grin_meaning.specs.Run.{Calls, places, cells_of}
 use Rattle.grin_meaning.specs.Checks.{has_block, is_fetch, is_node_target, not_delayed, is_given, all_fill, is_bound_well}
@@ -21,21 +21,21 @@ use Rattle.grin_meaning.proofs.Names.{Any, any_act, any_cells}
 use Rattle.grin_meaning.proofs.Back.{CallsBack}
 use Rattle.grin_meaning.proofs.Beside.{no_deeper, Beside, Likewise, Seen}
 use Rattle.grin_meaning.proofs.Rules.{Here, Setting, CallsFollow, ActFollows, CodeFollows, BindsToo, Stored, StoresToo, act_more, nested_follows, end_follows, store_follows, bind_follows}
-use Rattle.grin_meaning.proofs.Procedures.{nothing, BodyFollows, BodiesFollow, no_more, one_more, run_follows}
-use Rattle.grin_meaning.proofs.Plain.{IsLeaf, IsPlain, vars_have, having, leaf_follows, cells_have, all_fill_too}
+use Rattle.grin_meaning.proofs.Procedures.{BodyFollows, BodiesFollow, no_more, one_more, run_follows}
+use Rattle.grin_meaning.proofs.Plain.{IsLeaf, IsPlain, vars_have, having, leaf_follows, cells_have, all_fill_too, same_is}
 use Rattle.grin_meaning.proofs.KeptBy.{likewise_kept, looking_kept}
 use Rattle.grin_meaning.proofs.Bodies.{AnyState, every_any}
 use Rattle.case_simplify.specs.Known.{Known, Facts, nothing_known, noted}
 use Rattle.case_simplify.specs.Simple.{simple_act, simple_code, simplified}
-use Rattle.case_simplify.proofs.Held.{none_is_some, keys, places_keys, bindings_keys, holds_on}
-use Rattle.case_simplify.proofs.Scoped.{Once, Inside, once_first, once_last, once_words, once_target, inside_words, inside_target, new_unknown, noted_inside}
+use Rattle.case_simplify.proofs.Held.{places_keys, bindings_keys, holds_on}
+use Rattle.case_simplify.proofs.Scoped.{Inside, once_last, once_target, inside_words, inside_target, new_unknown, noted_inside}
 use Rattle.case_simplify.proofs.Steps.{Knowing, looked, it, ArmsGo, case_goes}
-
-same_is : {A : Type 0} {a b : A} → Same a b → b ≡ a
-same_is same = refl
-
-is_same : {A : Type 0} (a b : A) → b ≡ a → Same a b
-is_same a b e = subst (Same a) (sym e) same
+use Rattle.seq.specs.Lists.{times}
+use Rattle.grin_meaning.proofs.Scopes.{Once, once_left, once_words}
+use Rattle.seq.proofs.Counted.{times_append}
+use Rattle.grin_meaning.proofs.Following.{is_same}
+use Rattle.grin_meaning.proofs.Paired.{nothing}
+use Rattle.grin_meaning.proofs.Bindings.{keys}
 
 true_or : (b c : Bool) → c ≡ true → cond b c true ≡ true
 true_or true c h = h
@@ -161,13 +161,13 @@ module _ (g : Program) (vectorised : IsVectorised g) (procs : List Procedure) wh
             vector_code = q.vector_code.1;
             once_code = once_words scope (cell_vars cs) (code_vars b) q.once_code;
           }))
-          (stores_too facts scope cs q.inside_code (once_first scope (cell_vars cs) (code_vars b) q.once_code))
+          (stores_too facts scope cs q.inside_code (once_left scope (cell_vars cs) (code_vars b) q.once_code))
       code_goes (bind t o b) facts scope q = bind_follows st {R = Knowing g facts} {R' = Knowing g facts} t t o (simple_act facts o) b (simple_code facts b)
           (act_goes o facts scope (record {
             inside_act = q.inside_code;
             formed_act = q.formed_code.0;
             vector_act = q.vector_code.1;
-            once_act = once_first scope (act_vars o) (code_vars b) (once_last scope (target_vars t) (act_vars o ++ code_vars b) q.once_code);
+            once_act = once_left scope (act_vars o) (code_vars b) (once_last scope (target_vars t) (act_vars o ++ code_vars b) q.once_code);
           }))
           (code_goes b facts (with_target t scope) (record {
             inside_code = inside_target facts t scope q.inside_code;
@@ -175,7 +175,7 @@ module _ (g : Program) (vectorised : IsVectorised g) (procs : List Procedure) wh
             vector_code = q.vector_code.2;
             once_code = once_last (with_target t scope) (act_vars o) (code_vars b) (once_target t scope (act_vars o ++ code_vars b) q.once_code);
           }))
-          (λ x y. binds_too facts scope t o q.inside_code (once_first scope (target_vars t) (act_vars o ++ code_vars b) q.once_code) q.vector_code.0 x.w.cells y.w.cells x.env x.env' y.bs y.values x.related (y.seen refl) y.binds)
+          (λ x y. binds_too facts scope t o q.inside_code (once_left scope (target_vars t) (act_vars o ++ code_vars b) q.once_code) q.vector_code.0 x.w.cells y.w.cells x.env x.env' y.bs y.values x.related (y.seen refl) y.binds)
 
       arms_go : (v : Val) (as' : Arms) (facts : Facts) (scope : Scope) → GoodArms facts scope v as' → ArmsGo g procs c c' cb cf facts v as'
       arms_go v no_arm facts scope q = tt
@@ -185,7 +185,7 @@ module _ (g : Program) (vectorised : IsVectorised g) (procs : List Procedure) wh
           inside_code = inside_words (noted v s facts) (shape_vars s) scope (noted_inside g scope facts v s q.formed_val q.inside_arms);
           formed_code = q.formed_arms.1;
           vector_code = q.vector_arms.1;
-          once_code = once_first (with_words (shape_vars s) scope) (code_vars b) (arms_vars as') (once_words scope (shape_vars s) (code_vars b ++ arms_vars as') q.once_arms);
+          once_code = once_left (with_words (shape_vars s) scope) (code_vars b) (arms_vars as') (once_words scope (shape_vars s) (code_vars b ++ arms_vars as') q.once_arms);
         }),
         arms_go v as' facts scope (record {
           inside_arms = q.inside_arms;

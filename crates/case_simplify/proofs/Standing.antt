@@ -3,17 +3,18 @@ use Rattle.std.proofs.Common.{◌≡◌, ℕ, ◌+◌, ◌≤◌, List, [], ◌�
 use Rattle.grin_syntax.specs.declared.program.Target as T
 use Rattle.grin_syntax.specs.declared.program.Shape.{Shape}
 use Rattle.grin_syntax.specs.declared.program.Val.{Val}
-use Rattle.grin_syntax.specs.Tree.{Code, end, store, bind, Act, unit, fetch, fetch_word, update, eval, apply, call, prim, read, write, case, nested, fail, Arms, no_arm, arm, Procedure, Program}
-use Rattle.grin_syntax.specs.Binders.{times, numbers_of, target_vars, shape_vars, cell_vars, act_vars, code_vars, arms_vars, procs_vars, act_sites, code_sites, arms_sites, procs_sites}
+use Rattle.grin_syntax.specs.Tree.{Code, end, store, bind, Act, unit, fetch, fetch_word, update, eval, apply, call, prim, read, write, case, nested, fail, Arms, no_arm, arm, Procedure, Program, as_act}
+use Rattle.grin_syntax.specs.Binders.{numbers_of, target_vars, shape_vars, cell_vars, act_vars, code_vars, arms_vars, procs_vars, act_sites, code_sites, arms_sites, procs_sites}
 use Rattle.grin_syntax.specs.Formed.{AllOf, Scope, with_words, with_target, params_scope, ActFormed, CodeFormed, ArmsFormed, ProcedureFormed}
 use Rattle.grin_syntax.specs.SameOutside.{names_of}
-use Rattle.grin_syntax.proofs.Counted.{times_append}
 use Rattle.grin_syntax.proofs.Scopes.{with_procs, known_again}
 use Rattle.grin_meaning.specs.Ready.{EachAct, EachCode, EachArms, NarrowAct, NarrowCode, NarrowArms, Kind, EachBody, vectorised_kind}
 use Rattle.grin_meaning.specs.Rewritten.{rewritten_procedure}
 use Rattle.case_simplify.specs.Known.{Facts, nothing_known, noted}
-use Rattle.case_simplify.specs.Simple.{as_act, simple_act, simple_code, simple_arms}
+use Rattle.case_simplify.specs.Simple.{simple_act, simple_code, simple_arms}
 use Rattle.case_simplify.proofs.Cases.{case_has}
+use Rattle.seq.specs.Lists.{times}
+use Rattle.seq.proofs.Counted.{times_fewer, times_append}
 
 abbrev pub simple_procedure : Procedure → Procedure
 simple_procedure = rewritten_procedure (simple_code nothing_known)
@@ -25,9 +26,6 @@ in_two y n xs ys h = let e : times y (xs ++ ys) ≡ times y xs + times y ys = ti
 
 in_one : (y n : ℕ) (xs ys : List ℕ) → times y (xs ++ ys) ≤ n → times y xs ≤ n
 in_one y n xs ys h = let e : times y (xs ++ ys) ≡ times y xs + times y ys = times_append y xs ys in omega (arith, e, h)
-
-both_fewer : (y : ℕ) (xs ys us vs : List ℕ) → times y xs ≤ times y us → times y ys ≤ times y vs → times y (xs ++ ys) ≤ times y (us ++ vs)
-both_fewer y xs ys us vs h k = let e : times y (xs ++ ys) ≡ times y xs + times y ys = times_append y xs ys in let f : times y (us ++ vs) ≡ times y us + times y vs = times_append y us vs in omega (arith, e, f, h, k)
 
 same_times : (y : ℕ) (xs : List ℕ) → times y xs ≤ times y xs
 same_times y xs = omega arith
@@ -71,19 +69,19 @@ module _ (y : ℕ) where
 
     code_vars_fewer : (b : Code) (facts : Facts) → times y (code_vars (simple_code facts b)) ≤ times y (code_vars b)
     code_vars_fewer (end o) facts = act_vars_fewer o facts
-    code_vars_fewer (store cs b) facts = both_fewer y (cell_vars cs) (code_vars (simple_code facts b)) (cell_vars cs) (code_vars b) (same_times y (cell_vars cs)) (code_vars_fewer b facts)
-    code_vars_fewer (bind t o b) facts = both_fewer y (target_vars t) (act_vars (simple_act facts o) ++ code_vars (simple_code facts b)) (target_vars t) (act_vars o ++ code_vars b) (same_times y (target_vars t))
-        (both_fewer y (act_vars (simple_act facts o)) (code_vars (simple_code facts b)) (act_vars o) (code_vars b) (act_vars_fewer o facts) (code_vars_fewer b facts))
+    code_vars_fewer (store cs b) facts = times_fewer y (cell_vars cs) (code_vars (simple_code facts b)) (cell_vars cs) (code_vars b) (same_times y (cell_vars cs)) (code_vars_fewer b facts)
+    code_vars_fewer (bind t o b) facts = times_fewer y (target_vars t) (act_vars (simple_act facts o) ++ code_vars (simple_code facts b)) (target_vars t) (act_vars o ++ code_vars b) (same_times y (target_vars t))
+        (times_fewer y (act_vars (simple_act facts o)) (code_vars (simple_code facts b)) (act_vars o) (code_vars b) (act_vars_fewer o facts) (code_vars_fewer b facts))
 
     arms_vars_fewer : (v : Val) (as' : Arms) (facts : Facts) → times y (arms_vars (simple_arms facts v as')) ≤ times y (arms_vars as')
     arms_vars_fewer v no_arm facts = omega arith
-    arms_vars_fewer v (arm s b as') facts = both_fewer y (shape_vars s) (code_vars (simple_code (noted v s facts) b) ++ arms_vars (simple_arms facts v as')) (shape_vars s) (code_vars b ++ arms_vars as') (same_times y (shape_vars s))
-        (both_fewer y (code_vars (simple_code (noted v s facts) b)) (arms_vars (simple_arms facts v as')) (code_vars b) (arms_vars as') (code_vars_fewer b (noted v s facts)) (arms_vars_fewer v as' facts))
+    arms_vars_fewer v (arm s b as') facts = times_fewer y (shape_vars s) (code_vars (simple_code (noted v s facts) b) ++ arms_vars (simple_arms facts v as')) (shape_vars s) (code_vars b ++ arms_vars as') (same_times y (shape_vars s))
+        (times_fewer y (code_vars (simple_code (noted v s facts) b)) (arms_vars (simple_arms facts v as')) (code_vars b) (arms_vars as') (code_vars_fewer b (noted v s facts)) (arms_vars_fewer v as' facts))
 
   pub procs_vars_fewer : (qs : List Procedure) → times y (procs_vars (map simple_procedure qs)) ≤ times y (procs_vars qs)
   procs_vars_fewer [] = omega arith
-  procs_vars_fewer (q ∷ qs) = both_fewer y (numbers_of q.params ++ code_vars (simple_code nothing_known q.body)) (procs_vars (map simple_procedure qs)) (numbers_of q.params ++ code_vars q.body) (procs_vars qs)
-      (both_fewer y (numbers_of q.params) (code_vars (simple_code nothing_known q.body)) (numbers_of q.params) (code_vars q.body) (same_times y (numbers_of q.params)) (code_vars_fewer q.body nothing_known)) (procs_vars_fewer qs)
+  procs_vars_fewer (q ∷ qs) = times_fewer y (numbers_of q.params ++ code_vars (simple_code nothing_known q.body)) (procs_vars (map simple_procedure qs)) (numbers_of q.params ++ code_vars q.body) (procs_vars qs)
+      (times_fewer y (numbers_of q.params) (code_vars (simple_code nothing_known q.body)) (numbers_of q.params) (code_vars q.body) (same_times y (numbers_of q.params)) (code_vars_fewer q.body nothing_known)) (procs_vars_fewer qs)
 
   sites_block : (n : ℕ) (b : Code) → times y (code_sites b) ≤ n → times y (act_sites (as_act b)) ≤ n
   unfolding act_sites
@@ -121,16 +119,16 @@ module _ (y : ℕ) where
 
     code_sites_fewer : (b : Code) (facts : Facts) → times y (code_sites (simple_code facts b)) ≤ times y (code_sites b)
     code_sites_fewer (end o) facts = act_sites_fewer o facts
-    code_sites_fewer (store cs b) facts = both_fewer y (map (λ c. c.site.0) cs) (code_sites (simple_code facts b)) (map (λ c. c.site.0) cs) (code_sites b) (same_times y (map (λ c. c.site.0) cs)) (code_sites_fewer b facts)
-    code_sites_fewer (bind t o b) facts = both_fewer y (act_sites (simple_act facts o)) (code_sites (simple_code facts b)) (act_sites o) (code_sites b) (act_sites_fewer o facts) (code_sites_fewer b facts)
+    code_sites_fewer (store cs b) facts = times_fewer y (map (λ c. c.site.0) cs) (code_sites (simple_code facts b)) (map (λ c. c.site.0) cs) (code_sites b) (same_times y (map (λ c. c.site.0) cs)) (code_sites_fewer b facts)
+    code_sites_fewer (bind t o b) facts = times_fewer y (act_sites (simple_act facts o)) (code_sites (simple_code facts b)) (act_sites o) (code_sites b) (act_sites_fewer o facts) (code_sites_fewer b facts)
 
     arms_sites_fewer : (v : Val) (as' : Arms) (facts : Facts) → times y (arms_sites (simple_arms facts v as')) ≤ times y (arms_sites as')
     arms_sites_fewer v no_arm facts = omega arith
-    arms_sites_fewer v (arm s b as') facts = both_fewer y (code_sites (simple_code (noted v s facts) b)) (arms_sites (simple_arms facts v as')) (code_sites b) (arms_sites as') (code_sites_fewer b (noted v s facts)) (arms_sites_fewer v as' facts)
+    arms_sites_fewer v (arm s b as') facts = times_fewer y (code_sites (simple_code (noted v s facts) b)) (arms_sites (simple_arms facts v as')) (code_sites b) (arms_sites as') (code_sites_fewer b (noted v s facts)) (arms_sites_fewer v as' facts)
 
   pub procs_sites_fewer : (qs : List Procedure) → times y (procs_sites (map simple_procedure qs)) ≤ times y (procs_sites qs)
   procs_sites_fewer [] = omega arith
-  procs_sites_fewer (q ∷ qs) = both_fewer y (code_sites (simple_code nothing_known q.body)) (procs_sites (map simple_procedure qs)) (code_sites q.body) (procs_sites qs) (code_sites_fewer q.body nothing_known) (procs_sites_fewer qs)
+  procs_sites_fewer (q ∷ qs) = times_fewer y (code_sites (simple_code nothing_known q.body)) (procs_sites (map simple_procedure qs)) (code_sites q.body) (procs_sites qs) (code_sites_fewer q.body nothing_known) (procs_sites_fewer qs)
 
 -- ---- each operation
 

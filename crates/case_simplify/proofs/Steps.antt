@@ -1,6 +1,7 @@
 -- A case does what becomes of it, by what its alternatives do.
 use Rattle.std.proofs.Common.{◌≡◌, Bool, true, false, cond, ◌&&◌, nat_eq, List, [], ◌∷◌, Option, Some, None, refl, sym, ap, ◌∙◌, subst, arith}
 use Rattle.std.proofs.lemmas.Bool.Decides.{nat_tests}
+use Rattle.seq.proofs.Lists.{none_is_some, some_is}
 use Rattle.seq.proofs.Truth.{and_left, and_right, true_not_false}
 use Rattle.grin_syntax.specs.declared.program.TagId.{TagId}
 use Rattle.grin_syntax.specs.declared.program.Shape.{Shape}
@@ -8,7 +9,7 @@ use Rattle.grin_syntax.specs.declared.program.Word as W
 use Rattle.grin_syntax.specs.declared.program.Word.TheVariants.{Lit, Var, Global, TagWord}
 use Rattle.grin_syntax.specs.declared.program.Val as V
 use Rattle.grin_syntax.specs.declared.program.Val.TheVariants.{NodeVar, Node as NodeVal, Vector, One}
-use Rattle.grin_syntax.specs.Tree.{Code, end, store, bind, Act, unit, fetch, fetch_word, update, eval, apply, call, prim, read, write, case, nested, fail, Arms, no_arm, arm, Procedure, Program}
+use Rattle.grin_syntax.specs.Tree.{Code, end, store, bind, Act, unit, fetch, fetch_word, update, eval, apply, call, prim, read, write, case, nested, fail, Arms, no_arm, arm, Procedure, Program, as_act}
 use Rattle.grin_syntax.specs.Binders.{shape_vars}
 use Rattle.grin_meaning.specs.Values.{Value, Env, HeapCell, Binding, with_vars, fits, fit_of, value_of}
 use Rattle.grin_meaning.specs.Run.{Calls, act_by}
@@ -24,8 +25,8 @@ use Rattle.grin_meaning.proofs.OneSided.{ArmsBecome, case_becomes, arm_taken, no
 use Rattle.grin_meaning.proofs.Bodies.{AnyState}
 use Rattle.case_simplify.specs.Known.{Known, Tag, Number, Facts, told_first, told_second, noted}
 use Rattle.case_simplify.specs.Choice.{Verdict, Takes, Passes, Open, verdict, by_verdict, taken, taken_by}
-use Rattle.case_simplify.specs.Simple.{same_word, is_front, same_words, same_val, is_front_val, value_given, gives_val, all_give, gives_back, as_act, first_act, unit_or_case, block_or_case, simple_case, simple_act, simple_code, simple_arms}
-use Rattle.case_simplify.proofs.Held.{some_is, none_is_some, same_number_is, Holds, noted_holds, passes_by, takes_it}
+use Rattle.case_simplify.specs.Simple.{same_word, is_front, same_words, same_val, is_front_val, value_given, gives_val, all_give, gives_back, first_act, unit_or_case, block_or_case, simple_case, simple_act, simple_code, simple_arms}
+use Rattle.case_simplify.proofs.Held.{same_number_is, Holds, noted_holds, passes_by, takes_it}
 
 -- ---- values that are written alike
 

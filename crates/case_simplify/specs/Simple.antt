@@ -6,7 +6,7 @@ use Rattle.grin_syntax.specs.declared.program.Word.TheVariants.{Lit, Var, Global
 use Rattle.grin_syntax.specs.declared.program.Val as V
 use Rattle.grin_syntax.specs.declared.program.Val.TheVariants.{NodeVar, Node, Vector, One}
 use Rattle.grin_syntax.specs.declared.program.Shape.{Shape}
-use Rattle.grin_syntax.specs.Tree.{Code, end, store, bind, Act, unit, fetch, fetch_word, update, eval, apply, call, prim, read, write, case, nested, fail, Arms, no_arm, arm, Program}
+use Rattle.grin_syntax.specs.Tree.{Code, end, store, bind, Act, unit, fetch, fetch_word, update, eval, apply, call, prim, read, write, case, nested, fail, Arms, no_arm, arm, Program, as_act}
 use Rattle.grin_meaning.specs.Checks.{is_some_and}
 use Rattle.grin_meaning.specs.Rewritten.{rewritten}
 use Rattle.numbers.specs.Numbers.{same_number}
@@ -62,12 +62,6 @@ gives_back v (arm s b as') =
     is_some_and (value_given b) (λ u. is_front_val u v && all_give u (arm s b as'))
 
 -- ---- the pass
-
--- the operation that does what a block does
-abbrev pub as_act : Code → Act
-as_act (end o) = o
-as_act (store cs b) = nested (store cs b)
-as_act (bind t o b) = nested (bind t o b)
 
 abbrev pub first_act : Arms → Act
 first_act no_arm = fail

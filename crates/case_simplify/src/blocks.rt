@@ -2,9 +2,9 @@
 #![tactic(auto, using(grin_syntax::proofs::TreeOf::tree_of), unfolding(crate::specs::Simple::simple_act))]
 
 ghost use Rattle.std.specs.Prelude.{◌≡◌, map, IfOk};
-ghost use Rattle.grin_syntax.specs.Tree.{Code, act_of, before_of, arm_of, arms_of, code_of};
+ghost use Rattle.grin_syntax.specs.Tree.{Code, act_of, before_of, arm_of, arms_of, code_of, as_act};
 ghost use Rattle.case_simplify.specs.Known.{facts_of};
-ghost use Rattle.case_simplify.specs.Simple.{as_act, unit_or_case, simple_case, simple_act, simple_code, simple_arm};
+ghost use Rattle.case_simplify.specs.Simple.{unit_or_case, simple_case, simple_act, simple_code, simple_arm};
 
 use crate::choice::{Choice, choose, gives_back};
 use crate::known::{Fact, noted, told_first, told_second};

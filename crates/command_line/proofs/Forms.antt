@@ -4,7 +4,7 @@ use Rattle.std.specs.List.{list_any}
 use Rattle.std.specs.Option.{option_map, option_and_then}
 use Rattle.std.specs.Str.{bytes_eq}
 use Rattle.std.proofs.lemmas.Slice.Eq.{bytes_eq-Decides}
-use Rattle.command_line.specs.Commands.{CommandLine, RunFile, BuildFile, GenRun, Given, Form, only, number_of, cells_of, stack_of, steps_of, run_form, check_form, list_form, build_form, exec_form, gen_form, of_operand, without_operand, seed_of, size_of}
+use Rattle.command_line.specs.Commands.{CommandLine, RunFile, BuildFile, GenRun, Given, Form, only, option_number, cells_of, stack_of, steps_of, run_form, check_form, list_form, build_form, exec_form, gen_form, of_operand, without_operand, seed_of, size_of}
 use Rattle.command_line.specs.Walk.{option_names}
 
 -- A form has no option but those that there are, and asks for nothing where there are two operands or one of its options has
@@ -20,7 +20,7 @@ only_two [] two = absurd (omega arith)
 only_two (x ∷ []) two = absurd (omega arith)
 only_two (x ∷ y ∷ rest) two = refl
 
-number_two : (default least most : ℕ) (values : List (List ℕ)) → 2 ≤ length values → number_of default least most values ≡ None
+number_two : (default least most : ℕ) (values : List (List ℕ)) → 2 ≤ length values → option_number default least most values ≡ None
 number_two default least most [] two = absurd (omega arith)
 number_two default least most (x ∷ []) two = absurd (omega arith)
 number_two default least most (x ∷ y ∷ rest) two = refl

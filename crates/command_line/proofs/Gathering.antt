@@ -34,7 +34,7 @@ record Taken (s t : Said) (part : Part) : Type 0 where
   sets : (options : List (List ℕ)) (parts : List Part)
       → takes_only options parts && sets_only options t.entries ≡ takes_only options (part ∷ parts) && sets_only options s.entries
 
-and_false : (a : Bool) → a && false ≡ false
+pub and_false : (a : Bool) → a && false ≡ false
 and_false a = grind (arith, nat_tests)
 
 still_unknown : (options : List (List ℕ)) (part : Part) (parts : List Part) → takes_only options parts ≡ false → takes_only options (part ∷ parts) ≡ false
@@ -61,7 +61,7 @@ gathers_taken s t part parts taken = by_result (gathered t parts) where
   by_result None refused = refused_before s t part parts taken refused
   by_result (Some u) grown = grown_before s t u part parts taken grown
 
-abbrev said_by : Option (List ℕ) → List Entry → Said
+abbrev pub said_by : Option (List ℕ) → List Entry → Said
 said_by operand entries = record { operand = operand; entries = entries }
 
 operand_taken : (entries : List Entry) (text : List ℕ) → Taken (said_by None entries) (said_by (Some text) entries) (Operand text)

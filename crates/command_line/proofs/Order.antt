@@ -6,6 +6,7 @@ use Rattle.command_line.specs.Laws.{OrderIsFree}
 use Rattle.command_line.specs.Walk.{Entry, Said, nothing_said, with_value, with_part, gathered, chosen}
 use Rattle.command_line.proofs.Entries.{exchange}
 use Rattle.command_line.proofs.Table.{chosen_from}
+use Rattle.command_line.proofs.Gathering.{said_by}
 
 -- with one part and then another
 abbrev both : Said → Part → Part → Option Said
@@ -13,9 +14,6 @@ both s a b = option_and_then (λ t. with_part t b) (with_part s a)
 
 abbrev Commute : Said → Part → Part → Type 0
 Commute s a b = both s a b ≡ both s b a
-
-abbrev said_by : Option (List ℕ) → List Entry → Said
-said_by operand entries = record { operand = operand; entries = entries }
 
 two_operands : (held : Option (List ℕ)) (entries : List Entry) (x y : List ℕ) → Commute (said_by held entries) (Operand x) (Operand y)
 two_operands None entries x y = refl

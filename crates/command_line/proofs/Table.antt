@@ -10,7 +10,7 @@ use Rattle.command_line.specs.Parts.{Part, Setting, Operand}
 use Rattle.command_line.specs.Commands.{CommandLine, Form, operands, values, takes_only, run_form, check_form, list_form, build_form, exec_form, gen_form, asked, command_from}
 use Rattle.command_line.specs.Walk.{Said, nothing_said, option_names, value_of, sets_only, gathered, asked_said, chosen}
 use Rattle.command_line.proofs.Entries.{unset_value, unset_sets}
-use Rattle.command_line.proofs.Gathering.{Grown, Refused, TwoOperands, TwoValues, OneUnknown, gathers}
+use Rattle.command_line.proofs.Gathering.{Grown, Refused, TwoOperands, TwoValues, OneUnknown, gathers, and_false}
 use Rattle.command_line.proofs.Forms.{Strict, run_strict, check_strict, list_strict, build_strict, exec_strict, gen_strict}
 
 and_true : (a : Bool) → a && true ≡ a
@@ -34,8 +34,6 @@ makes_none : (test : Bool) (asks : Option CommandLine) → asks ≡ None → Non
 makes_none test asks none = rw none (sym (if_same None test))
 
 -- an option with a value that is none of these
-and_false : (a : Bool) → a && false ≡ false
-and_false a = grind (arith, nat_tests)
 
 stranger : (options : List (List ℕ)) (option : List ℕ) → list_any (bytes_eq option) options ≡ false → (parts : List Part)
     → 1 ≤ length (values option parts) → takes_only options parts ≡ false

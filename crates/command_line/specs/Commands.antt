@@ -72,10 +72,10 @@ only (x ∷ []) = Some x
 only (x ∷ y ∷ rest) = None
 
 -- The number that the values of an option write: the default where there is none.
-abbrev pub number_of : (default least most : ℕ) → List (List ℕ) → Option ℕ
-number_of default least most [] = Some default
-number_of default least most (value ∷ []) = number_within least most value
-number_of default least most (value ∷ other ∷ rest) = None
+abbrev pub option_number : (default least most : ℕ) → List (List ℕ) → Option ℕ
+option_number default least most [] = Some default
+option_number default least most (value ∷ []) = number_within least most value
+option_number default least most (value ∷ other ∷ rest) = None
 
 -- the values that are given to each option
 abbrev pub Given : Type 0
@@ -83,15 +83,15 @@ Given = (option : List ℕ) → List (List ℕ)
 
 -- the cells of the heap, by `--heap`
 abbrev pub cells_of : Given → Option ℕ
-cells_of given = number_of 1000000 1 8000000 (given (codes "heap"))
+cells_of given = option_number 1000000 1 8000000 (given (codes "heap"))
 
 -- the bytes of the stack, by `--stack`, a multiple of four or not
 abbrev pub stack_of : Given → Option ℕ
-stack_of given = number_of 1048576 1024 67108864 (given (codes "stack"))
+stack_of given = option_number 1048576 1024 67108864 (given (codes "stack"))
 
 -- the number of instructions, by `--steps`
 abbrev pub steps_of : Given → Option ℕ
-steps_of given = number_of 1000000000 1 1000000000000 (given (codes "steps"))
+steps_of given = option_number 1000000000 1 1000000000000 (given (codes "steps"))
 
 -- the seed of a generated text, by `--seed`, which has to stand
 abbrev pub seed_of : Given → Option ℕ

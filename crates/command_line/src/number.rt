@@ -2,7 +2,7 @@
 
 ghost use Rattle.std.specs.Prelude.{◌≡◌, ◌<◌, ◌^◌, option_to_list};
 ghost use Rattle.std.specs.Option.{option_copied};
-ghost use Rattle.command_line.specs.Commands.{number_of};
+ghost use Rattle.command_line.specs.Commands.{option_number};
 ghost use Rattle.command_line.specs.Numbers.{number_within};
 
 /// The cells of the heap, by `--heap`.
@@ -39,7 +39,7 @@ impl Numbers {
     /// The number that the value of the option writes, or the default where it has no value. `None`
     /// where the value writes no number of the range.
     pub(crate) fn read(self, value: Option<&str>) -> Option<u64>
-        ensures { result ≡ number_of self.default self.least self.most
+        ensures { result ≡ option_number self.default self.least self.most
             (option_to_list (option_copied value.entry)) }
     {
         match value {
@@ -52,7 +52,7 @@ impl Numbers {
     pub(crate) fn read_u32(self, value: Option<&str>) -> Option<u32>
         requires default_fits { self.default < 2 ^ 32 }
         requires most_fits { self.most < 2 ^ 32 }
-        ensures { result ≡ number_of self.default self.least self.most
+        ensures { result ≡ option_number self.default self.least self.most
             (option_to_list (option_copied value.entry)) }
     {
         let number = self.read(value)?;

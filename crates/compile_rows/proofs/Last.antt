@@ -1,5 +1,5 @@
 -- The last stage of a program can be lowered where it is slim.
-use Rattle.std.proofs.Common.{◌≡◌, ℕ, ◌≤◌, length, refl, sym, subst, arith}
+use Rattle.std.proofs.Common.{◌≡◌, ℕ, ◌≤◌, length, arith}
 use Rattle.arity_check.specs.Accepted.{IsValid}
 use Rattle.arity_check.specs.Program as core
 use Rattle.grin_syntax.specs.Tree.{Program}
@@ -9,28 +9,18 @@ use Rattle.vectorised_form.specs.Laws.{VectoriseTakesInlined}
 use Rattle.flow_system.specs.Solution.{Solution}
 use Rattle.apply_inline.specs.Inlining.{inlined}
 use Rattle.grin_translate.specs.Translation.{tr}
-use Rattle.grin_opt.specs.declared.pass.PassName.{PassName}
-use Rattle.grin_opt.specs.declared.pass.PassName.TheVariants.{Apply, Vectorise, Simplify, Fetch, Copy, Update, Unbox, Raise}
-use Rattle.grin_opt.specs.Schedule.{IsTaken, shape_of}
-use Rattle.grin_stages.specs.Stage.{Analyses, IsStage, translated, evaluations_inlined, both_inlined, by_pass}
+use Rattle.grin_opt.specs.declared.pass.PassName.TheVariants.{Vectorise, Simplify, Fetch, Copy, Update, Unbox, Raise}
+use Rattle.grin_stages.specs.Stage.{Analyses, IsStage}
 use Rattle.grin_stages.proofs.Stages.{from_pass}
 use Rattle.grin_compile.specs.Lowerable.{IsLowerable}
 use Rattle.grin_compile.proofs.Narrow.{narrow}
+use Rattle.grin_compile.proofs.Staged.{taken_by}
 
 -- the solution by which a stage is inlined
 record InlinedBy (p : core.Program) (a : Program) : Type 0 where
   pub solution : Solution
   pub least : Analyses p solution
   pub is : a ≡ inlined solution (tr p)
-
-inlined_by : (p : core.Program) (k : PassName) (a : Program) → IsStage p k a → k ≡ Apply → InlinedBy p a
-inlined_by p k a translated e = cc
-inlined_by p k a (evaluations_inlined least) e = cc
-inlined_by p k a (both_inlined {A = A} least) e = record { solution = A; least = least; is = refl }
-inlined_by p k a (by_pass {g = b} stage shape keeps) e = absurd (subst (λ k. shape_of k b a) e shape)
-
-taken_by : VectoriseTakesInlined → (p : core.Program) → IsValid p → (a : Program) → IsStage p Apply a → IsTaken a
-taken_by taken p valid a stage = let by = inlined_by p Apply a stage refl in subst IsTaken (sym by.is) (taken p valid by.solution by.least.solves)
 
 -- what the layers below ask of a stage, but for its size
 record CanBeLowered (h : Program) : Type 0 where

@@ -14,7 +14,7 @@ use Rattle.grin_syntax.specs.declared.program.Op.TheVariants.{Case}
 use Rattle.grin_syntax.specs.declared.program.Stmt.TheVariants.{Store, Bind}
 use Rattle.grin_syntax.specs.Tree.{Code, end, bind, Act, Arms, no_arm, arm, case, act_of, before_of, arm_of, code_of, all_before, arms_of}
 use Rattle.grin_syntax.proofs.TreeOf.{act_of-Case, before_of-Store, before_of-Bind, code_of-parts}
-use Rattle.grin_syntax.proofs.Pieces.{all_arms, all_arms_none}
+use Rattle.grin_syntax.proofs.Pieces.{all_arms, all_arms_none, arms_push}
 use Rattle.copy_prop.specs.Resolved.{kept}
 use Rattle.copy_prop.specs.Lean.{val_uses, cells_uses, act_uses, code_uses, arms_uses, is_idle, unless, lean_act, lean_code, lean_arms}
 use Rattle.copy_prop.proofs.Used.{drop_front}
@@ -100,10 +100,6 @@ whole : (a : Block) (walked : List Stmt) → walked ≡ reverse a.stmts → code
 whole a walked e =
     code_of-parts a ∙ ap (λ l. all_before (map before_of l) (end (act_of a.last.value))) (sym (reverse-reverse a.stmts) ∙ ap reverse (sym e)) ∙ stacked_reversed walked [] (end (act_of a.last.value))
 
-pub map_same : {X : Type 0} (xs : List X) → map (λ x. x) xs ≡ xs
-map_same [] = refl
-map_same (x ∷ xs) = ap (λ l. x ∷ l) (map_same xs)
-
 pub thins_tree : (m seen : List ℕ) (a b : Block) (walked made : List Stmt) (last : Act) → walked ≡ reverse a.stmts → Thins m seen (end (act_of a.last.value)) walked made last → b.stmts ≡ reverse made → act_of b.last.value ≡ last → code_of b ≡ lean_code (code_of a)
 thins_tree m seen a b walked made last e w s l =
     code_of-parts b ∙ (λ i. all_before (map before_of (s i)) (end (l i))) ∙ stacked_reversed made [] (end last) ∙ w.tree ∙ ap lean_code (sym (whole a walked e))
@@ -116,10 +112,6 @@ thins_uses m seen a walked made last e w = w.uses ∙ ap (λ c. m ++ code_uses (
 pub record ArmsThin (seen0 seen : List ℕ) (made from : List Alt) : Type 0 where
   pub by : (r : Arms) → all_arms (map arm_of made) (lean_arms r) ≡ lean_arms (all_arms (map arm_of from) r)
   pub uses : (r : Arms) → seen ++ arms_uses r ≡ seen0 ++ arms_uses (all_arms (map arm_of made) r)
-
-arms_push : (as' : List Alt) (a : Alt) (r : Arms) → all_arms (map arm_of (as' ++ a ∷ [])) r ≡ all_arms (map arm_of as') (arm (arm_of a).0 (arm_of a).1 r)
-arms_push [] a r = refl
-arms_push (b ∷ as') a r = ap (arm (arm_of b).0 (arm_of b).1) (arms_push as' a r)
 
 pub no_arms : (seen : List ℕ) → ArmsThin seen seen [] []
 no_arms seen = record { by = λ r. refl; uses = λ r. refl }

@@ -1,5 +1,6 @@
 -- Which variables are bound, and which stay.
-use Rattle.std.proofs.Common.{◌≡◌, ℕ, suc, Bool, true, false, cond, ◌||◌, nat_eq, List, [], ◌∷◌, map, length, Option, Some, None, refl, sym, ap, ◌∙◌}
+use Rattle.std.proofs.Common.{◌≡◌, ℕ, suc, Bool, true, false, cond, ◌||◌, nat_eq, List, [], ◌∷◌, length, Option, Some, None, refl, sym, ap, ◌∙◌}
+use Rattle.seq.proofs.Lists.{some_is}
 use Rattle.seq.proofs.Truth.{neither_left, neither_right}
 use Rattle.grin_syntax.specs.declared.program.VarId.{VarId}
 use Rattle.grin_syntax.specs.declared.program.Cell.{Cell}
@@ -11,20 +12,18 @@ use Rattle.grin_syntax.specs.Tree.{Program}
 use Rattle.grin_syntax.specs.Binders.{numbers_of, target_vars, shape_vars, cell_vars}
 use Rattle.grin_meaning.specs.Values.{Datum, number, tag, cell, Node, Value, node, words, Env, and_then, Binding, with_vars, one_each, padded, fits, fits_not, fields_fit, node_fit, number_fit, int_fit, fit_of, as_node, bindings_of}
 use Rattle.grin_meaning.specs.Run.{places}
-use Rattle.copy_prop.specs.Lean.{stands}
+use Rattle.seq.specs.Lists.{is_among}
+use Rattle.grin_meaning.proofs.Bindings.{fits_is, keys}
 
-abbrev pub names : List Binding → List ℕ
-names bs = map (λ b. b.0) bs
-
-pub others_stay : (bs : List Binding) (env : Env) (x : ℕ) → stands x (names bs) ≡ false → with_vars bs env x ≡ env x
+pub others_stay : (bs : List Binding) (env : Env) (x : ℕ) → is_among x (keys bs) ≡ false → with_vars bs env x ≡ env x
 others_stay [] env x h = refl
-others_stay (b ∷ bs) env x h = others_stay bs _ x (neither_right (nat_eq x b.0) (stands x (names bs)) h) ∙ ap (λ t. cond t (Some b.1) (env x)) (neither_left (nat_eq x b.0) (stands x (names bs)) h)
+others_stay (b ∷ bs) env x h = others_stay bs _ x (neither_right (nat_eq x b.0) (is_among x (keys bs)) h) ∙ ap (λ t. cond t (Some b.1) (env x)) (neither_left (nat_eq x b.0) (is_among x (keys bs)) h)
 
-pub bound_alike : (bs : List Binding) (env env' : Env) (x : ℕ) → stands x (names bs) ≡ true → with_vars bs env x ≡ with_vars bs env' x
+pub bound_alike : (bs : List Binding) (env env' : Env) (x : ℕ) → is_among x (keys bs) ≡ true → with_vars bs env x ≡ with_vars bs env' x
 bound_alike [] env env' x h = cc
-bound_alike (b ∷ bs) env env' x h = go (stands x (names bs)) refl h (bound_alike bs _ _ x)
+bound_alike (b ∷ bs) env env' x h = go (is_among x (keys bs)) refl h (bound_alike bs _ _ x)
   where
-    go : (t : Bool) → stands x (names bs) ≡ t → (nat_eq x b.0 || t) ≡ true → (stands x (names bs) ≡ true → with_vars (b ∷ bs) env x ≡ with_vars (b ∷ bs) env' x) → with_vars (b ∷ bs) env x ≡ with_vars (b ∷ bs) env' x
+    go : (t : Bool) → is_among x (keys bs) ≡ t → (nat_eq x b.0 || t) ≡ true → (is_among x (keys bs) ≡ true → with_vars (b ∷ bs) env x ≡ with_vars (b ∷ bs) env' x) → with_vars (b ∷ bs) env x ≡ with_vars (b ∷ bs) env' x
     go true q h k = k q
     go false q h k = others_stay bs _ x q ∙ ap (λ t. cond t (Some b.1) (env x)) (here (nat_eq x b.0) h) ∙ sym (others_stay bs _ x q ∙ ap (λ t. cond t (Some b.1) (env' x)) (here (nat_eq x b.0) h))
       where
@@ -32,42 +31,37 @@ bound_alike (b ∷ bs) env env' x h = go (stands x (names bs)) refl h (bound_ali
         here true h = refl
         here false h = h
 
-some_is : {A : Type 0} {a b : A} → ◌≡◌ {A = Option A} (Some a) (Some b) → a ≡ b
-some_is h = cc
-
-pub names_each : (xs : List VarId) (ds : List Datum) (bs : List Binding) → one_each xs ds ≡ Some bs → names bs ≡ numbers_of xs
-names_each [] [] bs e = ap names (sym (some_is e))
+pub names_each : (xs : List VarId) (ds : List Datum) (bs : List Binding) → one_each xs ds ≡ Some bs → keys bs ≡ numbers_of xs
+names_each [] [] bs e = ap keys (sym (some_is e))
 names_each [] (d ∷ ds) bs e = cc
 names_each (x ∷ xs) [] bs e = cc
 names_each (x ∷ xs) (d ∷ ds) bs e = go (one_each xs ds) refl e (names_each xs ds)
   where
-    go : (o : Option (List Binding)) → one_each xs ds ≡ o → and_then o (λ cs. Some ((x.0, words (d ∷ [])) ∷ cs)) ≡ Some bs → ((cs : List Binding) → one_each xs ds ≡ Some cs → names cs ≡ numbers_of xs) → names bs ≡ numbers_of (x ∷ xs)
+    go : (o : Option (List Binding)) → one_each xs ds ≡ o → and_then o (λ cs. Some ((x.0, words (d ∷ [])) ∷ cs)) ≡ Some bs → ((cs : List Binding) → one_each xs ds ≡ Some cs → keys cs ≡ numbers_of xs) → keys bs ≡ numbers_of (x ∷ xs)
     go None q e k = cc
-    go (Some cs) q e k = ap names (sym (some_is e)) ∙ ap (λ l. x.0 ∷ l) (k cs q)
+    go (Some cs) q e k = ap keys (sym (some_is e)) ∙ ap (λ l. x.0 ∷ l) (k cs q)
 
-pub names_places : (a : ℕ) (cs : List Cell) → names (places a cs) ≡ cell_vars cs
+pub names_places : (a : ℕ) (cs : List Cell) → keys (places a cs) ≡ cell_vars cs
 names_places a [] = refl
 names_places a (c ∷ cs) = ap (λ l. c.var.0 ∷ l) (names_places (suc a) cs)
 
-pub names_target : (g : Program) (t : Target) (v : Value) (bs : List Binding) → bindings_of g t v ≡ Some bs → names bs ≡ target_vars t
-names_target g to.Nothing (words []) bs e = ap names (sym (some_is e))
+pub names_target : (g : Program) (t : Target) (v : Value) (bs : List Binding) → bindings_of g t v ≡ Some bs → keys bs ≡ target_vars t
+names_target g to.Nothing (words []) bs e = ap keys (sym (some_is e))
 names_target g to.Nothing (words (d ∷ ds)) bs e = cc
 names_target g to.Nothing (node n) bs e = cc
 names_target g (to.Node x) v bs e = go (as_node g v) e
   where
-    go : (o : Option Node) → and_then o (λ n. Some ((x.0, node n) ∷ [])) ≡ Some bs → names bs ≡ x.0 ∷ []
+    go : (o : Option Node) → and_then o (λ n. Some ((x.0, node n) ∷ [])) ≡ Some bs → keys bs ≡ x.0 ∷ []
     go None e = cc
-    go (Some n) e = ap names (sym (some_is e))
+    go (Some n) e = ap keys (sym (some_is e))
 names_target g (to.One x) (words []) bs e = cc
-names_target g (to.One x) (words (d ∷ [])) bs e = ap names (sym (some_is e))
+names_target g (to.One x) (words (d ∷ [])) bs e = ap keys (sym (some_is e))
 names_target g (to.One x) (words (d ∷ (d' ∷ ds))) bs e = cc
 names_target g (to.One x) (node n) bs e = cc
 names_target g (to.Vector xs) (words ds) bs e = names_each xs ds bs e
 names_target g (to.Vector xs) (node n) bs e = names_each xs (padded (length xs) (tag n.tag ∷ n.fields)) bs e
 
 -- a pattern without variables binds nothing
-fits_is : {bs cs : List Binding} → fits bs ≡ fits cs → bs ≡ cs
-fits_is h = cc
 
 pub binds_nothing : (g : Program) (s : Shape) (v : Value) (bs : List Binding) → shape_vars s ≡ [] → fit_of g s v ≡ fits bs → bs ≡ []
 binds_nothing g (shape.Node t []) v bs h e = go (as_node g v) e

@@ -10,11 +10,12 @@ use Rattle.grin_syntax.specs.declared.program.Word as W
 use Rattle.grin_syntax.specs.declared.program.Word.TheVariants.{Lit, Var, Global, TagWord}
 use Rattle.grin_syntax.specs.declared.program.Val.TheVariants.{NodeVar, Node, Vector, One}
 use Rattle.grin_syntax.specs.Tree.{Code, end, store, bind, Act, unit, fetch, fetch_word, update, eval, apply, call, prim, read, write, case, nested, fail, Arms, no_arm, arm, Program}
-use Rattle.grin_syntax.specs.Binders.{times, target_vars, shape_vars, cell_vars, act_vars, code_vars, arms_vars}
+use Rattle.grin_syntax.specs.Binders.{target_vars, shape_vars, cell_vars, act_vars, code_vars, arms_vars}
 use Rattle.grin_syntax.specs.Formed.{Scope, InScope, with_words, with_target, WordFormed}
-use Rattle.grin_syntax.proofs.Counted.{times_append, counts, one_at}
 use Rattle.grin_meaning.specs.Ready.{NoNodeTarget}
 use Rattle.copy_prop.specs.Resolved.{Table, Alias, put, entry, word_for, as_word, alias_of, noted_alias, noted_act, noted_code, noted_arms}
+use Rattle.seq.specs.Lists.{times}
+use Rattle.seq.proofs.Counted.{counts, times_left, times_right, times_append, one_at}
 
 -- ---- entries
 
@@ -65,12 +66,6 @@ alias_is (to.One x) fail a e = cc
 
 -- ---- what isn't bound in a piece keeps its entry
 
-none_left : (y : ℕ) (xs ys : List ℕ) → times y (xs ++ ys) ≡ 0 → times y xs ≡ 0
-none_left y xs ys h = let e : times y (xs ++ ys) ≡ times y xs + times y ys = times_append y xs ys in omega (arith, e, h)
-
-none_right : (y : ℕ) (xs ys : List ℕ) → times y (xs ++ ys) ≡ 0 → times y ys ≡ 0
-none_right y xs ys h = let e : times y (xs ++ ys) ≡ times y xs + times y ys = times_append y xs ys in omega (arith, e, h)
-
 pub absent_differs : (y x : ℕ) (xs : List ℕ) → times y (x ∷ xs) ≡ 0 → y ≢ x
 absent_differs y x xs h e = let c : counts (nat_eq y x) ≡ 1 = ap (λ z. counts (nat_eq z x)) e ∙ one_at x in absurd (omega (arith, c, h))
 
@@ -101,17 +96,17 @@ mutual
 
   pub code_keeps : (b : Code) (k : Table) (y : ℕ) → times y (code_vars b) ≡ 0 → entry (noted_code b k) y ≡ entry k y
   code_keeps (end o) k y h = act_keeps o k y h
-  code_keeps (store cs b) k y h = code_keeps b k y (none_right y (cell_vars cs) (code_vars b) h)
+  code_keeps (store cs b) k y h = code_keeps b k y (times_right y (cell_vars cs) (code_vars b) h)
   code_keeps (bind t o b) k y h =
-      let r : times y (act_vars o ++ code_vars b) ≡ 0 = none_right y (target_vars t) (act_vars o ++ code_vars b) h in
-      code_keeps b (noted_alias (alias_of t o) (noted_act o k)) y (none_right y (act_vars o) (code_vars b) r)
-      ∙ alias_keeps t o (noted_act o k) y (none_left y (target_vars t) (act_vars o ++ code_vars b) h) ∙ act_keeps o k y (none_left y (act_vars o) (code_vars b) r)
+      let r : times y (act_vars o ++ code_vars b) ≡ 0 = times_right y (target_vars t) (act_vars o ++ code_vars b) h in
+      code_keeps b (noted_alias (alias_of t o) (noted_act o k)) y (times_right y (act_vars o) (code_vars b) r)
+      ∙ alias_keeps t o (noted_act o k) y (times_left y (target_vars t) (act_vars o ++ code_vars b) h) ∙ act_keeps o k y (times_left y (act_vars o) (code_vars b) r)
 
   pub arms_keep : (as' : Arms) (k : Table) (y : ℕ) → times y (arms_vars as') ≡ 0 → entry (noted_arms as' k) y ≡ entry k y
   arms_keep no_arm k y h = refl
   arms_keep (arm s b as') k y h =
-      let r : times y (code_vars b ++ arms_vars as') ≡ 0 = none_right y (shape_vars s) (code_vars b ++ arms_vars as') h in
-      arms_keep as' (noted_code b k) y (none_right y (code_vars b) (arms_vars as') r) ∙ code_keeps b k y (none_left y (code_vars b) (arms_vars as') r)
+      let r : times y (code_vars b ++ arms_vars as') ≡ 0 = times_right y (shape_vars s) (code_vars b ++ arms_vars as') h in
+      arms_keep as' (noted_code b k) y (times_right y (code_vars b) (arms_vars as') r) ∙ code_keeps b k y (times_left y (code_vars b) (arms_vars as') r)
 
 -- ---- scopes
 

@@ -3,8 +3,8 @@ use Rattle.std.proofs.Common.{◌≡◌, ◌≢◌, ℕ, zero, suc, ◌+◌, ◌
 use Rattle.std.proofs.lemmas.List.{length-map}
 use Rattle.std.proofs.lemmas.Option.{slice_get-map}
 use Rattle.std.specs.Option.{option_map}
-use Rattle.seq.proofs.Order.{eq_from, eq_self}
-use Rattle.seq.proofs.Truth.{not_both, or_left, and_left, and_right}
+use Rattle.seq.proofs.Order.{eq_from}
+use Rattle.seq.proofs.Truth.{not_both, and_left, and_right}
 use Rattle.grin_syntax.specs.declared.program.Cell.{Cell}
 use Rattle.grin_syntax.specs.declared.program.Target.{Target}
 use Rattle.grin_syntax.specs.declared.program.Target.TheVariants as to
@@ -13,20 +13,23 @@ use Rattle.grin_syntax.specs.declared.program.Word.TheVariants.{Lit, Var, Global
 use Rattle.grin_syntax.specs.declared.program.Val as V
 use Rattle.grin_syntax.specs.declared.program.Val.TheVariants.{NodeVar, Node, Vector, One}
 use Rattle.grin_syntax.specs.Tree.{Code, end, store, bind, Act, unit, fetch, fetch_word, update, eval, apply, call, prim, read, write, case, nested, fail, Arms, no_arm, arm, Procedure, Program}
-use Rattle.grin_syntax.specs.Binders.{times, numbers_of, target_vars, shape_vars, cell_vars, act_vars, code_vars, arms_vars, procs_vars, act_sites, code_sites, arms_sites, procs_sites}
+use Rattle.grin_syntax.specs.Binders.{numbers_of, target_vars, shape_vars, cell_vars, act_vars, code_vars, arms_vars, procs_vars, act_sites, code_sites, arms_sites, procs_sites}
 use Rattle.grin_syntax.specs.Formed.{AllOf, Scope, InScope, with_words, with_target, params_scope, WordFormed, ValFormed, CellFormed, ActFormed, CodeFormed, ArmsFormed, ProcedureFormed, Formed}
 use Rattle.grin_syntax.specs.SameOutside.{names_of, SameOutside}
-use Rattle.grin_syntax.proofs.Counted.{times_append}
 use Rattle.grin_syntax.proofs.Scopes.{with_procs, known_again, shape_stays, same_sites, formed_with}
 use Rattle.grin_meaning.specs.Names.{WordOk, WordsOk, ValOk, CellsOk, ActOk, CodeOk, ArmsOk}
 use Rattle.grin_meaning.specs.Ready.{Inlined, ByWords, NoNodeTarget, NoNodeVar, EachAct, EachCode, EachArms, NarrowAct, NarrowCode, NarrowArms, Kind, EachBody, vectorised_kind}
 use Rattle.grin_meaning.specs.Rewritten.{rewritten_procedure}
-use Rattle.copy_prop.specs.Lean.{word_uses, words_uses, val_uses, cells_uses, act_uses, code_uses, arms_uses, stands, none_stands, is_still, is_idle, unless, lean_act, lean_code, lean_arms, lean}
-use Rattle.copy_prop.specs.Copied.{IsCopy, IsStill, Unused, IsNeeded, BoundAct, BoundCode, BoundArms}
-use Rattle.copy_prop.proofs.Used.{stands_append, in_stands, none_absent}
+use Rattle.copy_prop.specs.Lean.{word_uses, words_uses, val_uses, cells_uses, act_uses, code_uses, arms_uses, none_stands, is_still, is_idle, unless, lean_act, lean_code, lean_arms, lean}
+use Rattle.copy_prop.specs.Copied.{IsCopy, Unused, IsNeeded, BoundAct, BoundCode, BoundArms}
+use Rattle.copy_prop.proofs.Used.{none_absent}
 use Rattle.copy_prop.proofs.Held.{as_scope, target_scope}
 use Rattle.copy_prop.proofs.LeanSame.{Covers, covers_left, covers_right}
-use Rattle.copy_prop.proofs.ResolvedFormed.{NoCopy, more}
+use Rattle.copy_prop.proofs.ResolvedFormed.{NoCopy}
+use Rattle.seq.specs.Lists.{times, is_among}
+use Rattle.grin_meaning.specs.Pieces.{IsStill}
+use Rattle.seq.proofs.Counted.{times_fewer, times_append, among_first, among_append}
+use Rattle.grin_meaning.proofs.Scopes.{among_in}
 
 -- ---- what a piece has of its kind
 
@@ -143,10 +146,10 @@ procs_params most (q ∷ qs) h = (h.0, procs_params most qs h.1)
 -- ---- no statement is idle
 
 -- where a piece doesn't name x, x is not among its uses
-absent_both : (x : ℕ) (xs ys : List ℕ) → stands x xs ≡ false → stands x ys ≡ false → stands x (xs ++ ys) ≡ false
-absent_both x xs ys h k = stands_append x xs ys ∙ (λ i. h i || k i)
+absent_both : (x : ℕ) (xs ys : List ℕ) → is_among x xs ≡ false → is_among x ys ≡ false → is_among x (xs ++ ys) ≡ false
+absent_both x xs ys h k = among_append x xs ys ∙ (λ i. h i || k i)
 
-other_number : (x y : ℕ) → y ≢ x → stands x (y ∷ []) ≡ false
+other_number : (x y : ℕ) → y ≢ x → is_among x (y ∷ []) ≡ false
 other_number x y h = go (nat_eq x y) refl
   where
     go : (b : Bool) → nat_eq x y ≡ b → (b || false) ≡ false
@@ -157,30 +160,30 @@ module _ (x : ℕ) where
   abbrev Other : ℕ → Type 0
   Other y = y ≢ x
 
-  word_absent : (a : W.Word) → WordOk Other a → stands x (word_uses a) ≡ false
+  word_absent : (a : W.Word) → WordOk Other a → is_among x (word_uses a) ≡ false
   word_absent (Var y) h = other_number x y.0 h
   word_absent (Lit k) h = refl
   word_absent (Global i) h = refl
   word_absent (TagWord t) h = refl
 
-  words_absent : (ws : List W.Word) → WordsOk Other ws → stands x (words_uses ws) ≡ false
+  words_absent : (ws : List W.Word) → WordsOk Other ws → is_among x (words_uses ws) ≡ false
   words_absent [] h = refl
   words_absent (a ∷ ws) h = absent_both x (word_uses a) (words_uses ws) (word_absent a h.0) (words_absent ws h.1)
 
-  val_absent : (v : V.Val) → ValOk Other v → stands x (val_uses v) ≡ false
+  val_absent : (v : V.Val) → ValOk Other v → is_among x (val_uses v) ≡ false
   val_absent (NodeVar y) h = other_number x y.0 h
   val_absent (Node t ws) h = words_absent ws h
   val_absent (Vector ws) h = words_absent ws h
   val_absent (One a) h = word_absent a h
 
-  cells_absent : (cs : List Cell) → CellsOk Other cs → stands x (cells_uses cs) ≡ false
+  cells_absent : (cs : List Cell) → CellsOk Other cs → is_among x (cells_uses cs) ≡ false
   cells_absent [] h = refl
   cells_absent (c ∷ cs) h = absent_both x (val_uses c.val) (cells_uses cs) (val_absent c.val h.0) (cells_absent cs h.1)
 
   mutual
     unfolding act_uses ActOk
 
-    act_absent : (o : Act) → ActOk Other o → stands x (act_uses o) ≡ false
+    act_absent : (o : Act) → ActOk Other o → is_among x (act_uses o) ≡ false
     act_absent (unit v) h = val_absent v h
     act_absent (fetch a) h = word_absent a h
     act_absent (fetch_word a i) h = word_absent a h
@@ -195,12 +198,12 @@ module _ (x : ℕ) where
     act_absent (nested b) h = code_absent b h
     act_absent fail h = refl
 
-    pub code_absent : (b : Code) → CodeOk Other b → stands x (code_uses b) ≡ false
+    pub code_absent : (b : Code) → CodeOk Other b → is_among x (code_uses b) ≡ false
     code_absent (end o) h = act_absent o h
     code_absent (store cs b) h = absent_both x (code_uses b) (cells_uses cs) (code_absent b h.1) (cells_absent cs h.0)
     code_absent (bind t o b) h = absent_both x (code_uses b) (act_uses o) (code_absent b h.1) (act_absent o h.0)
 
-    arms_absent : (as' : Arms) → ArmsOk Other as' → stands x (arms_uses as') ≡ false
+    arms_absent : (as' : Arms) → ArmsOk Other as' → is_among x (arms_uses as') ≡ false
     arms_absent no_arm h = refl
     arms_absent (arm s b as') h = absent_both x (code_uses b) (arms_uses as') (code_absent b h.0) (arms_absent as' h.1)
 
@@ -290,8 +293,8 @@ procs_needed (q ∷ qs) h = (code_needed q.body h.0, procs_needed qs h.1)
 
 bind_counts : (y : ℕ) (t : Target) (o o' : Act) (b c : Code) (q : Bool) → times y (act_vars o') ≤ times y (act_vars o) → times y (code_vars c) ≤ times y (code_vars b) → times y (code_vars (unless q (bind t o') c)) ≤ times y (code_vars (bind t o b))
 unfolding act_vars
-bind_counts y t o o' b c false h k = more y (target_vars t) (act_vars o' ++ code_vars c) (target_vars t) (act_vars o ++ code_vars b) (omega arith) (more y (act_vars o') (code_vars c) (act_vars o) (code_vars b) h k)
-bind_counts y t o o' b c true h k = more y [] (code_vars c) (target_vars t) (act_vars o ++ code_vars b) (omega arith) (more y [] (code_vars c) (act_vars o) (code_vars b) (omega arith) k)
+bind_counts y t o o' b c false h k = times_fewer y (target_vars t) (act_vars o' ++ code_vars c) (target_vars t) (act_vars o ++ code_vars b) (omega arith) (times_fewer y (act_vars o') (code_vars c) (act_vars o) (code_vars b) h k)
+bind_counts y t o o' b c true h k = times_fewer y [] (code_vars c) (target_vars t) (act_vars o ++ code_vars b) (omega arith) (times_fewer y [] (code_vars c) (act_vars o) (code_vars b) (omega arith) k)
 
 mutual
   unfolding lean_act act_vars
@@ -313,18 +316,18 @@ mutual
 
   code_counts : (y : ℕ) (b : Code) → times y (code_vars (lean_code b)) ≤ times y (code_vars b)
   code_counts y (end o) = act_counts y o
-  code_counts y (store cs b) = more y (cell_vars cs) (code_vars (lean_code b)) (cell_vars cs) (code_vars b) (omega arith) (code_counts y b)
+  code_counts y (store cs b) = times_fewer y (cell_vars cs) (code_vars (lean_code b)) (cell_vars cs) (code_vars b) (omega arith) (code_counts y b)
   code_counts y (bind t o b) = bind_counts y t o (lean_act o) b (lean_code b) (is_idle t o (code_uses (lean_code b))) (act_counts y o) (code_counts y b)
 
   arms_counts : (y : ℕ) (as' : Arms) → times y (arms_vars (lean_arms as')) ≤ times y (arms_vars as')
   arms_counts y no_arm = omega arith
-  arms_counts y (arm s b as') = more y (shape_vars s) (code_vars (lean_code b) ++ arms_vars (lean_arms as')) (shape_vars s) (code_vars b ++ arms_vars as') (omega arith)
-      (more y (code_vars (lean_code b)) (arms_vars (lean_arms as')) (code_vars b) (arms_vars as') (code_counts y b) (arms_counts y as'))
+  arms_counts y (arm s b as') = times_fewer y (shape_vars s) (code_vars (lean_code b) ++ arms_vars (lean_arms as')) (shape_vars s) (code_vars b ++ arms_vars as') (omega arith)
+      (times_fewer y (code_vars (lean_code b)) (arms_vars (lean_arms as')) (code_vars b) (arms_vars as') (code_counts y b) (arms_counts y as'))
 
 procs_counts : (y : ℕ) (qs : List Procedure) → times y (procs_vars (map (rewritten_procedure lean_code) qs)) ≤ times y (procs_vars qs)
 procs_counts y [] = omega arith
-procs_counts y (q ∷ qs) = more y (numbers_of q.params ++ code_vars (lean_code q.body)) (procs_vars (map (rewritten_procedure lean_code) qs)) (numbers_of q.params ++ code_vars q.body) (procs_vars qs)
-    (more y (numbers_of q.params) (code_vars (lean_code q.body)) (numbers_of q.params) (code_vars q.body) (omega arith) (code_counts y q.body)) (procs_counts y qs)
+procs_counts y (q ∷ qs) = times_fewer y (numbers_of q.params ++ code_vars (lean_code q.body)) (procs_vars (map (rewritten_procedure lean_code) qs)) (numbers_of q.params ++ code_vars q.body) (procs_vars qs)
+    (times_fewer y (numbers_of q.params) (code_vars (lean_code q.body)) (numbers_of q.params) (code_vars q.body) (omega arith) (code_counts y q.body)) (procs_counts y qs)
 
 still_sites : (o : Act) → is_still o ≡ true → act_sites o ≡ []
 unfolding act_sites
@@ -408,10 +411,7 @@ carried_past ts used scope scope' none cov x h i = go (times x ts) refl
   where
     go : (n : ℕ) → times x ts ≡ n → InScope scope' x
     go zero e = let a : times x (ts ++ scope.words) ≡ times x ts + times x scope.words = times_append x ts scope.words in cov x h (omega (arith, i, e, a))
-    go (suc n) e = absurd (not_both (stands x used) h (none_absent x ts used none (in_stands x ts (omega (arith, e)))))
-
-first_stands : (x : ℕ) (xs : List ℕ) → stands x (x ∷ xs) ≡ true
-first_stands x xs = or_left _ (stands x xs) (eq_self x)
+    go (suc n) e = absurd (not_both (is_among x used) h (none_absent x ts used none (among_in x ts (omega (arith, e)))))
 
 module _ (g : Program) (procs : List Procedure) (same_count : length procs ≡ length g.procs) where
   abbrev there : Program
@@ -422,7 +422,7 @@ module _ (g : Program) (procs : List Procedure) (same_count : length procs ≡ l
     Carries = Covers (Carried scope scope')
 
     word_formed : (a : W.Word) → Carries (word_uses a) → WordFormed g scope a → WordFormed there (as_scope scope') a
-    word_formed (Var x) c f = c x.0 (first_stands x.0 []) f
+    word_formed (Var x) c f = c x.0 (among_first x.0 []) f
     word_formed (Lit k) c f = f
     word_formed (Global i) c f = f
     word_formed (TagWord t) c f = f

@@ -1,7 +1,6 @@
 -- A program without its idle statements does the same.
 use Rattle.std.proofs.Common.{◌≡◌, ℕ, suc, Bool, true, false, cond, not, ◌&&◌, List, [], ◌∷◌, ◌++◌, map, Some, refl, sym, ap, ◌∙◌}
-use Rattle.seq.proofs.Order.{eq_self}
-use Rattle.seq.proofs.Truth.{not_both, or_left, and_left, and_right}
+use Rattle.seq.proofs.Truth.{not_both, and_left, and_right}
 use Rattle.grin_syntax.specs.declared.program.Cell.{Cell}
 use Rattle.grin_syntax.specs.declared.program.Target.{Target}
 use Rattle.grin_syntax.specs.declared.program.Word as W
@@ -21,32 +20,34 @@ use Rattle.grin_meaning.specs.Looking.{look, NeverMissed}
 use Rattle.grin_meaning.proofs.Back.{CallsBack}
 use Rattle.grin_meaning.proofs.Beside.{no_deeper, Likewise, Seen}
 use Rattle.grin_meaning.proofs.Rules.{Plan, Setting, CallsFollow, ActFollows, CodeFollows, ArmsFollow, nested_follows, end_follows}
-use Rattle.grin_meaning.proofs.Procedures.{nothing, BodiesFollow, no_more, one_more, side_by_side, run_follows}
+use Rattle.grin_meaning.proofs.Procedures.{BodiesFollow, no_more, one_more, side_by_side, run_follows}
 use Rattle.grin_meaning.proofs.Plain.{Has, IsPlain, On, having, leaf_follows, store_same, bind_same, case_same, no_arm_same, arm_same}
 use Rattle.grin_meaning.proofs.Bodies.{AnyState, every_any}
 use Rattle.grin_meaning.proofs.KeptBy.{likewise_kept, looking_kept}
-use Rattle.grin_meaning.proofs.OneSided.{IsStill, left_follows}
-use Rattle.copy_prop.specs.Lean.{word_uses, words_uses, val_uses, cells_uses, act_uses, code_uses, arms_uses, stands, is_still, is_idle, unless, lean_act, lean_code, lean_arms, lean}
-use Rattle.copy_prop.proofs.Used.{stands_left, stands_right, none_absent}
-use Rattle.copy_prop.proofs.Bound.{names, others_stay, names_target}
+use Rattle.grin_meaning.proofs.OneSided.{left_follows}
+use Rattle.copy_prop.specs.Lean.{word_uses, words_uses, val_uses, cells_uses, act_uses, code_uses, arms_uses, is_still, is_idle, unless, lean_act, lean_code, lean_arms, lean}
+use Rattle.copy_prop.proofs.Used.{none_absent}
+use Rattle.copy_prop.proofs.Bound.{others_stay, names_target}
+use Rattle.seq.specs.Lists.{is_among}
+use Rattle.grin_meaning.specs.Pieces.{IsStill}
+use Rattle.seq.proofs.Counted.{among_first, among_left, among_right}
+use Rattle.grin_meaning.proofs.Paired.{nothing}
+use Rattle.grin_meaning.proofs.Bindings.{keys}
 
 -- ---- what a piece uses is of some kind
 
 abbrev pub Covers : (ℕ → Type 0) → List ℕ → Type 0
-Covers Ok ys = (x : ℕ) → stands x ys ≡ true → Ok x
+Covers Ok ys = (x : ℕ) → is_among x ys ≡ true → Ok x
 
 pub covers_left : (Ok : ℕ → Type 0) (xs ys : List ℕ) → Covers Ok (xs ++ ys) → Covers Ok xs
-covers_left Ok xs ys c x h = c x (stands_left x xs ys h)
+covers_left Ok xs ys c x h = c x (among_left x xs ys h)
 
 pub covers_right : (Ok : ℕ → Type 0) (xs ys : List ℕ) → Covers Ok (xs ++ ys) → Covers Ok ys
-covers_right Ok xs ys c x h = c x (stands_right x xs ys h)
-
-first_stands : (x : ℕ) (xs : List ℕ) → stands x (x ∷ xs) ≡ true
-first_stands x xs = or_left _ (stands x xs) (eq_self x)
+covers_right Ok xs ys c x h = c x (among_right x xs ys h)
 
 module _ (Ok : ℕ → Type 0) where
   pub word_covered : (a : W.Word) → Covers Ok (word_uses a) → WordOk Ok a
-  word_covered (Var x) c = c x.0 (first_stands x.0 [])
+  word_covered (Var x) c = c x.0 (among_first x.0 [])
   word_covered (Lit k) c = tt
   word_covered (Global i) c = tt
   word_covered (TagWord t) c = tt
@@ -56,7 +57,7 @@ module _ (Ok : ℕ → Type 0) where
   words_covered (a ∷ ws) c = (word_covered a (covers_left Ok (word_uses a) (words_uses ws) c), words_covered ws (covers_right Ok (word_uses a) (words_uses ws) c))
 
   pub val_covered : (v : V.Val) → Covers Ok (val_uses v) → ValOk Ok v
-  val_covered (NodeVar x) c = c x.0 (first_stands x.0 [])
+  val_covered (NodeVar x) c = c x.0 (among_first x.0 [])
   val_covered (Node t ws) c = words_covered ws c
   val_covered (Vector ws) c = words_covered ws c
   val_covered (One a) c = word_covered a c
@@ -148,12 +149,12 @@ module _ (g : Program) where
         (λ v seen l. bound_well g t o (lean_act o) v (still_has_block o) (still_fetch o) ∙ seen l)
         (f Ok (covers_right Ok (code_uses (lean_code b)) (act_uses (lean_act o)) cov)) (k Ok (covers_left Ok (code_uses (lean_code b)) (act_uses (lean_act o)) cov))
     bind_goes Ok t o b f k true e cov =
-        left_follows it {R' = λ heap. Has (λ x. stands x (code_uses (lean_code b)) ≡ true)} t o b (lean_code b) (still_is o (and_left (is_still o) _ e)) (k (λ x. stands x (code_uses (lean_code b)) ≡ true) (λ x h. h))
-        (λ x v bs gave seen binds known y u used has. x.related y u (cov y used) (sym (others_stay bs x.env y (here y used bs (stands y (names bs)) refl (names_target g t v bs binds))) ∙ has))
+        left_follows it {R' = λ heap. Has (λ x. is_among x (code_uses (lean_code b)) ≡ true)} t o b (lean_code b) (still_is o (and_left (is_still o) _ e)) (k (λ x. is_among x (code_uses (lean_code b)) ≡ true) (λ x h. h))
+        (λ x v bs gave seen binds known y u used has. x.related y u (cov y used) (sym (others_stay bs x.env y (here y used bs (is_among y (keys bs)) refl (names_target g t v bs binds))) ∙ has))
       where
-        here : (y : ℕ) → stands y (code_uses (lean_code b)) ≡ true → (bs : List Binding) (z : Bool) → stands y (names bs) ≡ z → names bs ≡ target_vars t → stands y (names bs) ≡ false
+        here : (y : ℕ) → is_among y (code_uses (lean_code b)) ≡ true → (bs : List Binding) (z : Bool) → is_among y (keys bs) ≡ z → keys bs ≡ target_vars t → is_among y (keys bs) ≡ false
         here y used bs false s n = s
-        here y used bs true s n = absurd (not_both _ used (none_absent y (target_vars t) (code_uses (lean_code b)) (and_right (is_still o) _ e) (ap (stands y) (sym n) ∙ s)))
+        here y used bs true s n = absurd (not_both _ used (none_absent y (target_vars t) (code_uses (lean_code b)) (and_right (is_still o) _ e) (ap (is_among y) (sym n) ∙ s)))
 
     mutual
       unfolding lean_act act_uses ActOk

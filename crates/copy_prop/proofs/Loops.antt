@@ -14,7 +14,7 @@ use Rattle.grin_syntax.specs.declared.program.Op.TheVariants.{Case}
 use Rattle.grin_syntax.specs.declared.program.Stmt.TheVariants.{Bind}
 use Rattle.grin_syntax.specs.Tree.{Code, Arms, no_arm, arm, case, act_of, before_of, arm_of, code_of, all_before, arms_of, Procedure, procedure_of, program_of}
 use Rattle.grin_syntax.proofs.TreeOf.{act_of-Case, before_of-Bind}
-use Rattle.grin_syntax.proofs.Pieces.{all_arms, all_arms_none, all_before_push}
+use Rattle.grin_syntax.proofs.Pieces.{all_arms, all_arms_none, all_before_push, arms_push}
 use Rattle.copy_prop.specs.Resolved.{Table, Alias, put, as_word, as_val, alias_of, noted_alias, kept, noted_act, noted_code, noted_arms, resolved_act, resolved_code, resolved_arms, resolved_procs, resolved}
 use Rattle.copy_prop.proofs.Held.{alias_is}
 
@@ -81,10 +81,6 @@ pub record ArmsResolve (k0 k : Table) (made from : List Alt) : Type 0 where
 
 pub no_arms : (k : Table) → ArmsResolve k k [] []
 no_arms k = record { by = λ r. refl; noted = λ r. refl }
-
-arms_push : (as' : List Alt) (a : Alt) (r : Arms) → all_arms (map arm_of (as' ++ a ∷ [])) r ≡ all_arms (map arm_of as') (arm (arm_of a).0 (arm_of a).1 r)
-arms_push [] a r = refl
-arms_push (b ∷ as') a r = ap (arm (arm_of b).0 (arm_of b).1) (arms_push as' a r)
 
 pub arm_resolves : (k0 k k' : Table) (made from : List Alt) (m a : Alt) → ArmsResolve k0 k made from → arm_of m ≡ ((arm_of a).0, resolved_code k (arm_of a).1) → k' ≡ noted_code (arm_of a).1 k
     → ArmsResolve k0 k' (made ++ m ∷ []) (from ++ a ∷ [])

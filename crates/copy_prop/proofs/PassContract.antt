@@ -81,7 +81,7 @@ module _ (g : Program) (g_is : OfVectors g) where
 
 -- ---- both
 
-outside_again : (g h k : Program) → SameOutside g h → SameOutside h k → SameOutside g k
+pub outside_again : (g h k : Program) → SameOutside g h → SameOutside h k → SameOutside g k
 outside_again g h k a b = record {
   same_tags = b.same_tags ∙ a.same_tags;
   same_globals = b.same_globals ∙ a.same_globals;

@@ -8,16 +8,17 @@ use Rattle.grin_syntax.specs.declared.program.Word as W
 use Rattle.grin_syntax.specs.declared.program.Val as V
 use Rattle.grin_syntax.specs.declared.program.Val.TheVariants.{NodeVar, Node, Vector, One}
 use Rattle.grin_syntax.specs.Tree.{Code, end, store, bind, Act, unit, fetch, fetch_word, update, eval, apply, call, prim, read, write, case, nested, fail, Arms, no_arm, arm, Procedure, Program}
-use Rattle.grin_syntax.specs.Binders.{times, numbers_of, target_vars, shape_vars, cell_vars, act_vars, code_vars, arms_vars, procs_vars, act_sites, code_sites, arms_sites, procs_sites}
+use Rattle.grin_syntax.specs.Binders.{numbers_of, target_vars, shape_vars, cell_vars, act_vars, code_vars, arms_vars, procs_vars, act_sites, code_sites, arms_sites, procs_sites}
 use Rattle.grin_syntax.specs.Formed.{AllOf, Scope, with_words, with_target, params_scope, WordFormed, ValFormed, CellFormed, ActFormed, CodeFormed, ArmsFormed, ProcedureFormed, Formed}
 use Rattle.grin_syntax.specs.SameOutside.{names_of, SameOutside}
-use Rattle.grin_syntax.proofs.Counted.{times_append}
 use Rattle.grin_syntax.proofs.Scopes.{with_procs, known_again, shape_stays, same_sites, formed_with}
 use Rattle.grin_meaning.specs.Ready.{Inlined, ByWords, NoNodeTarget, NoNodeVar, EachAct, EachCode, EachArms, val_width, NarrowAct, NarrowCode, NarrowArms, Kind, EachBody, vectorised_kind}
 use Rattle.copy_prop.specs.Resolved.{Table, Alias, as_word, as_words, as_val, as_cells, alias_of, noted_alias, unless_alias, noted_act, noted_code, resolved_act, resolved_code, resolved_arms, resolved_procs, resolved}
 use Rattle.copy_prop.specs.Copied.{IsCopy, BoundAct, BoundCode, BoundArms}
 use Rattle.copy_prop.proofs.Held.{as_scope, alias_is, target_scope, Held, word_held, held_more, held_alias}
 use Rattle.copy_prop.proofs.ResolvedSame.{held_bound, held_arms, held_middle, params_held, Fresh, fresh_here, fresh_next, once_here, once_next}
+use Rattle.seq.specs.Lists.{times}
+use Rattle.seq.proofs.Counted.{times_fewer}
 
 -- ---- what a piece has of its kind
 
@@ -250,13 +251,10 @@ cell_sites_stay : (k : Table) (cs : List Cell) → map (λ c. c.site.0) (as_cell
 cell_sites_stay k [] = refl
 cell_sites_stay k (c ∷ cs) = ap (λ xs. c.site.0 ∷ xs) (cell_sites_stay k cs)
 
-pub more : (y : ℕ) (xs ys xs' ys' : List ℕ) → times y xs ≤ times y xs' → times y ys ≤ times y ys' → times y (xs ++ ys) ≤ times y (xs' ++ ys')
-more y xs ys xs' ys' h k = let a : times y (xs ++ ys) ≡ times y xs + times y ys = times_append y xs ys in let b : times y (xs' ++ ys') ≡ times y xs' + times y ys' = times_append y xs' ys' in omega (arith, h, k, a, b)
-
 bind_counts : (y : ℕ) (t : Target) (o o' : Act) (b c : Code) (q : Option Alias) → times y (act_vars o') ≤ times y (act_vars o) → times y (code_vars c) ≤ times y (code_vars b) → times y (code_vars (unless_alias q (bind t o') c)) ≤ times y (code_vars (bind t o b))
 unfolding act_vars
-bind_counts y t o o' b c None h k = more y (target_vars t) (act_vars o' ++ code_vars c) (target_vars t) (act_vars o ++ code_vars b) (omega arith) (more y (act_vars o') (code_vars c) (act_vars o) (code_vars b) h k)
-bind_counts y t o o' b c (Some a) h k = more y [] (code_vars c) (target_vars t) (act_vars o ++ code_vars b) (omega arith) (more y [] (code_vars c) (act_vars o) (code_vars b) (omega arith) k)
+bind_counts y t o o' b c None h k = times_fewer y (target_vars t) (act_vars o' ++ code_vars c) (target_vars t) (act_vars o ++ code_vars b) (omega arith) (times_fewer y (act_vars o') (code_vars c) (act_vars o) (code_vars b) h k)
+bind_counts y t o o' b c (Some a) h k = times_fewer y [] (code_vars c) (target_vars t) (act_vars o ++ code_vars b) (omega arith) (times_fewer y [] (code_vars c) (act_vars o) (code_vars b) (omega arith) k)
 
 mutual
   unfolding resolved_act act_vars
@@ -278,18 +276,18 @@ mutual
 
   code_counts : (y : ℕ) (k : Table) (b : Code) → times y (code_vars (resolved_code k b)) ≤ times y (code_vars b)
   code_counts y k (end o) = act_counts y k o
-  code_counts y k (store cs b) = more y (cell_vars (as_cells k cs)) (code_vars (resolved_code k b)) (cell_vars cs) (code_vars b) (subst (λ xs. times y xs ≤ times y (cell_vars cs)) (sym (cell_vars_stay k cs)) (omega arith)) (code_counts y k b)
+  code_counts y k (store cs b) = times_fewer y (cell_vars (as_cells k cs)) (code_vars (resolved_code k b)) (cell_vars cs) (code_vars b) (subst (λ xs. times y xs ≤ times y (cell_vars cs)) (sym (cell_vars_stay k cs)) (omega arith)) (code_counts y k b)
   code_counts y k (bind t o b) = bind_counts y t o (resolved_act k o) b (resolved_code (noted_alias (alias_of t o) (noted_act o k)) b) (alias_of t o) (act_counts y k o) (code_counts y (noted_alias (alias_of t o) (noted_act o k)) b)
 
   arms_counts : (y : ℕ) (k : Table) (as' : Arms) → times y (arms_vars (resolved_arms k as')) ≤ times y (arms_vars as')
   arms_counts y k no_arm = omega arith
-  arms_counts y k (arm s b as') = more y (shape_vars s) (code_vars (resolved_code k b) ++ arms_vars (resolved_arms (noted_code b k) as')) (shape_vars s) (code_vars b ++ arms_vars as') (omega arith)
-      (more y (code_vars (resolved_code k b)) (arms_vars (resolved_arms (noted_code b k) as')) (code_vars b) (arms_vars as') (code_counts y k b) (arms_counts y (noted_code b k) as'))
+  arms_counts y k (arm s b as') = times_fewer y (shape_vars s) (code_vars (resolved_code k b) ++ arms_vars (resolved_arms (noted_code b k) as')) (shape_vars s) (code_vars b ++ arms_vars as') (omega arith)
+      (times_fewer y (code_vars (resolved_code k b)) (arms_vars (resolved_arms (noted_code b k) as')) (code_vars b) (arms_vars as') (code_counts y k b) (arms_counts y (noted_code b k) as'))
 
 pub procs_counts : (y : ℕ) (k : Table) (qs : List Procedure) → times y (procs_vars (resolved_procs k qs)) ≤ times y (procs_vars qs)
 procs_counts y k [] = omega arith
-procs_counts y k (q ∷ qs) = more y (numbers_of q.params ++ code_vars (resolved_code k q.body)) (procs_vars (resolved_procs (noted_code q.body k) qs)) (numbers_of q.params ++ code_vars q.body) (procs_vars qs)
-    (more y (numbers_of q.params) (code_vars (resolved_code k q.body)) (numbers_of q.params) (code_vars q.body) (omega arith) (code_counts y k q.body)) (procs_counts y (noted_code q.body k) qs)
+procs_counts y k (q ∷ qs) = times_fewer y (numbers_of q.params ++ code_vars (resolved_code k q.body)) (procs_vars (resolved_procs (noted_code q.body k) qs)) (numbers_of q.params ++ code_vars q.body) (procs_vars qs)
+    (times_fewer y (numbers_of q.params) (code_vars (resolved_code k q.body)) (numbers_of q.params) (code_vars q.body) (omega arith) (code_counts y k q.body)) (procs_counts y (noted_code q.body k) qs)
 
 bind_sites : (t : Target) (o o' : Act) (b c : Code) (q : Option Alias) → alias_of t o ≡ q → act_sites o' ≡ act_sites o → code_sites c ≡ code_sites b → code_sites (unless_alias q (bind t o') c) ≡ code_sites (bind t o b)
 unfolding act_sites

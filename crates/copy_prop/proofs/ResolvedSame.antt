@@ -10,9 +10,8 @@ use Rattle.grin_syntax.specs.declared.program.Word as W
 use Rattle.grin_syntax.specs.declared.program.Val as V
 use Rattle.grin_syntax.specs.declared.program.Val.TheVariants.{One}
 use Rattle.grin_syntax.specs.Tree.{Code, end, store, bind, Act, unit, fetch, fetch_word, update, eval, apply, call, prim, read, write, case, nested, fail, Arms, no_arm, arm, Procedure, Program}
-use Rattle.grin_syntax.specs.Binders.{times, numbers_of, target_vars, shape_vars, cell_vars, act_vars, code_vars, arms_vars, procs_vars}
+use Rattle.grin_syntax.specs.Binders.{numbers_of, target_vars, shape_vars, cell_vars, act_vars, code_vars, arms_vars, procs_vars}
 use Rattle.grin_syntax.specs.Formed.{AllOf, Scope, InScope, with_words, with_target, params_scope, WordFormed, ValFormed, CellFormed, ActFormed, CodeFormed, ArmsFormed, ProcedureFormed, Formed}
-use Rattle.grin_syntax.proofs.Counted.{times_append, counts}
 use Rattle.grin_meaning.specs.Values.{Datum, cell, Value, words, Env, HeapCell, World, gives, need, and_then, Binding, with_vars, one_each, fits, fit_of, word_of, bindings_of}
 use Rattle.grin_meaning.specs.Run.{Calls, act_by, places, cells_of, place_of}
 use Rattle.grin_meaning.specs.Checks.{has_block, is_fetch, is_given, all_fill, is_bound_well}
@@ -23,8 +22,8 @@ use Rattle.grin_meaning.specs.Looking.{look, NeverMissed}
 use Rattle.grin_meaning.proofs.Back.{CallsBack}
 use Rattle.grin_meaning.proofs.Beside.{no_deeper, Likewise, Seen}
 use Rattle.grin_meaning.proofs.Rules.{Relation, Plan, Here, Setting, CallsFollow, ActFollows, CodeFollows, ArmsFollow, BindsToo, FitsToo, CellToo, unit_follows, fetch_follows, fetch_word_follows, update_follows, call_follows, prim_follows, read_follows, write_follows, fail_follows, nested_follows, end_follows, store_follows, bind_follows, case_follows, no_arm_follows, arm_follows}
-use Rattle.grin_meaning.proofs.Procedures.{nothing, BodiesFollow, no_more, one_more, side_by_side, run_follows}
-use Rattle.grin_meaning.proofs.Plain.{On, then_has, word_has, words_have, value_has, node_has, cells_have, fills_too, node_fills, all_fill_too}
+use Rattle.grin_meaning.proofs.Procedures.{BodiesFollow, no_more, one_more, side_by_side, run_follows}
+use Rattle.grin_meaning.proofs.Plain.{On, then_has, word_has, words_have, value_has, node_has, cells_have, fills_too, node_fills, all_fill_too, same_is}
 use Rattle.grin_meaning.proofs.Bodies.{AnyState, every_any}
 use Rattle.grin_meaning.proofs.KeptBy.{likewise_kept, looking_kept}
 use Rattle.grin_meaning.proofs.OneSided.{left_follows}
@@ -33,6 +32,10 @@ use Rattle.copy_prop.proofs.Bound.{names_places, names_target, binds_nothing}
 use Rattle.copy_prop.proofs.LeanSame.{bound_well}
 use Rattle.copy_prop.proofs.Held.{entry_put, entry_other, alias_is, act_keeps, code_keeps, target_scope, as_scope, Held, held_some, held_more, held_walked, held_alias}
 use Rattle.copy_prop.proofs.Via.{word_ok, words_ok, val_ok, cells_ok, via, looked_up, word_via, words_via, value_via, node_via, cells_via, fills_via, all_fill_via, St, st_entries, st_more}
+use Rattle.seq.specs.Lists.{times}
+use Rattle.seq.proofs.Counted.{counts, times_append}
+use Rattle.grin_meaning.proofs.Following.{is_same}
+use Rattle.grin_meaning.proofs.Paired.{nothing}
 
 -- ---- operations stay what they are
 
@@ -71,12 +74,6 @@ same_fetch k fail = refl
 places_stay : (k : Table) (n : ℕ) (cs : List Cell) → places n (as_cells k cs) ≡ places n cs
 places_stay k n [] = refl
 places_stay k n (c ∷ cs) = ap (λ bs. (c.var.0, words (cell n ∷ [])) ∷ bs) (places_stay k (suc n) cs)
-
-same_is : {A : Type 0} {a b : A} → Same a b → b ≡ a
-same_is same = refl
-
-is_same : {A : Type 0} (a b : A) → b ≡ a → Same a b
-is_same a b e = subst (Same a) (sym e) same
 
 -- ---- where variables stand
 

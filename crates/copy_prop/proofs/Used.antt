@@ -3,85 +3,50 @@ use Rattle.std.proofs.Common.{◌≡◌, ℕ, zero, suc, ◌+◌, ◌<◌, Bool,
 use Rattle.std.proofs.lemmas.Bool.Decides.{nat_tests}
 use Rattle.std.proofs.lemmas.List.{get_or-set_same, get_or-set_other, take_more}
 use Rattle.seq.proofs.Order.{eq_from}
-use Rattle.seq.proofs.Truth.{not_both, or_left, or_right, neither_left, neither_right, and_left, and_right, not_true}
+use Rattle.seq.proofs.Truth.{not_both, and_left, and_right, not_true}
 use Rattle.seq.proofs.Lists.{append_again, append_nil}
 use Rattle.grin_syntax.specs.declared.program.VarId.{VarId}
 use Rattle.grin_syntax.specs.declared.program.Cell.{Cell}
 use Rattle.grin_syntax.specs.declared.program.Word as W
-use Rattle.grin_syntax.specs.Binders.{times, numbers_of}
+use Rattle.grin_syntax.specs.Binders.{numbers_of}
 use Rattle.grin_syntax.specs.Formed.{InScope}
-use Rattle.grin_syntax.proofs.Counted.{counts}
-use Rattle.copy_prop.specs.Lean.{stands, none_stands, word_uses, words_uses, val_uses, cells_uses}
+use Rattle.copy_prop.specs.Lean.{none_stands, word_uses, words_uses, val_uses, cells_uses}
 use Rattle.copy_prop.specs.Latest.{Latest}
-pub use Rattle.seq.proofs.Lists.{append_again}
-pub use Rattle.seq.proofs.Lists.{append_nil as append_none}
+use Rattle.seq.specs.Lists.{times, is_among}
+use Rattle.seq.proofs.Counted.{counts, among_append}
 
 -- ---- tests
 
 -- ---- in a list
 
-pub stands_append : (x : ℕ) (xs ys : List ℕ) → stands x (xs ++ ys) ≡ (stands x xs || stands x ys)
-stands_append x [] ys = refl
-stands_append x (y ∷ xs) ys = go (nat_eq x y) (stands_append x xs ys)
-  where
-    go : (b : Bool) → stands x (xs ++ ys) ≡ (stands x xs || stands x ys) → (b || stands x (xs ++ ys)) ≡ ((b || stands x xs) || stands x ys)
-    go true h = refl
-    go false h = h
-
-pub stands_left : (x : ℕ) (xs ys : List ℕ) → stands x xs ≡ true → stands x (xs ++ ys) ≡ true
-stands_left x xs ys h = stands_append x xs ys ∙ or_left (stands x xs) (stands x ys) h
-
-pub stands_right : (x : ℕ) (xs ys : List ℕ) → stands x ys ≡ true → stands x (xs ++ ys) ≡ true
-stands_right x xs ys h = stands_append x xs ys ∙ or_right (stands x xs) (stands x ys) h
-
-pub absent_left : (x : ℕ) (xs ys : List ℕ) → stands x (xs ++ ys) ≡ false → stands x xs ≡ false
-absent_left x xs ys h = neither_left (stands x xs) (stands x ys) (sym (stands_append x xs ys) ∙ h)
-
-pub absent_right : (x : ℕ) (xs ys : List ℕ) → stands x (xs ++ ys) ≡ false → stands x ys ≡ false
-absent_right x xs ys h = neither_right (stands x xs) (stands x ys) (sym (stands_append x xs ys) ∙ h)
-
-pub stands_in : (x : ℕ) (xs : List ℕ) → stands x xs ≡ true → InScope xs x
+pub stands_in : (x : ℕ) (xs : List ℕ) → is_among x xs ≡ true → InScope xs x
 stands_in x [] h = cc
 stands_in x (y ∷ ys) h = go (nat_eq x y) h (stands_in x ys)
   where
-    go : (b : Bool) → (b || stands x ys) ≡ true → (stands x ys ≡ true → InScope ys x) → 0 < counts b + times x ys
+    go : (b : Bool) → (b || is_among x ys) ≡ true → (is_among x ys ≡ true → InScope ys x) → 0 < counts b + times x ys
     go true h k = omega arith
     go false h k = let i : InScope ys x = k h in omega (arith, i)
 
-pub absent_out : (x : ℕ) (xs : List ℕ) → stands x xs ≡ false → times x xs ≡ 0
-absent_out x [] h = refl
-absent_out x (y ∷ ys) h = go (nat_eq x y) h (absent_out x ys)
-  where
-    go : (b : Bool) → (b || stands x ys) ≡ false → (stands x ys ≡ false → times x ys ≡ 0) → counts b + times x ys ≡ 0
-    go true h k = cc
-    go false h k = let i : times x ys ≡ 0 = k h in omega (arith, i)
-
 -- what is in scope in two lists is so in one of them, and the other way round
-pub in_stands : (x : ℕ) (xs : List ℕ) → InScope xs x → stands x xs ≡ true
-in_stands x xs i = go (stands x xs) refl
-  where
-    go : (b : Bool) → stands x xs ≡ b → b ≡ true
-    go true q = refl
-    go false q = let z : times x xs ≡ 0 = absent_out x xs q in absurd (omega (arith, z, i))
 
--- none of the first stands in the second
-pub none_absent : (x : ℕ) (xs ys : List ℕ) → none_stands xs ys ≡ true → stands x xs ≡ true → stands x ys ≡ false
+-- none of the first is_among in the second
+pub none_absent : (x : ℕ) (xs ys : List ℕ) → none_stands xs ys ≡ true → is_among x xs ≡ true → is_among x ys ≡ false
 none_absent x [] ys h s = cc
-none_absent x (y ∷ xs) ys h s = go (nat_eq x y) refl s (none_absent x xs ys (and_right (not (stands y ys)) (none_stands xs ys) h))
+none_absent x (y ∷ xs) ys h s = go (nat_eq x y) refl s (none_absent x xs ys (and_right (not (is_among y ys)) (none_stands xs ys) h))
   where
-    go : (b : Bool) → nat_eq x y ≡ b → (b || stands x xs) ≡ true → (stands x xs ≡ true → stands x ys ≡ false) → stands x ys ≡ false
-    go true q s k = ap (λ z. stands z ys) (eq_from x y q) ∙ not_true (stands y ys) (and_left (not (stands y ys)) (none_stands xs ys) h)
+    go : (b : Bool) → nat_eq x y ≡ b → (b || is_among x xs) ≡ true → (is_among x xs ≡ true → is_among x ys ≡ false) → is_among x ys ≡ false
+    go true q s k = ap (λ z. is_among z ys) (eq_from x y q) ∙ not_true (is_among y ys) (and_left (not (is_among y ys)) (none_stands xs ys) h)
     go false q s k = k s
 
 -- ---- loops
 
-pub none_push : (xs : List VarId) (x : VarId) (ys : List ℕ) → none_stands (numbers_of (xs ++ x ∷ [])) ys ≡ (none_stands (numbers_of xs) ys && not (stands x.0 ys))
-none_push [] x ys = go (not (stands x.0 ys))
+pub none_push : (xs : List VarId) (x : VarId) (ys : List ℕ) → none_stands (numbers_of (xs ++ x ∷ [])) ys ≡ (none_stands (numbers_of xs) ys && not (is_among x.0 ys))
+none_push [] x ys = go (not (is_among x.0 ys))
   where
     go : (b : Bool) → (b && true) ≡ b
     go true = refl
     go false = refl
-none_push (y ∷ xs) x ys = ap (λ b. not (stands y.0 ys) && b) (none_push xs x ys) ∙ go (not (stands y.0 ys)) (none_stands (numbers_of xs) ys) (not (stands x.0 ys))
+none_push (y ∷ xs) x ys = ap (λ b. not (is_among y.0 ys) && b) (none_push xs x ys) ∙ go (not (is_among y.0 ys)) (none_stands (numbers_of xs) ys) (not (is_among x.0 ys))
   where
     go : (a b c : Bool) → (a && (b && c)) ≡ ((a && b) && c)
     go true b c = refl
@@ -111,10 +76,10 @@ cells_next cs i c d old0 old new lt e o n =
     n ∙ (λ j. o j ++ val_uses (e j).val) ∙ append_again old0 (cells_uses (take i cs)) (val_uses (get_or cs i d).val) ∙ ap (λ l. old0 ++ l) (sym (cells_push (take i cs) (get_or cs i d)))
     ∙ ap (λ l. old0 ++ cells_uses l) (sym (take_more cs i d lt))
 
-pub none_next : (xs : List VarId) (i : ℕ) (x d : VarId) (ys : List ℕ) (old new used : Bool) → i < length xs → x ≡ get_or xs i d → old ≡ none_stands (numbers_of (take i xs)) ys → used ≡ stands x.0 ys → new ≡ (old && not used)
+pub none_next : (xs : List VarId) (i : ℕ) (x d : VarId) (ys : List ℕ) (old new used : Bool) → i < length xs → x ≡ get_or xs i d → old ≡ none_stands (numbers_of (take i xs)) ys → used ≡ is_among x.0 ys → new ≡ (old && not used)
     → new ≡ none_stands (numbers_of (take (i + 1) xs)) ys
 none_next xs i x d ys old new used lt e o u n =
-    n ∙ (λ j. o j && not (u j)) ∙ ap (λ z. none_stands (numbers_of (take i xs)) ys && not (stands z.0 ys)) e ∙ sym (none_push (take i xs) (get_or xs i d) ys)
+    n ∙ (λ j. o j && not (u j)) ∙ ap (λ z. none_stands (numbers_of (take i xs)) ys && not (is_among z.0 ys)) e ∙ sym (none_push (take i xs) (get_or xs i d) ys)
     ∙ ap (λ l. none_stands (numbers_of l) ys) (sym (take_more xs i d lt))
 
 -- ---- the table of latest uses
@@ -126,18 +91,18 @@ drop_none : (n : ℕ) → ◌≡◌ {A = List ℕ} (drop n []) []
 drop_none zero = refl
 drop_none (suc n) = refl
 
-pub stands_after : (seen : List ℕ) (x y from : ℕ) → stands y (drop from (seen ++ x ∷ [])) ≡ cond (nat_eq y x) (nat_lt from (suc (length seen))) (stands y (drop from seen))
+pub stands_after : (seen : List ℕ) (x y from : ℕ) → is_among y (drop from (seen ++ x ∷ [])) ≡ cond (nat_eq y x) (nat_lt from (suc (length seen))) (is_among y (drop from seen))
 stands_after [] x y zero = go (nat_eq y x)
   where
     go : (b : Bool) → (b || false) ≡ cond b (nat_lt 0 1) false
     go true = refl
     go false = refl
-stands_after [] x y (suc from) = ap (stands y) (drop_none from) ∙ go (nat_eq y x)
+stands_after [] x y (suc from) = ap (is_among y) (drop_none from) ∙ go (nat_eq y x)
   where
     go : (b : Bool) → false ≡ cond b (nat_lt (suc from) 1) false
     go true = grind (arith, nat_tests)
     go false = refl
-stands_after (z ∷ seen) x y zero = ap (λ b. nat_eq y z || b) (stands_append y seen (x ∷ [])) ∙ go (nat_eq y z) (stands y seen) (nat_eq y x)
+stands_after (z ∷ seen) x y zero = ap (λ b. nat_eq y z || b) (among_append y seen (x ∷ [])) ∙ go (nat_eq y z) (is_among y seen) (nat_eq y x)
   where
     go : (a b c : Bool) → (a || (b || (c || false))) ≡ cond c (nat_lt 0 (suc (length (z ∷ seen)))) (a || b)
     go true b true = grind (arith, nat_tests)
@@ -146,10 +111,10 @@ stands_after (z ∷ seen) x y zero = ap (λ b. nat_eq y z || b) (stands_append y
     go false false true = grind (arith, nat_tests)
     go false true false = refl
     go false false false = refl
-stands_after (z ∷ seen) x y (suc from) = stands_after seen x y from ∙ ap (λ b. cond (nat_eq y x) b (stands y (drop from seen))) (sym (less_again from (suc (length seen))))
+stands_after (z ∷ seen) x y (suc from) = stands_after seen x y from ∙ ap (λ b. cond (nat_eq y x) b (is_among y (drop from seen))) (sym (less_again from (suc (length seen))))
 
 pub latest_none : Latest [] []
-latest_none = record { by = λ x from. ap (stands x) (drop_none from) ∙ go from }
+latest_none = record { by = λ x from. ap (is_among x) (drop_none from) ∙ go from }
   where
     go : (from : ℕ) → false ≡ nat_lt from 0
     go from = grind (arith, nat_tests)
@@ -170,6 +135,6 @@ latest_next seen latest x n h lt e = record { by = λ y from. stands_after seen 
     many [] = refl
     many (z ∷ xs) = let m : length (xs ++ x ∷ []) ≡ suc (length xs) = many xs in omega (arith, m)
 
-    go : (y from : ℕ) (b : Bool) → nat_eq y x ≡ b → cond b (nat_lt from (suc (length seen))) (stands y (drop from seen)) ≡ nat_lt from (get_or (slice_set latest x n) y 0)
+    go : (y from : ℕ) (b : Bool) → nat_eq y x ≡ b → cond b (nat_lt from (suc (length seen))) (is_among y (drop from seen)) ≡ nat_lt from (get_or (slice_set latest x n) y 0)
     go y from true q = ap (nat_lt from) (sym (ap (λ z. get_or (slice_set latest x n) z 0) (eq_from y x q) ∙ get_or-set_same latest x n 0 lt ∙ e ∙ many seen))
     go y from false q = h.by y from ∙ ap (nat_lt from) (sym (get_or-set_other latest x y n 0 (λ s. (let t : nat_eq y x ≡ true = grind (arith, nat_tests) in not_both (nat_eq y x) t q))))

@@ -6,23 +6,23 @@ use Rattle.grin_syntax.specs.declared.program.Word.TheVariants.{Lit, Var, Global
 use Rattle.grin_syntax.specs.declared.program.Val as V
 use Rattle.grin_syntax.specs.declared.program.Val.TheVariants.{NodeVar, Node, Vector, One}
 use Rattle.grin_syntax.specs.Tree.{Program}
-use Rattle.grin_syntax.specs.Binders.{times}
 use Rattle.grin_syntax.specs.Formed.{AllOf, Scope, InScope, with_words, WordFormed, ValFormed, CellFormed}
-use Rattle.grin_syntax.proofs.Counted.{times_append}
 use Rattle.grin_meaning.specs.Values as value
-use Rattle.grin_meaning.specs.Values.{Datum, Value, words, Env, HeapCell, and_then, only_word, Binding, with_vars, made_node, as_node, word_of, words_of, value_of, node_of}
+use Rattle.grin_meaning.specs.Values.{Datum, Value, words, Env, and_then, only_word, Binding, with_vars, made_node, as_node, word_of, words_of, value_of, node_of}
 use Rattle.grin_meaning.specs.Run.{cells_of}
 use Rattle.grin_meaning.specs.Checks.{is_none_or, is_filled, fills, all_fill}
 use Rattle.grin_meaning.specs.Names.{WordOk, WordsOk, ValOk, CellsOk}
 use Rattle.grin_meaning.specs.Ready.{NoNodeVar}
 use Rattle.grin_meaning.proofs.Plain.{Has}
-use Rattle.copy_prop.specs.Lean.{stands}
 use Rattle.copy_prop.specs.Resolved.{Table, entry, word_for, as_word, as_words, as_val, as_cells}
-use Rattle.copy_prop.proofs.Used.{stands_in, absent_out}
-use Rattle.copy_prop.proofs.Bound.{names, others_stay, bound_alike}
+use Rattle.copy_prop.proofs.Used.{stands_in}
+use Rattle.copy_prop.proofs.Bound.{others_stay, bound_alike}
 use Rattle.copy_prop.proofs.Held.{as_scope, Held}
+use Rattle.seq.specs.Lists.{times, is_among}
+use Rattle.seq.proofs.Counted.{times_append, not_among_times}
+use Rattle.grin_meaning.proofs.Bindings.{keys}
 
--- ---- what a formed piece names is in scope
+-- ---- what a formed piece keys is in scope
 
 module _ (g : Program) (scope : Scope) where
   pub word_ok : (a : W.Word) → WordFormed g scope a → WordOk (InScope scope.words) a
@@ -52,7 +52,7 @@ module _ (g : Program) (k : Table) (env' : Env) where
   looked_up None x = env' x
   looked_up (Some w) x = and_then (word_of g env' w) (λ d. Some (words (d ∷ [])))
 
-  -- each variable by what stands for it
+  -- each variable by what is_among for it
   abbrev pub via : Env
   via = λ x. looked_up (entry k x) x
 
@@ -108,36 +108,36 @@ module _ (g : Program) where
   st_entries k k' scope env env' same st x v i h = ap (λ o. looked_up g k env' o x) (same x i) ∙ st x v i h
 
   -- a word without these variables
-  word_stays : (bs : List Binding) (env' : Env) (scope' : List ℕ) (w : W.Word) → ((y : ℕ) → InScope scope' y → stands y (names bs) ≡ false) → WordFormed g (as_scope scope') w → word_of g (with_vars bs env') w ≡ word_of g env' w
+  word_stays : (bs : List Binding) (env' : Env) (scope' : List ℕ) (w : W.Word) → ((y : ℕ) → InScope scope' y → is_among y (keys bs) ≡ false) → WordFormed g (as_scope scope') w → word_of g (with_vars bs env') w ≡ word_of g env' w
   word_stays bs env' scope' (Var x) out f = ap (λ o. and_then o only_word) (others_stay bs env' x.0 (out x.0 f))
   word_stays bs env' scope' (Lit i) out f = refl
   word_stays bs env' scope' (Global i) out f = refl
   word_stays bs env' scope' (TagWord t) out f = refl
 
   -- both bind the same new variables
-  pub st_more : (k : Table) (scope : Scope) (scope' ts ys : List ℕ) (bs : List Binding) (env env' : Env) → Held g k scope scope' (ts ++ ys) → names bs ≡ ts → St k scope env env' → St k (with_words ts scope) (with_vars bs env) (with_vars bs env')
-  st_more k scope scope' ts ys bs env env' h n st x v i e = go (stands x (names bs)) refl
+  pub st_more : (k : Table) (scope : Scope) (scope' ts ys : List ℕ) (bs : List Binding) (env env' : Env) → Held g k scope scope' (ts ++ ys) → keys bs ≡ ts → St k scope env env' → St k (with_words ts scope) (with_vars bs env) (with_vars bs env')
+  st_more k scope scope' ts ys bs env env' h n st x v i e = go (is_among x (keys bs)) refl
     where
-      new : (y : ℕ) → InScope scope' y → (b : Bool) → stands y (names bs) ≡ b → b ≡ false
+      new : (y : ℕ) → InScope scope' y → (b : Bool) → is_among y (keys bs) ≡ b → b ≡ false
       new y j false q = refl
       new y j true q =
-          let t : InScope ts y = subst (λ l. InScope l y) n (stands_in y (names bs) q) in
+          let t : InScope ts y = subst (λ l. InScope l y) n (stands_in y (keys bs) q) in
           let b : times y scope' ≤ times y scope.words = h.below y in
           let o : times y scope.words + times y (ts ++ ys) ≤ 1 = h.once y in
           let a : times y (ts ++ ys) ≡ times y ts + times y ys = times_append y ts ys in
           absurd (omega (arith, j, t, b, o, a))
 
-      entry_by : (o : Option W.Word) → entry k x ≡ o → stands x (names bs) ≡ false → InScope scope.words x → looked_up g k (with_vars bs env') o x ≡ looked_up g k env' o x
+      entry_by : (o : Option W.Word) → entry k x ≡ o → is_among x (keys bs) ≡ false → InScope scope.words x → looked_up g k (with_vars bs env') o x ≡ looked_up g k env' o x
       entry_by None q s j = others_stay bs env' x s
-      entry_by (Some w) q s j = ap (λ o. and_then o (λ d. Some (words (d ∷ [])))) (word_stays bs env' scope' w (λ y l. new y l (stands y (names bs)) refl)
+      entry_by (Some w) q s j = ap (λ o. and_then o (λ d. Some (words (d ∷ [])))) (word_stays bs env' scope' w (λ y l. new y l (is_among y (keys bs)) refl)
           (subst (λ o. WordFormed g (as_scope scope') (word_for (record { 0 = x }) o)) q (h.range (record { 0 = x }) j)))
 
-      go : (b : Bool) → stands x (names bs) ≡ b → via g k (with_vars bs env') x ≡ Some v
+      go : (b : Bool) → is_among x (keys bs) ≡ b → via g k (with_vars bs env') x ≡ Some v
       go true q =
-          let t : InScope ts x = subst (λ l. InScope l x) n (stands_in x (names bs) q) in
+          let t : InScope ts x = subst (λ l. InScope l x) n (stands_in x (keys bs) q) in
           let none : entry k x ≡ None = h.fresh x (let a : times x (ts ++ ys) ≡ times x ts + times x ys = times_append x ts ys in omega (arith, t, a)) in
           ap (λ o. looked_up g k (with_vars bs env') o x) none ∙ sym (bound_alike bs env env' x q) ∙ e
       go false q =
-          let z : times x ts ≡ 0 = subst (λ l. times x l ≡ 0) n (absent_out x (names bs) q) in
+          let z : times x ts ≡ 0 = subst (λ l. times x l ≡ 0) n (not_among_times x (keys bs) q) in
           let j : InScope scope.words x = (let a : times x (ts ++ scope.words) ≡ times x ts + times x scope.words = times_append x ts scope.words in omega (arith, i, z, a)) in
           entry_by (entry k x) refl q j ∙ st x v j (sym (others_stay bs env x q) ∙ e)

@@ -4,23 +4,16 @@ use Rattle.grin_syntax.specs.declared.program.Val.TheVariants.{One}
 use Rattle.grin_syntax.specs.declared.program.Target.{Target}
 use Rattle.grin_syntax.specs.declared.program.Target.TheVariants as to
 use Rattle.grin_syntax.specs.Binders.{target_vars}
-use Rattle.grin_syntax.specs.Tree.{Code, end, store, bind, Act, unit, fetch, fetch_word, prim, case, nested, Arms, no_arm, arm, Program}
+use Rattle.grin_syntax.specs.Tree.{Code, end, store, bind, Act, unit, case, nested, Arms, no_arm, arm, Program}
 use Rattle.grin_syntax.specs.Formed.{AllOf}
 use Rattle.grin_meaning.specs.Names.{CodeOk}
 use Rattle.pass_ground.specs.Vectors.{StaysOfVectors}
+use Rattle.grin_meaning.specs.Pieces.{IsStill}
 
 -- one variable is given one word
 abbrev pub IsCopy : Target → Act → Type 0
 IsCopy (to.One x) (unit (One w)) = Unit {0}
 IsCopy _ _ = ⊥
-
--- an operation that changes nothing
-abbrev pub IsStill : Act → Type 0
-IsStill (unit v) = Unit {0}
-IsStill (fetch a) = Unit {0}
-IsStill (fetch_word a i) = Unit {0}
-IsStill (prim p a b) = Unit {0}
-IsStill _ = ⊥
 
 -- no word, node or vector of a block names x
 abbrev pub Unused : Code → ℕ → Type 0

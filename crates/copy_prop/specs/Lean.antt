@@ -1,5 +1,5 @@
 -- Programs without idle statements: those that change nothing and bind what nobody uses.
-use Rattle.std.specs.Prelude.{ℕ, Bool, true, false, not, ◌&&◌, ◌||◌, nat_eq, List, [], ◌∷◌, ◌++◌}
+use Rattle.std.specs.Prelude.{ℕ, Bool, true, false, not, ◌&&◌, List, [], ◌∷◌, ◌++◌}
 use Rattle.grin_syntax.specs.declared.program.Word as W
 use Rattle.grin_syntax.specs.declared.program.Word.TheVariants.{Var}
 use Rattle.grin_syntax.specs.declared.program.Val as V
@@ -9,6 +9,7 @@ use Rattle.grin_syntax.specs.declared.program.Cell.{Cell}
 use Rattle.grin_syntax.specs.Binders.{target_vars}
 use Rattle.grin_syntax.specs.Tree.{Code, end, store, bind, Act, unit, fetch, fetch_word, update, eval, apply, call, prim, read, write, case, nested, fail, Arms, no_arm, arm, Program}
 use Rattle.grin_meaning.specs.Rewritten.{rewritten}
+use Rattle.seq.specs.Lists.{is_among}
 
 -- ---- the variables that a piece uses, from its end
 
@@ -57,14 +58,9 @@ unfoldable mutual
 
 -- ---- idle statements
 
--- a number stands in a list
-abbrev pub stands : ℕ → List ℕ → Bool
-stands x [] = false
-stands x (y ∷ ys) = nat_eq x y || stands x ys
-
 abbrev pub none_stands : List ℕ → List ℕ → Bool
 none_stands [] ys = true
-none_stands (x ∷ xs) ys = not (stands x ys) && none_stands xs ys
+none_stands (x ∷ xs) ys = not (is_among x ys) && none_stands xs ys
 
 -- an operation that changes nothing: a unit, a fetch or a primitive
 abbrev pub is_still : Act → Bool

@@ -12,7 +12,7 @@ use seq::Seq;
 use std::alloc::{AllocError, Global};
 
 #[cycle(thin)]
-#[tactic(auto, using(grin_syntax::proofs::TreeOf::tree_of, crate::proofs::Backward::case_leans, crate::proofs::Backward::case_used, crate::proofs::Used::append_again, crate::proofs::Used::append_none), unfolding(crate::specs::Lean::lean_act, crate::specs::Lean::act_uses))]
+#[tactic(auto, using(grin_syntax::proofs::TreeOf::tree_of, crate::proofs::Backward::case_leans, crate::proofs::Backward::case_used, seq::proofs::Lists::append_again, seq::proofs::Lists::append_nil), unfolding(crate::specs::Lean::lean_act, crate::specs::Lean::act_uses))]
 fn thin_op(uses: &mut Uses, alloc: Global, op: Op) -> Result<Op, AllocError>
     ensures tree { IfOk result (λ o. act_of o ≡ lean_act (act_of op)) }
     ensures uses { OnOk result (uses.new ≡ uses.old ++ act_uses (lean_act (act_of op))) }

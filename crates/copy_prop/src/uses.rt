@@ -3,7 +3,8 @@
 
 ghost use Rattle.std.specs.Prelude.{◌≡◌, [], ◌∷◌, ◌++◌, not, ◌&&◌, length, drop, OnOk};
 ghost use Rattle.grin_syntax.specs.Binders.{target_vars, numbers_of};
-ghost use Rattle.copy_prop.specs.Lean.{stands, none_stands, word_uses, words_uses, val_uses, cells_uses};
+ghost use Rattle.copy_prop.specs.Lean.{none_stands, word_uses, words_uses, val_uses, cells_uses};
+ghost use Rattle.seq.specs.Lists.{is_among as stands};
 
 use grin_syntax::{Cell, Target, Val, VarId, Word};
 use std::alloc::{AllocError, Global};

@@ -30,6 +30,7 @@ use Rattle.std.specs.Str.{bytes_eq}
 use Rattle.seq.proofs.Truth.{not_both}
 use Rattle.seq.proofs.Lists.{all_append}
 use Rattle.core_meaning.specs.WellFormed.{WellFormed, FunOk, AllOf, InLocals, InGroup, HasFields, HasParams, VarOk, FormOk, TermOk, BranchesOk}
+use Rattle.arity_check.proofs.Names.{same_bytes}
 
 record PairAt {X Y : Type 0} (R : X → Y → Type 0) (ys : List Y) (i : ℕ) (x : X) : Type 0 where
   other : Y
@@ -41,9 +42,6 @@ pair_at R [] ys i x w e = absurd (none-some x e)
 pair_at R (z ∷ xs) [] i x w e = absurd w
 pair_at R (z ∷ xs) (y ∷ ys) zero x w e = record { other = y; is = refl; related = subst (λ z. R z y) (same_Some z x e) w.0 }
 pair_at R (z ∷ xs) (y ∷ ys) (suc i) x w e = let r = pair_at R xs ys i x w.1 e in record { other = r.other; is = r.is; related = r.related }
-
-same_bytes : (a b : List ℕ) → bytes_eq a b ≡ true → a ≡ b
-same_bytes a b e = (bytes_eq-Decides a b).0 e
 
 bytes_same : (a b : List ℕ) → a ≡ b → bytes_eq a b ≡ true
 bytes_same a b e = (bytes_eq-Decides a b).1 e

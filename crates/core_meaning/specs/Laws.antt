@@ -1,13 +1,10 @@
 -- What a larger bound on the units changes.
-use Rattle.std.specs.Prelude.{◌≡◌, ◌≢◌, ℕ, ◌+◌, ◌≤◌, List, ◌++◌}
+use Rattle.std.specs.Prelude.{◌≡◌, ◌≢◌, ℕ, ◌+◌, ◌≤◌, List}
 use Rattle.arity_check.specs.Program.{Program}
 use Rattle.core_meaning.specs.Heap.{Delayed}
 use Rattle.core_meaning.specs.Evaluation.{State, within}
 use Rattle.core_meaning.specs.Printing.{Printed, Going, print, printed}
-
--- ys is xs with more after it
-abbrev pub Begins : List ℕ → List ℕ → Type 0
-Begins xs ys = (more : List ℕ) × (ys ≡ xs ++ more)
+use Rattle.headline.specs.Carries.{Begins}
 
 -- b goes on from where a stood: no output is lost, cells, depth and bytes taken are no fewer, and
 -- where a has ended nothing changes

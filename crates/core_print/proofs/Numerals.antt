@@ -9,7 +9,7 @@ use Rattle.seq.proofs.Truth.{and_parts, and_from}
 use Rattle.core_reader.specs.declared.look.Kind.TheVariants.{Digits}
 use Rattle.core_reader.specs.Bytes.{is_lower, is_upper, is_digit}
 use Rattle.core_reader.specs.Tokens.{every, kind_of}
-use Rattle.core_reader.specs.Words.{digits_from, has_minus, number_of, IsInRange}
+use Rattle.core_reader.specs.Words.{digits_from, has_minus, written_number, IsInRange}
 
 neither : (b c : Bool) → b ≡ false → c ≡ false → (b || c) ≡ false
 neither true c e f = absurd cc
@@ -82,12 +82,12 @@ minus_kind n ds h = ap (λ w. kind_of (45 ∷ w)) h.whole ∙ by (other_than h.f
 -- the text of an integer is a token, which says that integer
 pub record IsNumeral (k : ℤ) (w : List ℕ) : Type 0 where
   pub kind : kind_of w ≡ Some Digits
-  pub number : number_of w ≡ k
+  pub number : written_number w ≡ k
 
-plain_number : (n : ℕ) (ds : List ℕ) → IsDecimal n ds → (has_minus ds ≡ false) × (number_of ds ≡ pos n)
+plain_number : (n : ℕ) (ds : List ℕ) → IsDecimal n ds → (has_minus ds ≡ false) × (written_number ds ≡ pos n)
 plain_number n ds h =
     let minus = no_minus h.first h.digit in
-    (ap has_minus h.whole ∙ minus, ap number_of h.whole ∙ rw minus (ap (λ w. pos (digits_from 0 w)) (sym h.whole) ∙ ap pos h.worth))
+    (ap has_minus h.whole ∙ minus, ap written_number h.whole ∙ rw minus (ap (λ w. pos (digits_from 0 w)) (sym h.whole) ∙ ap pos h.worth))
 
 pub count_numeral : (n : ℕ) → n < 2 ^ 64 → IsNumeral (pos n) (decimal n) × (has_minus (decimal n) ≡ false)
 count_numeral n l =

@@ -15,14 +15,15 @@ use Rattle.core_reader.specs.declared.token.Lexeme.{Lexeme}
 use Rattle.core_reader.specs.Tree.{Term, Terms, NoTerms, AndTerm, Application, Bind, Expr, App, Let, Case, Alts, NoAlts, AndAlt}
 use Rattle.core_reader.specs.Tree as tree
 use Rattle.core_reader.specs.Grammar.{Room, lexeme, name_id, SpellsTerm, SpellsTerms, SpellsApp, binders, SpellsBind, AfterBind, SpellsBinds, SpellsPattern, AfterAlt, SpellsExpr, SpellsAlts}
-use Rattle.core_reader.specs.Words.{has_minus, number_of, number_in, IsInRange}
+use Rattle.core_reader.specs.Words.{has_minus, written_number, number_in, IsInRange}
 use Rattle.core_reader.specs.Readable.{IsNamed, IsBound, ReadableTerm, ReadableTerms, ReadableApp, ReadableBind, ReadablePattern, ReadableExpr, ReadableAlts}
-use Rattle.core_print.specs.Canonical.{text_of, name_text, binders_text, term_text, terms_text, app_text, bind_text, group_text, pattern_text, expr_text, alts_text}
+use Rattle.core_print.specs.Canonical.{name_text, binders_text, term_text, terms_text, app_text, bind_text, group_text, pattern_text, expr_text, alts_text}
 use Rattle.core_print.specs.Depth.{term_depth, terms_depth, app_depth, group_depth, expr_depth, alts_depth}
 use Rattle.core_print.specs.Same.{SameBinder, SameTerm, SameTerms, SameApp, SameBind, SamePattern, SameExpr, SameAlts}
 use Rattle.core_reader.proofs.Naming.{Texts}
 use Rattle.core_print.proofs.Numerals.{numeral}
 use Rattle.core_print.proofs.Rereading.{Apart, apart_more, Meaning, Back, Both, Named, Nothing, OneToken, as_text, back_as, nothing, token, semicolon, equals, name, constructor, space, both, bracket}
+use Rattle.seq.specs.Lists.{or_empty}
 
 -- one more `(`, `let` or `case` may be opened wherever fewer than 200 are open
 abbrev pub Roomy : Room → Type 0
@@ -40,7 +41,7 @@ module _ (N : Texts) where
   AppAgain d a names ts = (b : Application) × ((room : Room) → Roomy room → SpellsApp room d b ts) × SameApp N names a b
 
   pub name_again : (n : ℕ) (r : IsNamed N n) → Back (Named word.Name r.0) (name_text N n)
-  name_again n r = as_text (Named word.Name r.0) r.0 (name_text N n) (sym (ap text_of r.1)) (name r.0 r.2)
+  name_again n r = as_text (Named word.Name r.0) r.0 (name_text N n) (sym (ap or_empty r.1)) (name r.0 r.2)
 
   one_name : (n at : ℕ) (d : ℕ) (r : IsNamed N n) (names : Texts) (ts : List Lexeme) → Named word.Name r.0 names ts → TermAgain d (tree.Name n at) names ts
   one_name n at d r names ts h = (tree.Name (number_in names r.0) h.at, (λ room some. h.whole), r.1 ∙ sym h.number)
@@ -53,8 +54,8 @@ module _ (N : Texts) where
   integer k r =
       let w = signed_decimal k in
       let n = numeral k r in
-      back_as (OneToken (word.Number (has_minus w) (number_of w))) _ w (λ names ts h. (h.0, has_minus w, h.1 ∙ ap (λ j. lexeme h.0 (word.Number (has_minus w) j) ∷ []) n.number))
-      (token w Digits (word.Number (has_minus w) (number_of w)) n.kind (λ names. refl) (λ d. subst IsInRange (sym n.number) r))
+      back_as (OneToken (word.Number (has_minus w) (written_number w))) _ w (λ names ts h. (h.0, has_minus w, h.1 ∙ ap (λ j. lexeme h.0 (word.Number (has_minus w) j) ∷ []) n.number))
+      (token w Digits (word.Number (has_minus w) (written_number w)) n.kind (λ names. refl) (λ d. subst IsInRange (sym n.number) r))
 
   bracket_again : (f : Term) (xs : Terms) (at d : ℕ) → d + term_depth (tree.Bracket f xs at) ≤ 200 → (names : Texts) (ts : List Lexeme)
       → Both (OneToken word.Open) (Both (TermAgain (suc d) f) (Both (TermsAgain (suc d) xs) (OneToken word.Close))) names ts → TermAgain d (tree.Bracket f xs at) names ts
@@ -74,7 +75,7 @@ module _ (N : Texts) where
     term_again (tree.Name n at) r d h = back_as (Named word.Name r.0) (TermAgain d (tree.Name n at)) (name_text N n) (one_name n at d r) (name_again n r)
     term_again (tree.Con n at) r d h =
         back_as (Named word.Con r.0) (TermAgain d (tree.Con n at)) (name_text N n) (λ names ts m. (tree.Con (number_in names r.0) m.at, (λ room some. m.whole), r.1 ∙ sym m.number))
-        (as_text (Named word.Con r.0) r.0 (name_text N n) (sym (ap text_of r.1)) (constructor r.0 r.2))
+        (as_text (Named word.Con r.0) r.0 (name_text N n) (sym (ap or_empty r.1)) (constructor r.0 r.2))
     term_again (tree.Int k at) r d h = back_as _ (TermAgain d (tree.Int k at)) (signed_decimal k) (λ names ts m. (tree.Int k m.0, (λ room some. (m.1, m.2)), refl)) (integer k r)
     term_again (tree.Bracket f xs at) r d h =
         let close = codes ")" in
@@ -194,7 +195,7 @@ module _ (N : Texts) where
       back_as (Both (Named word.Con r.0.0) (BindersAgain fields)) (PatternAgain (pattern.Con c fields)) (x ++ binders_text N fields)
       (λ names ts m. (pattern.Con (record { name = name_id (number_in names r.0.0); at = m.first.at }) m.second.0, m.whole ∙ (λ i. m.first.whole i ++ m.second.1 i), (r.0.1 ∙ sym m.first.number, m.second.2)))
       (both (Named word.Con r.0.0) (BindersAgain fields) x (binders_text N fields) (apart_binders fields)
-      (as_text (Named word.Con r.0.0) r.0.0 x (sym (ap text_of r.0.1)) (constructor r.0.0 r.0.2))
+      (as_text (Named word.Con r.0.0) r.0.0 x (sym (ap or_empty r.0.1)) (constructor r.0.0 r.0.2))
       (binders_again fields r.1))
   pattern_again (pattern.Int k at) r = back_as _ (PatternAgain (pattern.Int k at)) (signed_decimal k) (λ names ts m. (pattern.Int k m.0, (m.1, m.2), refl)) (integer k r)
   pattern_again (pattern.Default b) r =

@@ -14,13 +14,14 @@ use Rattle.core_reader.specs.declared.token.Lexeme.{Lexeme}
 use Rattle.core_reader.specs.Bytes.{is_space, is_lower, is_upper, is_digit, is_inner}
 use Rattle.core_reader.specs.Grammar.{lexeme, name_id, IsSign}
 use Rattle.core_reader.specs.Tokens.{every, kind_of, after_minus, of_one, arrow, Longest, Piece, Reads, Stops, Passes, Takes}
-use Rattle.core_reader.specs.Words.{said, said_by, said_by_letters, number_in, number_of, IsInRange}
+use Rattle.core_reader.specs.Words.{said, said_by, said_by_letters, number_in, written_number, IsInRange}
 use Rattle.core_reader.specs.Lexed.{AreInRange}
 use Rattle.core_reader.specs.Readable.{IsName, IsConstructor}
 use Rattle.core_reader.proofs.Naming.{Texts, EachHeld}
 use Rattle.core_reader.proofs.Readability.{at_number}
 use Rattle.core_reader.proofs.Runs.{longest_one}
 use Rattle.core_reader.proofs.Unique.{join}
+use Rattle.core_reader.proofs.Explains.{map_parts}
 
 -- ---- the longest token at the front
 
@@ -141,7 +142,7 @@ back_as P Q text f b at = let r = b at in record { pieces = r.pieces; reads = r.
 pub nothing : Back Nothing []
 nothing at = record { pieces = []; reads = λ rest h. subst (λ e. Reads at rest [] e rest) (let f : at ≡ at + 0 = omega arith in f) (Stops at rest); small = tt; means = λ names h. refl }
 
-pub token : (w : List ℕ) (k : Kind) (t : Token) → kind_of w ≡ Some k → ((names : Texts) → said_by names w (Some k) ≡ t) → (kind_of w ≡ Some Digits → IsInRange (number_of w)) → Back (OneToken t) w
+pub token : (w : List ℕ) (k : Kind) (t : Token) → kind_of w ≡ Some k → ((names : Texts) → said_by names w (Some k) ≡ t) → (kind_of w ≡ Some Digits → IsInRange (written_number w)) → Back (OneToken t) w
 token w k t e says small at = record {
   pieces = record { bytes = w; at = at } ∷ [];
   reads = λ rest h. one_token w k rest at e h;
@@ -203,17 +204,13 @@ small_both : (us vs : List Piece) → AreInRange us → AreInRange vs → AreInR
 small_both [] vs h g = g
 small_both (u ∷ us) vs h g = (h.0, small_both us vs h.1 g)
 
-map_both : (names : Texts) (us vs : List Piece) → map (said names) (us ++ vs) ≡ map (said names) us ++ map (said names) vs
-map_both names [] vs = refl
-map_both names (u ∷ us) vs = ap (λ w. said names u ∷ w) (map_both names us vs)
-
 both_mean : (P Q : Meaning) (names : Texts) (us vs : List Piece) → (EachHeld names us → P names (map (said names) us)) → (EachHeld names vs → Q names (map (said names) vs)) → EachHeld names (us ++ vs) → Both P Q names (map (said names) (us ++ vs))
 both_mean P Q names us vs p q h = record {
   front = map (said names) us;
   behind = map (said names) vs;
   first = p (held_front names us vs h);
   second = q (held_behind names us vs h);
-  whole = map_both names us vs;
+  whole = map_parts names us vs;
 }
 
 pub both : (P Q : Meaning) (x y : List ℕ) → Apart y → Back P x → Back Q y → Back (Both P Q) (x ++ y)

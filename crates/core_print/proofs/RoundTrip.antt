@@ -20,7 +20,7 @@ use Rattle.core_reader.specs.Names.{names_of}
 use Rattle.core_reader.specs.Programs.{IsProgram, IsText}
 use Rattle.core_reader.specs.Rules.{IsUnbroken, IsCause}
 use Rattle.core_reader.specs.Readable.{ReadableData, ReadableFunction, IsReadable}
-use Rattle.core_print.specs.Canonical.{text_of, name_text, binders_text, expr_text, data_line, function_line, canonical}
+use Rattle.core_print.specs.Canonical.{name_text, binders_text, expr_text, data_line, function_line, canonical}
 use Rattle.core_print.specs.Depth.{expr_depth, functions_depth, program_depth}
 use Rattle.core_print.specs.Same.{SameData, SameFunction, SameProgram}
 use Rattle.core_print.specs.Laws.{CanonicalStands, IsMemory, IsSameAgain}
@@ -30,6 +30,7 @@ use Rattle.core_print.proofs.Numerals.{count_numeral}
 use Rattle.core_reader.proofs.OnlyOne.{one_program}
 use Rattle.core_print.proofs.Rereading.{apart_more, Meaning, Back, Both, Named, Nothing, OneToken, as_text, back_as, nothing, token, semicolon, equals, constructor, space, both}
 use Rattle.core_print.proofs.Reprinted.{Roomy, BindersAgain, ExprAgain, name_again, apart_binders, binders_again, expr_again}
+use Rattle.seq.specs.Lists.{or_empty}
 
 module _ (N : Texts) where
   abbrev DataAgain : Data → Meaning
@@ -76,7 +77,7 @@ module _ (N : Texts) where
       (both (OneToken word.Data) Inside (codes "data") (32 ∷ (x ++ (codes " " ++ (n ++ end)))) refl
       (token (codes "data") Lower word.Data refl (λ names. refl) (λ e. absurd cc))
       (space Inside 32 (x ++ (codes " " ++ (n ++ end))) refl
-      (both (Named word.Con r.0.0) Fields x (codes " " ++ (n ++ end)) refl (as_text (Named word.Con r.0.0) r.0.0 x (sym (ap text_of r.0.1)) (constructor r.0.0 r.0.2))
+      (both (Named word.Con r.0.0) Fields x (codes " " ++ (n ++ end)) refl (as_text (Named word.Con r.0.0) r.0.0 x (sym (ap or_empty r.0.1)) (constructor r.0.0 r.0.2))
       (space Fields 32 (n ++ end) refl
       (both Count End n end refl (count d.fields r.1) (line_end Q y q)))))))
 

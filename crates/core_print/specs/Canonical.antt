@@ -1,6 +1,6 @@
 -- The canonical text of a program: each declaration is a line, the constructors first and then the
 -- functions. One space stands between two tokens, but none after `(` and none before `)` and `;`.
-use Rattle.std.specs.Prelude.{ℕ, List, [], ◌∷◌, ◌++◌, codes, decimal, slice_get, Option, Some, None}
+use Rattle.std.specs.Prelude.{ℕ, List, [], ◌∷◌, ◌++◌, codes, decimal, slice_get}
 use Rattle.std.specs.List.{flat_map}
 use Rattle.std.specs.Fmt.{signed_decimal}
 use Rattle.core_reader.specs.declared.syntax.Binder.{Binder}
@@ -8,15 +8,12 @@ use Rattle.core_reader.specs.declared.syntax.Pattern.{Pattern}
 use Rattle.core_reader.specs.declared.syntax.Pattern.TheVariants as pattern
 use Rattle.core_reader.specs.Tree.{Term, Terms, NoTerms, AndTerm, Application, Bind, Expr, App, Let, Case, Alts, NoAlts, AndAlt, Data, Function, Program}
 use Rattle.core_reader.specs.Tree as tree
-
--- A number that is no place among the names has no text.
-abbrev pub text_of : Option (List ℕ) → List ℕ
-text_of None = []
-text_of (Some w) = w
+use Rattle.seq.specs.Lists.{or_empty}
 
 module _ (names : List (List ℕ)) where
+  -- A number that is no place among the names has no text.
   abbrev pub name_text : ℕ → List ℕ
-  name_text n = text_of (slice_get names n)
+  name_text n = or_empty (slice_get names n)
 
   -- each name behind a space
   abbrev pub binders_text : List Binder → List ℕ

@@ -10,7 +10,7 @@ use Rattle.core_reader.specs.declared.refusal.ReadRefusal.TheVariants as refusal
 use Rattle.core_reader.specs.Tree.{Program}
 use Rattle.core_reader.specs.Grammar.{Room, anywhere, at_most_200}
 use Rattle.core_reader.specs.Tokens.{Piece, Reads, Stops, Takes, Longest, NothingBegins, kind_of}
-use Rattle.core_reader.specs.Words.{said, said_by, digits_from, has_minus, number_of, IsInRange}
+use Rattle.core_reader.specs.Words.{said, said_by, digits_from, has_minus, written_number, IsInRange}
 use Rattle.core_reader.specs.Names.{names_of, with_piece}
 use Rattle.core_reader.specs.Programs.{IsProgram, Viable}
 use Rattle.core_reader.specs.Rules.{BeginsWith, IsBadByte, AtToken, AtEnd, IsUnread, BadByte, Syntax, NumberRange, TooDeep, TextTooLong, NoLater, IsFirstUnread, IsCause}
@@ -47,7 +47,7 @@ order (u ∷ us) x vs (w ∷ ws) y zs e =
 viable_front : (l : Room) (us vs : List Piece) → Viable l (us ++ vs) → Viable l us
 viable_front l us vs v = record { rest = vs ++ v.rest; whole = v.whole; is_program = subst (IsProgram l v.whole) (append_assoc us vs v.rest) v.is_program }
 
-in_range_at : (us : List Piece) (x : Piece) (vs : List Piece) → AreInRange (us ++ (x ∷ vs)) → kind_of x.bytes ≡ Some Digits → IsInRange (number_of x.bytes)
+in_range_at : (us : List Piece) (x : Piece) (vs : List Piece) → AreInRange (us ++ (x ∷ vs)) → kind_of x.bytes ≡ Some Digits → IsInRange (written_number x.bytes)
 in_range_at [] x vs h = h.0
 in_range_at (u ∷ us) x vs h = in_range_at us x vs h.1
 
@@ -70,7 +70,7 @@ front_of l ts us x m v e = viable_front l (us ++ x ∷ []) m (subst (Viable l) (
 -- a rule that is broken at a token
 data AtPiece (us : List Piece) (x : Piece) : ℕ → Type 0 where
   NoProgram : (Viable anywhere (us ++ x ∷ []) → ⊥) → AtPiece us x 2
-  Outside : kind_of x.bytes ≡ Some Digits → (IsInRange (number_of x.bytes) → ⊥) → AtPiece us x 3
+  Outside : kind_of x.bytes ≡ Some Digits → (IsInRange (written_number x.bytes) → ⊥) → AtPiece us x 3
   Deep : (Viable at_most_200 (us ++ x ∷ []) → ⊥) → AtPiece us x 4
 
 not_clear : (ts us : List Piece) (x : Piece) (m : List Piece) (k : ℕ) → Clear ts → ts ≡ us ++ (x ∷ m) → AtPiece us x k → ⊥
@@ -227,23 +227,23 @@ plain_by : (b : Bool) (x y : ℤ) (n : ℕ) → y ≡ pos n → b ≡ false → 
 plain_by true x y n e f = absurd cc
 plain_by false x y n e f = (n, e)
 
-plain_number : (w : List ℕ) → has_minus w ≡ false → (n : ℕ) × (number_of w ≡ pos n)
+plain_number : (w : List ℕ) → has_minus w ≡ false → (n : ℕ) × (written_number w ≡ pos n)
 plain_number [] h = (0, refl)
 plain_number (b ∷ bs) h = plain_by (eqb b 45) (neg_ℤ (pos (digits_from 0 bs))) (pos (digits_from 0 (b ∷ bs))) (digits_from 0 (b ∷ bs)) refl h
 
-said_large : (names : Texts) (x : Piece) → kind_of x.bytes ≡ Some Digits → (said names x).token ≡ word.Number (has_minus x.bytes) (number_of x.bytes)
+said_large : (names : Texts) (x : Piece) → kind_of x.bytes ≡ Some Digits → (said names x).token ≡ word.Number (has_minus x.bytes) (written_number x.bytes)
 said_large names x e = ap (said_by names x.bytes) e
 
 record Large (text : List ℕ) (pieces : List Piece) (at : ℕ) (rest : List ℕ) (names : Texts) (x : Piece) : Type 0 where
   place : x.at ≡ at
   digits : kind_of x.bytes ≡ Some Digits
-  outside : IsInRange (number_of x.bytes) → ⊥
+  outside : IsInRange (written_number x.bytes) → ⊥
   end : ℕ
   tail : List ℕ
   reads : Reads 0 text (pieces ++ x ∷ []) end tail
   named : names ≡ names_of (pieces ++ x ∷ [])
 
-large_piece : (text : List ℕ) (pieces : List Piece) (at : ℕ) (rest : List ℕ) (names : Texts) (n : ℕ) → ReadText text pieces at rest names → Longest n rest Digits → (IsInRange (number_of (take n rest)) → ⊥)
+large_piece : (text : List ℕ) (pieces : List Piece) (at : ℕ) (rest : List ℕ) (names : Texts) (n : ℕ) → ReadText text pieces at rest names → Longest n rest Digits → (IsInRange (written_number (take n rest)) → ⊥)
     → Large text pieces at rest names (record { bytes = take n rest; at = at })
 large_piece text pieces at rest names n t longest outside =
     let x : Piece = record { bytes = take n rest; at = at } in
@@ -274,14 +274,14 @@ syntax_large : (text : List ℕ) (pieces : List Piece) (at : ℕ) (rest : List �
     → step anywhere s x.at (word.Large (has_minus x.bytes)) ≡ stop (refusal.Syntax p) → IsFirstUnread text 2 x.at
 syntax_large text pieces at rest names x s p t known l h =
     let c = clear_front names pieces pieces [] s t.named t.in_range (sym (append-nil pieces)) known in
-    let none = stops anywhere names pieces s x (refusal.Syntax p) known.p (agrees_large names pieces x l.named) (ap (step anywhere s x.at) (said_large names x l.digits) ∙ large_stops s x.at p (has_minus x.bytes) (number_of x.bytes) h) in
+    let none = stops anywhere names pieces s x (refusal.Syntax p) known.p (agrees_large names pieces x l.named) (ap (step anywhere s x.at) (said_large names x l.digits) ∙ large_stops s x.at p (has_minus x.bytes) (written_number x.bytes) h) in
     large_broken text pieces at rest names x s 2 t known l (record { syntax = λ g. omega arith; range = λ d. omega arith; any = omega arith })
     (Syntax x.at (AtToken x.at pieces x (large_begins text pieces at rest names x l) c.some none))
 
 range_large : (text : List ℕ) (pieces : List Piece) (at : ℕ) (rest : List ℕ) (names : Texts) (x : Piece) (s : State) (p : ℕ) → ReadText text pieces at rest names → Known names pieces s → Large text pieces at rest names x
     → step anywhere s x.at (word.Large (has_minus x.bytes)) ≡ stop (refusal.NumberRange p) → IsFirstUnread text 3 x.at
 range_large text pieces at rest names x s p t known l h =
-    let g = large_goes s x.at p (has_minus x.bytes) (number_of x.bytes) h (plain_number x.bytes) in
+    let g = large_goes s x.at p (has_minus x.bytes) (written_number x.bytes) h (plain_number x.bytes) in
     let some = viable anywhere names (pieces ++ x ∷ []) g.0 (led_on anywhere names pieces s g.0 x known.p (ap (step anywhere s x.at) (said_large names x l.digits) ∙ g.1)) (agrees_large names pieces x l.named) in
     large_broken text pieces at rest names x s 3 t known l (record { syntax = λ f. absurd (f some); range = λ d. omega arith; any = omega arith })
     (NumberRange x.at (record { before = pieces; here = x; begins = large_begins text pieces at rest names x l; integer = l.digits; outside = l.outside }))

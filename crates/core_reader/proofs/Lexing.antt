@@ -17,7 +17,7 @@ use Rattle.core_reader.specs.declared.token.Lexeme.{Lexeme}
 use Rattle.core_reader.specs.Grammar.{lexeme}
 use Rattle.core_reader.specs.Look.{looks}
 use Rattle.core_reader.specs.Tokens.{Piece, Reads, Stops, Passes, Takes, Longest, IsGap, NothingBegins, kind_of}
-use Rattle.core_reader.specs.Words.{said, said_by, number_in, number_of, digits_from, has_minus, IsInRange}
+use Rattle.core_reader.specs.Words.{said, said_by, number_in, written_number, digits_from, has_minus, IsInRange}
 use Rattle.core_reader.specs.Names.{names_of, with_name, with_piece, is_numbered_by}
 use Rattle.core_reader.specs.Lexed.{texts_of, is_large, IsSigned, IsTokenOf, Says, StopsAt, AtEnd, AtBad, AtLarge, AreInRange, IsLexed}
 use Rattle.core_reader.proofs.Looking.{StandsAtFront, front_stands}
@@ -79,7 +79,7 @@ said_is names w Digits (word.Number m v) h e = λ i. word.Number (h.0 i) (h.1 i)
 said_is names w Digits (word.Large m) h e = absurd cc
 said_is names w Digits token h e = absurd h
 
-ranged : (names : Texts) (w : List ℕ) (kind : Kind) (token : Token) → Says names w kind token → is_large token ≡ false → kind_of w ≡ Some kind → kind_of w ≡ Some Digits → IsInRange (number_of w)
+ranged : (names : Texts) (w : List ℕ) (kind : Kind) (token : Token) → Says names w kind token → is_large token ≡ false → kind_of w ≡ Some kind → kind_of w ≡ Some Digits → IsInRange (written_number w)
 ranged names w Lower token h e f g = absurd cc
 ranged names w Upper token h e f g = absurd cc
 ranged names w (Sign s) token h e f g = absurd cc
@@ -87,7 +87,7 @@ ranged names w Digits (word.Number m v) h e f g = h.2
 ranged names w Digits (word.Large m) h e f g = absurd cc
 ranged names w Digits token h e f g = absurd h
 
-range_last : (ps : List Piece) (p : Piece) → AreInRange ps → (kind_of p.bytes ≡ Some Digits → IsInRange (number_of p.bytes)) → AreInRange (ps ++ p ∷ [])
+range_last : (ps : List Piece) (p : Piece) → AreInRange ps → (kind_of p.bytes ≡ Some Digits → IsInRange (written_number p.bytes)) → AreInRange (ps ++ p ∷ [])
 range_last [] p h g = (g, tt)
 range_last (q ∷ ps) p h g = (h.0, range_last ps p h.1 g)
 
@@ -173,7 +173,7 @@ no_large_said word.End h e = cc
 no_large_kind : {A : Type 0} (names : Texts) (w : List ℕ) (kind : Kind) (token : Token) → token ≡ said_by names w (Some kind) → is_large token ≡ true → A
 no_large_kind names w kind token e h = absurd (no_large_said token (subst IsProper (sym e) (proper names w kind)) h)
 
-large_stops : (text : List ℕ) (at n : ℕ) (names : Texts) (token : Token) → Longest n (drop at text) Digits → IsSigned (has_minus (take n (drop at text))) (number_of (take n (drop at text))) token → is_large token ≡ true → StopsAt at (drop at text) (lexeme at token)
+large_stops : (text : List ℕ) (at n : ℕ) (names : Texts) (token : Token) → Longest n (drop at text) Digits → IsSigned (has_minus (take n (drop at text))) (written_number (take n (drop at text))) token → is_large token ≡ true → StopsAt at (drop at text) (lexeme at token)
 large_stops text at n names (word.Large m) longest s large = subst (λ v. StopsAt at (drop at text) (lexeme at (word.Large v))) (sym s.0) (AtLarge n longest s.1)
 large_stops text at n names (word.Number m v) longest s large = absurd cc
 large_stops text at n names token longest s large = absurd s

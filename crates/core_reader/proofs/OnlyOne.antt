@@ -14,7 +14,7 @@ use Rattle.core_reader.specs.Machine.{Top, run}
 use Rattle.core_reader.proofs.Complete.{reads_program}
 use Rattle.core_reader.proofs.Unique.{goes_on, stuck}
 
-at_five : (text : List ℕ) (k at : ℕ) → IsUnread text k at → k ≡ 5 → at ≡ 1048576
+pub at_five : (text : List ℕ) (k at : ℕ) → IsUnread text k at → k ≡ 5 → at ≡ 1048576
 at_five text k at (BadByte _ h) e = absurd (omega (arith, e))
 at_five text k at (Syntax _ h) e = absurd (omega (arith, e))
 at_five text k at (NumberRange _ h) e = absurd (omega (arith, e))

@@ -20,7 +20,7 @@ use Rattle.core_reader.specs.Tree.{Term, Terms, NoTerms, AndTerm, Application, B
 use Rattle.core_reader.specs.Tree as tree
 use Rattle.core_reader.specs.Grammar.{Room, lexeme, SpellsTerm, SpellsTerms, SpellsApp, binders, SpellsBind, SpellsBinds, SpellsPattern, SpellsExpr, SpellsAlts, Decl, Declares, Defines, SpellsDecl, SpellsDecls, constructors_of, functions_of}
 use Rattle.core_reader.specs.Tokens.{Piece, kind_of}
-use Rattle.core_reader.specs.Words.{said, said_by, said_by_letters, keyword_of, sign_token, number_in, number_of, IsInRange}
+use Rattle.core_reader.specs.Words.{said, said_by, said_by_letters, keyword_of, sign_token, number_in, written_number, IsInRange}
 use Rattle.core_reader.specs.Names.{with_piece, is_numbered, is_numbered_by}
 use Rattle.core_reader.specs.Programs.{IsProgram}
 use Rattle.core_reader.specs.Lexed.{AreInRange}
@@ -80,7 +80,7 @@ sign_known names signs.Open = tt
 sign_known names signs.Close = tt
 sign_known names signs.Arrow = tt
 
-known_by : (names : Texts) (w : List ℕ) (kind : Option Kind) → kind_of w ≡ kind → (is_numbered_by w kind ≡ true → has names w ≡ true) → (kind ≡ Some Digits → IsInRange (number_of w)) → KnownToken names (said_by names w kind)
+known_by : (names : Texts) (w : List ℕ) (kind : Option Kind) → kind_of w ≡ kind → (is_numbered_by w kind ≡ true → has names w ≡ true) → (kind ≡ Some Digits → IsInRange (written_number w)) → KnownToken names (said_by names w kind)
 known_by names w None e h g = tt
 known_by names w (Some Lower) e h g = letters_known names w (keyword_of w) refl e h (λ t f. keyword_known_by names _ _ _ _ _ t f)
 known_by names w (Some Upper) e h g = (w, at_number names w (h refl), e)

@@ -5,7 +5,7 @@ use Rattle.std.proofs.lemmas.Bool.Decides.{nat_tests}
 use Rattle.std.proofs.lemmas.Int.{ints}
 use Rattle.core_reader.specs.Grammar.{anywhere}
 use Rattle.core_reader.specs.Tokens.{Piece, IsTokens}
-use Rattle.core_reader.specs.Words.{IsInRange, number_of}
+use Rattle.core_reader.specs.Words.{IsInRange, written_number}
 use Rattle.core_reader.specs.Rules.{NumberRange, TextTooLong, IsUnbroken}
 use Rattle.core_reader.specs.Lexed.{AreInRange}
 use Rattle.core_reader.specs.Laws.{UnbrokenIsReadable}
@@ -32,7 +32,7 @@ in_range (negsuc n) h = negative n h (nat_lt 2147483647 n) refl
 all_in_range : (text : List ℕ) → IsUnbroken text → (us vs : List Piece) → IsTokens text (us ++ vs) → AreInRange vs
 all_in_range text u us [] r = tt
 all_in_range text u us (x ∷ vs) r = (
-  λ digits. in_range (number_of x.bytes) (λ outside. u 3 x.at (NumberRange x.at (record {
+  λ digits. in_range (written_number x.bytes) (λ outside. u 3 x.at (NumberRange x.at (record {
     before = us;
     here = x;
     begins = begins_at text (us ++ (x ∷ vs)) us x vs (length text) [] r refl;

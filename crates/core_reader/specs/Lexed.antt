@@ -9,7 +9,7 @@ use Rattle.core_reader.specs.declared.token.Token.TheVariants as word
 use Rattle.core_reader.specs.declared.token.Lexeme.{Lexeme}
 use Rattle.core_reader.specs.Grammar.{lexeme}
 use Rattle.core_reader.specs.Tokens.{Piece, Reads, Longest, NothingBegins, kind_of}
-use Rattle.core_reader.specs.Words.{has_minus, number_of, said, said_by, number_in, IsInRange}
+use Rattle.core_reader.specs.Words.{has_minus, written_number, said, said_by, number_in, IsInRange}
 use Rattle.core_reader.specs.Names.{names_of, with_name, is_numbered_by}
 
 -- the bytes of the names that the table holds
@@ -35,7 +35,7 @@ abbrev pub IsNumberOf : List (List ℕ) → List (List ℕ) → List ℕ → Nam
 IsNumberOf old new w id = (new ≡ with_name old w) × (id.0 ≡ number_in new w)
 
 abbrev pub Says : List (List ℕ) → List ℕ → Kind → Token → Type 0
-Says names w Digits token = IsSigned (has_minus w) (number_of w) token
+Says names w Digits token = IsSigned (has_minus w) (written_number w) token
 Says names w kind token = token ≡ said_by names w (Some kind)
 
 -- the token of bytes of this kind, and the names with it
@@ -48,14 +48,14 @@ pub record IsTokenOf (old new : List (List ℕ)) (w : List ℕ) (kind : Kind) (t
 pub data StopsAt (at : ℕ) (rest : List ℕ) : Lexeme → Type 0 where
   AtEnd : rest ≡ [] → StopsAt at rest (lexeme at word.End)
   AtBad : NothingBegins rest → StopsAt at rest (lexeme at word.Bad)
-  AtLarge : (n : ℕ) → Longest n rest Digits → (IsInRange (number_of (take n rest)) → ⊥)
+  AtLarge : (n : ℕ) → Longest n rest Digits → (IsInRange (written_number (take n rest)) → ⊥)
       → StopsAt at rest (lexeme at (word.Large (has_minus (take n rest))))
 
 -- each integer is in the range
 abbrev pub AreInRange : List Piece → Type 0
 AreInRange [] = Unit {0}
 AreInRange (p ∷ ps) =
-    (kind_of p.bytes ≡ Some Digits → IsInRange (number_of p.bytes)) × AreInRange ps
+    (kind_of p.bytes ≡ Some Digits → IsInRange (written_number p.bytes)) × AreInRange ps
 
 pub record IsLexed (text : List ℕ) (lexemes : List Lexeme) (names : List (List ℕ)) : Type 0 where
   pub pieces : List Piece

@@ -7,7 +7,7 @@ use Rattle.core_reader.specs.declared.refusal.ReadRefusal.TheVariants as refusal
 use Rattle.core_reader.specs.Tree.{Program}
 use Rattle.core_reader.specs.Tokens.{Piece, Reads, IsTokens, NothingBegins, kind_of}
 use Rattle.core_reader.specs.Grammar.{anywhere, at_most_200}
-use Rattle.core_reader.specs.Words.{number_of, IsInRange}
+use Rattle.core_reader.specs.Words.{written_number, IsInRange}
 use Rattle.core_reader.specs.Programs.{IsProgram, Viable}
 
 -- A text begins with these tokens, the last of which stands at a place.
@@ -37,7 +37,7 @@ pub record IsOutOfRange (text : List ℕ) (at : ℕ) : Type 0 where
   pub here : Piece
   pub begins : BeginsWith text before here at
   pub integer : kind_of here.bytes ≡ Some Digits
-  pub outside : IsInRange (number_of here.bytes) → ⊥
+  pub outside : IsInRange (written_number here.bytes) → ⊥
 
 -- rule 4: a program begins with the tokens up to this `(`, `let` or `case`, but none that has only
 -- 200 of them open at one place

@@ -22,9 +22,9 @@ abbrev pub has_minus : List ℕ → Bool
 has_minus [] = false
 has_minus (b ∷ bs) = b == 45
 
-abbrev pub number_of : List ℕ → ℤ
-number_of [] = pos 0
-number_of (b ∷ bs) =
+abbrev pub written_number : List ℕ → ℤ
+written_number [] = pos 0
+written_number (b ∷ bs) =
     if b == 45 then neg_ℤ (pos (digits_from 0 bs)) else pos (digits_from 0 (b ∷ bs))
 
 -- a whole number of 32 bits
@@ -63,7 +63,7 @@ abbrev pub said_by : List (List ℕ) → List ℕ → Option Kind → Token
 said_by names w None = word.Bad
 said_by names w (Some Lower) = said_by_letters names w (keyword_of w)
 said_by names w (Some Upper) = word.Con (name_id (number_in names w))
-said_by names w (Some Digits) = word.Number (has_minus w) (number_of w)
+said_by names w (Some Digits) = word.Number (has_minus w) (written_number w)
 said_by names w (Some (Sign s)) = sign_token s
 
 -- The token that bytes are, where names have their numbers.

@@ -2,7 +2,7 @@
 
 ghost use Rattle.std.specs.Prelude.{◌≡◌, ◌<◌, ◌≤◌, ◌^◌, ℕ, length, IfOk, IfSome, pos, neg_ℤ, true, false};
 ghost use Rattle.indexmap.specs.IndexSet.{index_set_len};
-ghost use Rattle.core_reader.specs.Words.{digits_from, has_minus, keyword_of, number_of, sign_token};
+ghost use Rattle.core_reader.specs.Words.{digits_from, has_minus, keyword_of, written_number, sign_token};
 ghost use Rattle.core_reader.specs.Lexed.{texts_of, is_large, IsSize, IsSigned, IsNumberOf, IsTokenOf, IsLexed};
 
 use crate::look::{Found, Kind, Sign, look};
@@ -64,7 +64,7 @@ fn negative_number(size: Option<u32>) -> Token
 
 /// The token of an integer.
 fn number_token(word: &[u8]) -> Token
-    ensures { IsSigned (has_minus word.now) (number_of word.now) result }
+    ensures { IsSigned (has_minus word.now) (written_number word.now) result }
 {
     let [first, digits @ ..] = word else {
         return Token::Number(false, 0);

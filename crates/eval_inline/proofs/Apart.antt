@@ -18,7 +18,8 @@ use Rattle.flow_system.specs.declared.fact.Element.TheVariants.{Cell, Tag as tag
 use Rattle.flow_system.specs.declared.fact.Place.TheVariants.{Site as site, Var as var}
 use Rattle.flow_system.specs.declared.fact.Part.TheVariants.{Tags as tags, Word as word}
 use Rattle.flow_system.specs.Solution.{Solution, among}
-use Rattle.eval_inline.specs.Inlining.{those, some_of, cells_in, site_of, sites_of, tags_of, call_body, eval_body, eval_arm, eval_arms, fields_at, arms_room, eval_bound, eval_ended, eval_act, eval_code, eval_all, eval_procs, act_room, code_room, all_room}
+use Rattle.eval_inline.specs.Inlining.{some_of, cells_in, site_of, sites_of, tags_of, call_body, eval_body, eval_arm, eval_arms, fields_at, arms_room, eval_bound, eval_ended, eval_act, eval_code, eval_all, eval_procs, act_room, code_room, all_room}
+use Rattle.seq.specs.Lists.{those}
 
 module _ (p : Program) (A : Solution) (procs : List Procedure) where
   abbrev q : Program

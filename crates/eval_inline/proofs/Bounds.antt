@@ -9,12 +9,13 @@ use Rattle.grin_syntax.specs.declared.program.Target.{Target}
 use Rattle.grin_syntax.specs.declared.program.Target.TheVariants as to
 use Rattle.grin_syntax.specs.declared.program.Cell.{Cell}
 use Rattle.grin_syntax.specs.Tree.{Code, end, store, bind, Act, unit, fetch, fetch_word, update, eval, apply, call, prim, read, write, case, nested, fail, Arms, no_arm, arm, Procedure, Program}
-use Rattle.grin_syntax.specs.Binders.{times, numbers_of, target_vars, shape_vars, cell_vars}
+use Rattle.grin_syntax.specs.Binders.{numbers_of, target_vars, shape_vars, cell_vars}
 use Rattle.grin_syntax.specs.Formed.{AllOf, Scope, with_words, with_target, params_scope, InScope, WordFormed, ValFormed, CellFormed, ActFormed, CodeFormed, ArmsFormed, ProcedureFormed, Formed}
 use Rattle.grin_syntax.specs.Fresh.{past_act, past_code, past_arms, past_procs}
 use Rattle.grin_syntax.proofs.Unbound.{past_vars_none, past_cells_none, past_target_none, past_shape_none, none_in_both}
 use Rattle.grin_meaning.specs.Names.{WordOk, WordsOk, ValOk, CellsOk, ActOk, CodeOk, ArmsOk, ProcsOk}
 use Rattle.eval_inline.specs.Law.{UsesBound}
+use Rattle.seq.specs.Lists.{times}
 
 module _ (p : Program) (n : ℕ) where
   -- no number from n on is among these

@@ -8,9 +8,9 @@ use Rattle.std.proofs.lemmas.List.Kept.{AllPairs-from_increasing}
 use Rattle.std.proofs.lemmas.Option.{slice_get_cases}
 use Rattle.seq.proofs.Truth.{or_true}
 use Rattle.grin_syntax.specs.declared.program.TagId.{TagId}
-use Rattle.eval_inline.specs.Inlining.{those}
 use Rattle.points_to.specs.Wanted.{is_in}
 use Rattle.eval_inline.specs.Met.{IsFirst, none, first, FirstInRange}
+use Rattle.seq.specs.Lists.{those}
 
 pub same_first : (test test' : ℕ → Bool) (from : ℕ) (o : Option TagId) → ((t : ℕ) → test t ≡ test' t) → IsFirst test from o → IsFirst test' from o
 same_first test test' from None h (none f) = none (λ t le. sym (h t) ∙ f t le)

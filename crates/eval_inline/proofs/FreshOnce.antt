@@ -6,14 +6,16 @@ use Rattle.grin_syntax.specs.declared.program.ProcId.{ProcId}
 use Rattle.grin_syntax.specs.declared.program.Word.{Word}
 use Rattle.grin_syntax.specs.declared.program.Target.{Target}
 use Rattle.grin_syntax.specs.Tree.{Code, end, store, bind, Act, unit, fetch, fetch_word, update, eval, apply, call, prim, read, write, case, nested, fail, Arms, no_arm, arm, Procedure, Program}
-use Rattle.grin_syntax.specs.Binders.{times, numbers_of, target_vars, shape_vars, cell_vars, act_vars, code_vars, arms_vars, procs_vars, act_sites, code_sites, arms_sites, procs_sites}
+use Rattle.grin_syntax.specs.Binders.{numbers_of, target_vars, shape_vars, cell_vars, act_vars, code_vars, arms_vars, procs_vars, act_sites, code_sites, arms_sites, procs_sites}
 use Rattle.grin_meaning.specs.Run.{is_fun_kind}
 use Rattle.flow_system.specs.Solution.{Solution}
 use Rattle.grin_syntax.specs.declared.program.Val.TheVariants.{NodeVar}
 use Rattle.grin_syntax.specs.Fresh.{variable, variables, past_procs}
-use Rattle.grin_syntax.proofs.Counted.{times_append, fresh, fresh_below, fresh_once, fresh_split}
+use Rattle.grin_syntax.proofs.Counted.{fresh, fresh_below, fresh_once, fresh_split}
 use Rattle.grin_syntax.proofs.Unbound.{past_procs_none}
 use Rattle.eval_inline.specs.Inlining.{call_body, eval_body, fields_at, eval_arm, eval_arms, arms_room, eval_bound, eval_ended, eval_act, eval_code, eval_all, eval_procs, act_room, code_room, all_room, tags_of}
+use Rattle.seq.specs.Lists.{times}
+use Rattle.seq.proofs.Counted.{times_append}
 
 -- the fresh variables that procedures take
 abbrev pub procs_room : Program → Solution → List Procedure → ℕ

@@ -1,9 +1,8 @@
 -- Where a state lies in a solution, the tag of a cell that a word stands for is one of the word's tags.
-use Rattle.std.proofs.Common.{◌≡◌, ◌<◌, ◌≤◌, ◌+◌, ℕ, zero, suc, Bool, true, false, cond, nat_eq, ◌||◌, List, [], ◌∷◌, length, Option, Some, None, slice_get, refl, sym, ap, ◌∙◌, subst, inl, inr, arith}
-use Rattle.std.specs.Prelude.{◌⊎◌}
+use Rattle.std.proofs.Common.{◌≡◌, ◌<◌, ◌≤◌, ℕ, zero, suc, Bool, true, false, nat_eq, ◌||◌, List, [], ◌∷◌, length, Option, Some, None, slice_get, refl, sym, ap, ◌∙◌, subst, inl, inr, arith}
 use Rattle.std.proofs.lemmas.Bool.Decides.{nat_tests}
 use Rattle.seq.proofs.Order.{eq_from}
-use Rattle.seq.proofs.Truth.{false_not_true, or_from}
+use Rattle.seq.proofs.Truth.{or_from}
 use Rattle.grin_syntax.specs.declared.program.Tag.{Tag}
 use Rattle.grin_syntax.specs.declared.program.Word as W
 use Rattle.grin_syntax.specs.Tree.{Program}
@@ -16,33 +15,20 @@ use Rattle.flow_system.specs.declared.fact.Place.TheVariants.{Site as site, Var 
 use Rattle.flow_system.specs.declared.fact.Part.TheVariants.{Tags as tags, Word as word}
 use Rattle.flow_system.specs.Solution.{Solution, among, At, StandsFor, literal, variable, global, tag_itself}
 use Rattle.flow_system.specs.Covers.{site_at, NodeIn, Lies}
-use Rattle.eval_inline.specs.Inlining.{those, some_of, cells_in, sites_of, tags_of}
+use Rattle.eval_inline.specs.Inlining.{some_of, cells_in, sites_of, tags_of}
 use Rattle.flow_system.proofs.Lying.{from_some, place_lies}
-
--- one of a list
-abbrev pub Among : ℕ → List ℕ → Type 0
-Among k [] = ⊥
-Among k (x ∷ xs) = (k ≡ x) ⊎ Among k xs
+use Rattle.seq.specs.Lists.{In}
+use Rattle.seq.proofs.Those.{those_have}
 
 -- a node with as many fields as its tag, which is one of the list
 pub record Known (ts : List Tag) (tags : List ℕ) (n : Node) : Type 0 where
   pub tag : Tag
   pub is_tag : slice_get ts n.tag ≡ Some tag
   pub full : length n.fields ≡ tag.fields
-  pub among : Among n.tag tags
+  pub among : In n.tag tags
 
 past : (i t : ℕ) → i ≤ t → nat_eq t i ≡ false → suc i ≤ t
 past i t le q = grind (arith, nat_tests)
-
-pub those_have : (test : ℕ → Bool) (t : ℕ) → test t ≡ true → (i k : ℕ) → i ≤ t → t < i + k → Among t (those test i k)
-those_have test t e i zero le lt = absurd (omega arith)
-those_have test t e i (suc k) le lt = on (test i) refl (nat_eq t i) refl (λ q. those_have test t e (suc i) k (past i t le q) (omega arith))
-  where
-    on : (b : Bool) → test i ≡ b → (c : Bool) → nat_eq t i ≡ c → (nat_eq t i ≡ false → Among t (those test (suc i) k)) → Among t (cond b (i ∷ those test (suc i) k) (those test (suc i) k))
-    on true q true r later = inl (eq_from t i r)
-    on true q false r later = inr (later r)
-    on false q true r later = let h : test i ≡ true = subst (λ j. test j ≡ true) (eq_from t i r) e in absurd (false_not_true (sym q ∙ h))
-    on false q false r later = later r
 
 pub some_cell : (test : ℕ → Bool) (s : ℕ) → test s ≡ true → (p : Program) (A : Solution) (us : List AbstractWord) → among (cell_of s) us ≡ true → some_of test (cells_in p A us) ≡ true
 some_cell test s e p A [] m = cc

@@ -13,31 +13,20 @@ use Rattle.flow_system.specs.declared.fact.Place.TheVariants.{Site as site, Var 
 use Rattle.flow_system.specs.declared.fact.Part.TheVariants.{Tags as tags, Word as word}
 use Rattle.flow_system.specs.Solution.{Solution, among, At}
 use Rattle.eval_inline.specs.Inlining.{some_of, cells_in, site_of, sites_of}
-use Rattle.points_to.specs.Held.{In, here, there}
+use Rattle.points_to.specs.Held.{In, there}
 use Rattle.points_to.specs.Wanted.{is_in}
-use Rattle.seq.proofs.Member.{none_in, cons_in}
 use Rattle.seq.proofs.Truth.{both_ways, or_cases, or_false, or_from}
-use Rattle.seq.proofs.Order.{eq_self, eq_from}
+use Rattle.seq.proofs.Order.{eq_self}
 use Rattle.eval_inline.specs.Met.{IsFirst, none}
 use Rattle.eval_inline.proofs.Known.{some_cell}
 use Rattle.eval_inline.proofs.First.{same_first}
+use Rattle.points_to.proofs.Read.{in-is_in, is_in-in}
 
 -- ---- members
 
-in_from : (n : ℕ) (ns : List ℕ) → is_in n ns ≡ true → In n ns
-in_from n [] e = cc
-in_from n (m ∷ ns) e = ⊎_elim (λ a. subst (λ k. In n (k ∷ ns)) (eq_from n m a) here) (λ b. there (in_from n ns b)) (or_cases (nat_eq n m) (is_in n ns) e)
-
-from_in : (n : ℕ) (ns : List ℕ) → In n ns → is_in n ns ≡ true
-from_in n [] h = none_in h
-from_in n (m ∷ ns) h = ⊎_elim
-    (λ e. or_from (nat_eq n m) (is_in n ns) (inl (subst (λ k. nat_eq n k ≡ true) e (eq_self n))))
-    (λ t. or_from (nat_eq n m) (is_in n ns) (inr (from_in n ns t)))
-    (cons_in m ns h)
-
 -- the tags of a site
 pub tags_met : (A : Solution) (s : ℕ) (ts : List ℕ) → ((t : ℕ) → In t ts ↔ At A (site s) tags (tag t)) → (t : ℕ) → is_in t ts ≡ among (tag t) (A (site s) tags)
-tags_met A s ts exact t = both_ways _ _ (λ e. ((exact t).0 (in_from t ts e)).there) (λ e. from_in t ts ((exact t).1 (record { there = e })))
+tags_met A s ts exact t = both_ways _ _ (λ e. ((exact t).0 (is_in-in t ts e)).there) (λ e. in-is_in t ts ((exact t).1 (record { there = e })))
 
 -- ---- the cells of a variable
 
@@ -64,8 +53,8 @@ tags_in_cells p A x ts exact t =
     let test : ℕ → Bool = λ s. among (tag t) (A (site s) tags) in
     let us : List Element = A (var x) (word 0) in
     both_ways _ _
-    (λ e. let r = (exact t).0 (in_from t ts e) in some_cell test r.0 r.2.there p A us r.1.there)
-    (λ e. let r = cell_some test p A us e in from_in t ts ((exact t).1 (r.0, record { there = r.1 }, record { there = r.2 })))
+    (λ e. let r = (exact t).0 (is_in-in t ts e) in some_cell test r.0 r.2.there p A us r.1.there)
+    (λ e. let r = cell_some test p A us e in in-is_in t ts ((exact t).1 (r.0, record { there = r.1 }, record { there = r.2 })))
 
 module _ (A : Solution) (from : ℕ) (o : Option TagId) where
   pub global_meets : (p : Program) (i : ℕ) (c : GlobalCell) → slice_get p.globals i ≡ Some c → IsFirst (λ t. among (tag t) (A (site c.site.0) tags)) from o → IsFirst (has_tag A (sites_of p A (of_word.Global i))) from o

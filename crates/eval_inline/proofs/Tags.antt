@@ -8,8 +8,9 @@ use Rattle.flow_system.specs.declared.fact.Element.TheVariants.{Tag as tag}
 use Rattle.flow_system.specs.declared.fact.Place.TheVariants.{Site as site}
 use Rattle.flow_system.specs.declared.fact.Part.TheVariants.{Tags as tags}
 use Rattle.flow_system.specs.Solution.{Solution, among}
-use Rattle.eval_inline.specs.Inlining.{those, some_of, sites_of, tags_of, eval_arm, eval_arms, arms_room, fields_at}
+use Rattle.eval_inline.specs.Inlining.{some_of, sites_of, tags_of, eval_arm, eval_arms, arms_room, fields_at}
 use Rattle.eval_inline.specs.Met.{tags_from}
+use Rattle.seq.specs.Lists.{those}
 
 pub tags_from_start : (p : Program) (A : Solution) (a : Word) → tags_from p A a 0 ≡ tags_of p A a
 tags_from_start p A a = let e : length p.tags - 0 ≡ length p.tags = omega arith in ap (those (λ t. some_of (λ s. among (tag t) (A (site s) tags)) (sites_of p A a)) 0) e

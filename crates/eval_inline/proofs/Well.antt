@@ -1,5 +1,5 @@
 -- Inlining of evaluations leaves a program well formed.
-use Rattle.std.proofs.Common.{◌≡◌, ℕ, zero, suc, ◌+◌, ◌<◌, ◌≤◌, Bool, true, false, cond, List, [], ◌∷◌, length, Option, Some, None, slice_get, refl, ap, ◌∙◌, subst, arith}
+use Rattle.std.proofs.Common.{◌≡◌, ℕ, zero, suc, ◌+◌, ◌<◌, Bool, true, false, cond, List, [], ◌∷◌, length, Option, Some, None, slice_get, refl, ap, ◌∙◌, subst, arith}
 use Rattle.seq.proofs.Lists.{all_get}
 use Rattle.grin_syntax.specs.declared.program.ProcId.{ProcId}
 use Rattle.grin_syntax.specs.declared.program.Tag.{Tag}
@@ -16,16 +16,9 @@ use Rattle.grin_syntax.proofs.Scopes.{Fewer, fewer_left, Within, within_self, wi
 use Rattle.grin_syntax.specs.Fresh.{variable, variables, past_procs}
 use Rattle.grin_meaning.specs.Run.{is_fun_kind}
 use Rattle.flow_system.specs.Solution.{Solution}
-use Rattle.eval_inline.specs.Inlining.{those, call_body, eval_body, eval_arm, eval_arms, fields_at, eval_bound, eval_ended, eval_act, eval_code, eval_all, eval_procs, act_room, code_room, tags_of, eval_inlined}
+use Rattle.eval_inline.specs.Inlining.{call_body, eval_body, eval_arm, eval_arms, fields_at, eval_bound, eval_ended, eval_act, eval_code, eval_all, eval_procs, act_room, code_room, tags_of, eval_inlined}
 use Rattle.eval_inline.proofs.FreshOnce.{vars_once, sites_stay}
-
-those_below : (test : ℕ → Bool) (i k n : ℕ) → i + k ≤ n → AllOf (λ t. t < n) (those test i k)
-those_below test i zero n h = tt
-those_below test i (suc k) n h = go (test i) (those_below test (suc i) k n (omega arith))
-  where
-    go : (b : Bool) → AllOf (λ t. t < n) (those test (suc i) k) → AllOf (λ t. t < n) (cond b (i ∷ those test (suc i) k) (those test (suc i) k))
-    go true r = (omega arith, r)
-    go false r = r
+use Rattle.seq.proofs.Those.{those_below}
 
 module _ (p : Program) (A : Solution) (procs : List Procedure) (same_count : length procs ≡ length p.procs) (tags_formed : AllOf (TagFormed p) p.tags) where
   abbrev there : Program

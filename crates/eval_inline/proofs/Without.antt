@@ -24,7 +24,7 @@ CodeFree = EachCode no_eval_kind
 abbrev ArmsFree : Arms → Type 0
 ArmsFree = EachArms no_eval_kind
 
-any_cells : (cs : List Cell) → AllOf (λ c. any_kind.value c.val) cs
+pub any_cells : (cs : List Cell) → AllOf (λ c. any_kind.value c.val) cs
 any_cells [] = tt
 any_cells (c ∷ cs) = (tt, any_cells cs)
 

@@ -1,5 +1,5 @@
 -- Evaluations become a fetch and a case over the tags that a solution has for them.
-use Rattle.std.specs.Prelude.{ℕ, zero, suc, ◌+◌, Bool, false, cond, ◌||◌, List, [], ◌∷◌, map, length, Option, Some, None, slice_get}
+use Rattle.std.specs.Prelude.{ℕ, suc, ◌+◌, Bool, false, cond, ◌||◌, List, [], ◌∷◌, map, length, Option, Some, None, slice_get}
 use Rattle.grin_syntax.specs.declared.program.ProcId.{ProcId}
 use Rattle.grin_syntax.specs.declared.program.Tag.{Tag}
 use Rattle.grin_syntax.specs.declared.program.GlobalCell.{GlobalCell}
@@ -18,11 +18,7 @@ use Rattle.flow_system.specs.declared.fact.Element.TheVariants.{Cell as cell_of,
 use Rattle.flow_system.specs.declared.fact.Place.TheVariants.{Site as site, Var as var}
 use Rattle.flow_system.specs.declared.fact.Part.TheVariants.{Tags as tags, Word as word}
 use Rattle.flow_system.specs.Solution.{Solution, among}
-
--- the numbers from i on, so many, for which the test holds
-abbrev pub those : (ℕ → Bool) → ℕ → ℕ → List ℕ
-those test i zero = []
-those test i (suc k) = cond (test i) (i ∷ those test (suc i) k) (those test (suc i) k)
+use Rattle.seq.specs.Lists.{those}
 
 abbrev pub some_of : {X : Type 0} → (X → Bool) → List X → Bool
 some_of test [] = false

@@ -4,3 +4,4 @@ pub mod Inlining
 pub mod Law
 pub mod Met
 pub mod Without
+pub mod Known

@@ -5,9 +5,9 @@ ghost use Rattle.std.specs.Prelude.{◌≡◌, ◌<◌, ◌+◌, suc, length, ma
 ghost use Rattle.grin_syntax.specs.declared.program.Word.TheVariants.{Var};
 ghost use Rattle.grin_syntax.specs.declared.program.Val.TheVariants.{NodeVar};
 ghost use Rattle.grin_syntax.specs.declared.program.Target.TheVariants.{Nothing, Node as NodeTarget};
-ghost use Rattle.grin_syntax.specs.Tree.{Code, Arms, arm, end, bind, case, call, update, unit, act_of, before_of, arm_of, arms_of, code_of, all_before, program_of};
+ghost use Rattle.grin_syntax.specs.Tree.{Code, Arms, arm, end, bind, case, call, update, unit, act_of, before_of, arm_of, arms_of, code_of, all_before};
 ghost use Rattle.eval_inline.specs.Inlining.{tags_of, eval_arm, eval_arms, arms_room, fields_at, eval_code, eval_all, code_room, act_room, all_room};
-ghost use Rattle.points_to.specs.Found.{found};
+ghost use Rattle.eval_inline.specs.Known.{program, solution};
 ghost use Rattle.eval_inline.specs.Inlined.{Follows};
 
 use crate::met::next_tag;
@@ -36,12 +36,10 @@ impl Inlining<'_> {
         fresh: &mut Fresh,
         block: Block,
     ) -> Result<Block, AllocError>
-        ensures is { IfOk result (λ b. code_of b
-            ≡ eval_code (program_of self.now.program.now) (found self.now.flow.now) fresh.old.next
-            (code_of block)) }
-        ensures next { OnOk result (fresh.new.next
-            ≡ fresh.old.next + code_room (program_of self.now.program.now) (found self.now.flow.now)
-            (code_of block)) }
+        ensures is { IfOk result (λ b. code_of b ≡ eval_code (program self.now) (solution self.now)
+            fresh.old.next (code_of block)) }
+        ensures next { OnOk result (fresh.new.next ≡ fresh.old.next + code_room (program self.now)
+            (solution self.now) (code_of block)) }
     {
         let mut stmts = Seq::new(alloc);
         for stmt in block.stmts.into_vec() {
@@ -63,16 +61,13 @@ impl Inlining<'_> {
         stmt: Stmt,
         made: &mut Seq<Stmt>,
     ) -> Result<(), AllocError>
-        ensures is { OnOk result ((c : Code)
-            → all_before (map before_of made.new)
-            (eval_code (program_of self.now.program.now) (found self.now.flow.now) fresh.new.next c)
-            ≡ all_before (map before_of made.old)
-            (eval_code (program_of self.now.program.now) (found self.now.flow.now) fresh.old.next
-            (before_of stmt c))) }
-        ensures next { OnOk result ((c : Code)
-            → fresh.new.next + code_room (program_of self.now.program.now) (found self.now.flow.now)
-            c ≡ fresh.old.next + code_room (program_of self.now.program.now)
-            (found self.now.flow.now) (before_of stmt c)) }
+        ensures is { OnOk result ((c : Code) → all_before (map before_of made.new)
+            (eval_code (program self.now) (solution self.now) fresh.new.next c)
+            ≡ all_before (map before_of made.old) (eval_code (program self.now) (solution self.now)
+            fresh.old.next (before_of stmt c))) }
+        ensures next { OnOk result ((c : Code) → fresh.new.next + code_room (program self.now)
+            (solution self.now) c ≡ fresh.old.next + code_room (program self.now)
+            (solution self.now) (before_of stmt c)) }
     {
         match stmt {
             Stmt::Store(cells) => made.push(Stmt::Store(cells))?,
@@ -93,12 +88,10 @@ impl Inlining<'_> {
         op: Op,
         before: &mut Seq<Stmt>,
     ) -> Result<Op, AllocError>
-        ensures is { IfOk result (λ o.
-            Follows (program_of self.now.program.now) (found self.now.flow.now) fresh.old.next
+        ensures is { IfOk result (λ o. Follows (program self.now) (solution self.now) fresh.old.next
             (act_of op) before.old before.new (act_of o)) }
-        ensures next { OnOk result (fresh.new.next
-            ≡ fresh.old.next + act_room (program_of self.now.program.now) (found self.now.flow.now)
-            (act_of op)) }
+        ensures next { OnOk result (fresh.new.next ≡ fresh.old.next + act_room (program self.now)
+            (solution self.now) (act_of op)) }
     {
         match op {
             Op::Eval(word) => {
@@ -121,12 +114,10 @@ impl Inlining<'_> {
     // The alternatives of a case.
     #[cycle(inline)]
     fn alts(&self, alloc: Global, fresh: &mut Fresh, alts: Seq<Alt>) -> Result<Seq<Alt>, AllocError>
-        ensures is { IfOk result (λ made. arms_of (map arm_of made)
-            ≡ eval_all (program_of self.now.program.now) (found self.now.flow.now) fresh.old.next
-            (arms_of (map arm_of alts))) }
-        ensures next { OnOk result (fresh.new.next
-            ≡ fresh.old.next + all_room (program_of self.now.program.now) (found self.now.flow.now)
-            (arms_of (map arm_of alts))) }
+        ensures is { IfOk result (λ made. arms_of (map arm_of made) ≡ eval_all (program self.now)
+            (solution self.now) fresh.old.next (arms_of (map arm_of alts))) }
+        ensures next { OnOk result (fresh.new.next ≡ fresh.old.next + all_room (program self.now)
+            (solution self.now) (arms_of (map arm_of alts))) }
     {
         let mut made = Seq::new(alloc);
         for alt in alts.into_vec() {
@@ -147,13 +138,10 @@ impl Inlining<'_> {
         word: Word,
     ) -> Result<Op, AllocError>
         ensures is { IfOk result (λ o. act_of o
-            ≡ case (NodeVar node)
-            (eval_arms (program_of self.now.program.now) (found self.now.flow.now) word node.0
-            fresh.old.next (tags_of (program_of self.now.program.now) (found self.now.flow.now)
-            word))) }
-        ensures next { OnOk result (fresh.new.next
-            ≡ fresh.old.next + arms_room (program_of self.now.program.now) (found self.now.flow.now)
-            (tags_of (program_of self.now.program.now) (found self.now.flow.now) word)) }
+            ≡ case (NodeVar node) (eval_arms (program self.now) (solution self.now) word node.0
+            fresh.old.next (tags_of (program self.now) (solution self.now) word))) }
+        ensures next { OnOk result (fresh.new.next ≡ fresh.old.next + arms_room (program self.now)
+            (solution self.now) (tags_of (program self.now) (solution self.now) word)) }
     {
         let mut alts = Seq::new(alloc);
         let mut from = 0;
@@ -176,11 +164,11 @@ impl Inlining<'_> {
     ) -> Result<Alt, AllocError>
         requires { tag.0 < length self.now.program.now.tags }
         ensures is { IfOk result (λ a. (rest : Arms) → arm a.pattern (code_of a.body) rest
-            ≡ eval_arm (program_of self.now.program.now) (found self.now.flow.now) word node.0
-            fresh.old.next tag.0 (slice_get self.now.program.now.tags tag.0) rest) }
+            ≡ eval_arm (program self.now) (solution self.now) word node.0 fresh.old.next tag.0
+            (slice_get self.now.program.now.tags tag.0) rest) }
         ensures next { OnOk result (fresh.new.next
-            ≡ suc (fresh.old.next + fields_at (program_of self.now.program.now)
-            (found self.now.flow.now) (slice_get self.now.program.now.tags tag.0))) }
+            ≡ suc (fresh.old.next + fields_at (program self.now) (solution self.now)
+            (slice_get self.now.program.now.tags tag.0))) }
     {
         let known = &self.program.tags.as_slice()[tag.0 as usize];
         let fields = fresh.variables(alloc, known.fields)?;

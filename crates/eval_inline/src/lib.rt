@@ -1,4 +1,4 @@
-// Evaluations by a case over the tags that they meet.
+//! Evaluations by a case over the tags that they meet.
 #![tactic(auto)]
 
 ghost use Rattle.std.specs.Prelude.{◌≡◌, IfOk};

@@ -7,15 +7,17 @@ use Rattle.grin_syntax.specs.declared.program.Word as W
 use Rattle.grin_syntax.specs.declared.program.Word.TheVariants.{Lit}
 use Rattle.grin_syntax.specs.declared.program.Target.TheVariants as to
 use Rattle.grin_syntax.specs.Tree.{Code, end, store, bind, Act, fetch, case, nested, Arms, no_arm, arm, Procedure}
-use Rattle.grin_syntax.specs.Binders.{times, numbers_of, target_vars, shape_vars, cell_vars, act_vars, code_vars, arms_vars, procs_vars}
+use Rattle.grin_syntax.specs.Binders.{numbers_of, target_vars, shape_vars, cell_vars, act_vars, code_vars, arms_vars, procs_vars}
 use Rattle.grin_syntax.specs.Fresh.{variable, variables, past_procs}
-use Rattle.grin_syntax.proofs.Counted.{times_append, counts, fresh, fresh_below, fresh_once, fresh_next, fresh_split}
+use Rattle.grin_syntax.proofs.Counted.{fresh, fresh_below, fresh_once, fresh_next, fresh_split}
 use Rattle.grin_syntax.proofs.Unbound.{past_procs_none}
 use Rattle.grin_meaning.specs.Ready.{most_fields}
 use Rattle.pass_ground.specs.Uses.{code_uses}
 use Rattle.fetch_passes.specs.Windows.{outside}
 use Rattle.fetch_passes.specs.Names.{Names, Wait, as_word, as_cells}
 use Rattle.fetch_passes.specs.Split.{fetched_if, word_fetches, front, front_names, names_after, waits_after, cell_after, all_words, node_arms, whole_node, split_act, split_code, split_arms, split_procs, made_act, made_code, made_arms}
+use Rattle.seq.specs.Lists.{times}
+use Rattle.seq.proofs.Counted.{counts, times_append}
 
 module _ (ts : List Tag) (u : ℕ) where
   fetch_counts : (o : Bool) (x : VarId) (a : W.Word) (i : ℕ) (c : Code) → times u (code_vars (fetched_if o x a i c)) ≤ counts (nat_eq u x.0) + times u (code_vars c)

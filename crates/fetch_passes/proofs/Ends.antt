@@ -1,5 +1,5 @@
 -- What the loops over the words of a node and over the tags keep.
-use Rattle.std.proofs.Common.{◌≡◌, ℕ, suc, ◌+◌, ◌<◌, ◌≤◌, max, List, [], ◌∷◌, ◌++◌, map, take, length, length-take, get_or, refl, sym, ap, ◌∙◌, subst, arith}
+use Rattle.std.proofs.Common.{◌≡◌, ℕ, suc, ◌+◌, ◌<◌, ◌≤◌, List, [], ◌∷◌, ◌++◌, map, take, length, length-take, get_or, refl, sym, ap, ◌∙◌, subst, arith}
 use Rattle.std.proofs.lemmas.List.{take_more, take_all}
 use Rattle.seq.proofs.Lists.{take_next}
 use Rattle.grin_syntax.specs.declared.program.VarId.{VarId}
@@ -13,18 +13,7 @@ use Rattle.grin_syntax.specs.declared.program.Target.TheVariants as to
 use Rattle.grin_syntax.specs.declared.program.Stmt.{Stmt}
 use Rattle.grin_syntax.specs.Tree.{Code, end, bind, unit, fetch_word, Arms, no_arm, arm, before_of, arm_of, all_before, arms_of}
 use Rattle.grin_syntax.specs.Tags.{tag_id}
-use Rattle.grin_meaning.specs.Ready.{most_fields}
 use Rattle.fetch_passes.specs.Split.{all_words, node_arms}
-
-most_push : (ts : List Tag) (t : Tag) → most_fields (ts ++ t ∷ []) ≡ max t.fields (most_fields ts)
-most_push [] t = refl
-most_push (u ∷ ts) t = let h : most_fields (ts ++ t ∷ []) ≡ max t.fields (most_fields ts) = most_push ts t in omega arith
-
-pub most_next : (ts : List Tag) (i : ℕ) (t : Tag) (old new : ℕ) → i < length ts → t ≡ get_or ts i t → new ≡ max t.fields old → old ≡ most_fields (take i ts) → new ≡ most_fields (take (i + 1) ts)
-most_next ts i t old new lt at n o =
-    let h : most_fields (take i ts ++ t ∷ []) ≡ max t.fields (most_fields (take i ts)) = most_push (take i ts) t in
-    let e : new ≡ most_fields (take i ts ++ t ∷ []) = omega arith in
-    e ∙ ap most_fields (sym (take_next ts i t lt at))
 
 words_push : (a : W.Word) (i : ℕ) (xs : List VarId) (x : VarId) (c : Code) → all_words a i (xs ++ x ∷ []) c ≡ all_words a i xs (bind (to.One x) (fetch_word a (i + length xs)) c)
 words_push a i [] x c = ap (λ k. bind (to.One x) (fetch_word a k) c) (let e : i ≡ i + 0 = omega arith in e)

@@ -1,17 +1,16 @@
 -- Steps of the two programs with fetches, side by side.
-use Rattle.std.proofs.Common.{◌≡◌, ◌≢◌, ℕ, suc, ◌<◌, ◌≤◌, Bool, true, false, nat_eq, List, [], ◌∷◌, Option, Some, None, slice_get, refl, sym, ap, ◌∙◌, subst, arith}
+use Rattle.std.proofs.Common.{◌≡◌, ◌≢◌, ℕ, suc, ◌<◌, ◌≤◌, Bool, true, false, nat_eq, List, [], ◌∷◌, Option, Some, None, slice_get, refl, sym, ap, ◌∙◌, arith}
 use Rattle.grin_syntax.specs.declared.program.VarId.{VarId}
 use Rattle.grin_syntax.specs.declared.program.Target.TheVariants as to
 use Rattle.grin_syntax.specs.declared.program.Word as W
 use Rattle.grin_syntax.specs.declared.program.Word.TheVariants.{Var}
 use Rattle.grin_syntax.specs.Tree.{Code, bind, fetch, fetch_word, Procedure, Program}
-use Rattle.grin_syntax.specs.Binders.{times, numbers_of}
+use Rattle.grin_syntax.specs.Binders.{numbers_of}
 use Rattle.grin_syntax.specs.Formed.{AllOf, InScope}
 use Rattle.grin_syntax.specs.Fresh.{variable}
-use Rattle.grin_syntax.proofs.Counted.{counts, one_at}
 use Rattle.grin_meaning.specs.Values.{Datum, Value, node, words, Env, HeapCell, World, gives, need, and_then, word_of}
 use Rattle.grin_meaning.specs.Run.{Calls, act_by, node_word, place_of}
-use Rattle.grin_meaning.specs.Follows.{Same, same}
+use Rattle.grin_meaning.specs.Follows.{Same}
 use Rattle.grin_meaning.specs.Full.{FullState}
 use Rattle.grin_meaning.proofs.Back.{CallsBack}
 use Rattle.grin_meaning.proofs.Beside.{no_deeper, Beside, beside}
@@ -26,12 +25,9 @@ use Rattle.fetch_passes.proofs.Found.{is_var, naming}
 use Rattle.fetch_passes.proofs.Near.{Sound, sound_more, Held, held_more, Waits, Near, waits_more}
 use Rattle.fetch_passes.proofs.Steps.{plus, plus_out, numbered, near_dropped, near_hidden, near_kept, near_named}
 use Rattle.fetch_passes.proofs.Waiting.{sound_naming}
-
-pub same_is : {A : Type 0} {a b : A} → Same a b → b ≡ a
-same_is same = refl
-
-pub is_same : {A : Type 0} (a b : A) → b ≡ a → Same a b
-is_same a b e = subst (Same a) (sym e) same
+use Rattle.grin_meaning.proofs.Plain.{same_is}
+use Rattle.seq.specs.Lists.{times}
+use Rattle.seq.proofs.Counted.{counts, one_at}
 
 -- what a fetch gives, in the world in which it begins
 pub record Fetches (g : Program) (env : Env) (a : W.Word) (w : World) (v : HeapCell → Value) (x : Value) (w' : World) : Type 0 where

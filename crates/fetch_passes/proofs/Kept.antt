@@ -1,9 +1,9 @@
 -- A program with its fetches split keeps the program.
-use Rattle.std.proofs.Common.{◌≡◌, ℕ, zero, suc, pos, ◌+◌, ◌<◌, ◌≤◌, true, List, [], ◌∷◌, length, Some, refl, ap, arith}
+use Rattle.std.proofs.Common.{◌≡◌, ℕ, suc, pos, ◌+◌, ◌<◌, ◌≤◌, true, List, [], ◌∷◌, length, Some, refl, ap, arith}
 use Rattle.grin_syntax.specs.declared.program.Word.TheVariants.{Lit}
 use Rattle.grin_syntax.specs.Tree.{Procedure, Program}
-use Rattle.grin_syntax.specs.Binders.{times, numbers_of, code_vars, procs_vars}
-use Rattle.grin_syntax.specs.Formed.{AllOf, InScope, params_scope, ProcedureFormed, Formed}
+use Rattle.grin_syntax.specs.Binders.{numbers_of, code_vars, procs_vars}
+use Rattle.grin_syntax.specs.Formed.{AllOf, params_scope, ProcedureFormed, Formed}
 use Rattle.grin_syntax.specs.Fresh.{past_vars, past_code, past_procs}
 use Rattle.grin_syntax.proofs.Unbound.{past_vars_none, past_code_none}
 use Rattle.grin_meaning.specs.Values.{Datum, Value, HeapCell, Binding, with_vars, one_each}
@@ -18,28 +18,22 @@ use Rattle.grin_meaning.proofs.Back.{CallsBack}
 use Rattle.grin_meaning.proofs.Fullness.{nodes_full}
 use Rattle.grin_meaning.proofs.Beside.{no_deeper, Likewise, Seen}
 use Rattle.grin_meaning.proofs.Rules.{CallsFollow}
-use Rattle.grin_meaning.proofs.Procedures.{nothing, BodyFollows, BodiesFollow, no_more, one_more, run_follows}
+use Rattle.grin_meaning.proofs.Procedures.{BodyFollows, BodiesFollow, no_more, one_more, run_follows}
 use Rattle.grin_meaning.proofs.KeptBy.{likewise_kept, looking_kept}
 use Rattle.fetch_passes.specs.Split.{made_code, split_code, split_procs, split}
 use Rattle.fetch_passes.proofs.Near.{itself, Near}
 use Rattle.fetch_passes.proofs.Fetching.{plan_of, it}
 use Rattle.fetch_passes.proofs.Simulated.{code_goes}
 use Rattle.fetch_passes.proofs.Once.{first_once, others_once}
+use Rattle.seq.specs.Lists.{times}
+use Rattle.grin_meaning.proofs.Scopes.{scope_below as below}
+use Rattle.grin_meaning.proofs.Paired.{nothing}
 
 pub split_count : (g : Program) (n : ℕ) (qs : List Procedure) → length (split_procs g.tags n qs) ≡ length qs
 split_count g n [] = refl
 split_count g n (q ∷ qs) = ap suc (split_count g (n + made_code g.tags [] q.body) qs)
 
 -- what a piece binds is below the first variable that is past it
-pub below : (p : ℕ) (xs : List ℕ) → ((y : ℕ) → p ≤ y → times y xs ≡ 0) → (y : ℕ) → InScope xs y → y < p
-below p xs f y i = go (times y xs) refl (f y)
-  where
-    go : (m : ℕ) → times y xs ≡ m → (p ≤ y → times y xs ≡ 0) → y < p
-    go zero q k = absurd (omega (arith, q, i))
-    go (suc m) q k = less (λ l. omega (arith, q, k l))
-      where
-        less : (p ≤ y → ⊥) → y < p
-        less n = omega (arith, n)
 
 module _ (g : Program) (formed : Formed g) (never : NeverMissed g) (inlined : EachBody inlined_kind g.procs) (bare : IsVectorised g) where
   abbrev base : ℕ

@@ -25,6 +25,7 @@ use Rattle.grin_meaning.proofs.OneSided.{right_follows}
 use Rattle.fetch_passes.specs.Split.{all_words, node_arms, whole_node}
 use Rattle.fetch_passes.proofs.Steps.{plus, plus_out, plus_in}
 use Rattle.fetch_passes.proofs.Fetching.{fetches, plan_of, it, cells_same}
+use Rattle.grin_meaning.proofs.Fields.{fields_fit}
 
 -- so many words of a node, from the j-th on
 abbrev pub words_from : Node → ℕ → ℕ → List Datum
@@ -41,11 +42,6 @@ fields_taken n (d ∷ fs) j zero f le = absurd (omega (arith, le))
 fields_taken n (d ∷ fs) j (suc m) f le =
     let e : j + 0 ≡ j = omega arith in
     λ i. (ap (nth_or_zero n.fields) (sym e) ∙ f 0) i ∷ fields_taken n fs (suc j) m (λ i. (let k : suc j + i ≡ j + suc i = omega arith in ap (nth_or_zero n.fields) k) ∙ f (suc i)) (omega (arith, le)) i
-
-fields_fit : (ts : List Tag) (t k : ℕ) → and_then (slice_get ts t) (λ i. Some i.fields) ≡ Some k → k ≤ most_fields ts
-fields_fit [] t k e = cc
-fields_fit (x ∷ ts) zero k e = let h : x.fields ≡ k = cc in omega (arith, h)
-fields_fit (x ∷ ts) (suc t) k e = let h : k ≤ most_fields ts = fields_fit ts t k e in omega (arith, h)
 
 module _ (g : Program) where
   words_taken : (env : Env) (xs : List VarId) (ds : List Datum) (k : ℕ) → words_of g env (map Var xs) ≡ Some ds → words_of g env (map Var (take k xs)) ≡ Some (take k ds)

@@ -5,15 +5,15 @@ use Rattle.grin_syntax.specs.declared.program.VarId.{VarId}
 use Rattle.grin_syntax.specs.declared.program.Word as W
 use Rattle.grin_syntax.specs.declared.program.Word.TheVariants.{Lit, Var, Global, TagWord}
 use Rattle.grin_syntax.specs.Tree.{Program}
-use Rattle.grin_syntax.specs.Binders.{times}
 use Rattle.grin_syntax.specs.Formed.{AllOf, InScope}
-use Rattle.grin_syntax.proofs.Counted.{times_append}
 use Rattle.grin_meaning.specs.Values.{Datum, Env, HeapCell, and_then, only_word, Binding, with_vars, word_of}
 use Rattle.grin_meaning.specs.Run.{node_word, place_of}
 use Rattle.pass_ground.specs.Uses.{word_is}
 use Rattle.fetch_passes.specs.Names.{Names, Wait, as_word}
 use Rattle.pass_ground.proofs.Bound.{names_of, vars_out, vars_in}
 use Rattle.fetch_passes.proofs.Found.{is_var}
+use Rattle.seq.specs.Lists.{times}
+use Rattle.seq.proofs.Counted.{times_append}
 
 -- what stands for the variable z: itself, a new variable of those from base to n, or nothing; the last two where z is in scope
 pub data At (base n : ℕ) (xs : List ℕ) (z : ℕ) : W.Word → Type 0 where

@@ -1,8 +1,9 @@
 -- Where no variable of some procedures is bound twice, none of their first one is, nor of the others.
 use Rattle.std.proofs.Common.{◌≡◌, ℕ, ◌+◌, ◌≤◌, List, ◌∷◌, ◌++◌, arith}
-use Rattle.grin_syntax.specs.Binders.{times, numbers_of, code_vars, procs_vars}
+use Rattle.grin_syntax.specs.Binders.{numbers_of, code_vars, procs_vars}
 use Rattle.grin_syntax.specs.Tree.{Procedure}
-use Rattle.grin_syntax.proofs.Counted.{times_append}
+use Rattle.seq.specs.Lists.{times}
+use Rattle.seq.proofs.Counted.{times_append}
 
 module _ (q : Procedure) (qs : List Procedure) (y : ℕ) (once : times y (procs_vars (q ∷ qs)) ≤ 1) where
   abbrev own : ℕ

@@ -11,10 +11,9 @@ use Rattle.grin_syntax.specs.declared.program.Val as V
 use Rattle.grin_syntax.specs.declared.program.Val.TheVariants.{NodeVar, Node, Vector, One}
 use Rattle.grin_syntax.specs.declared.program.Target.TheVariants as to
 use Rattle.grin_syntax.specs.Tree.{Code, end, store, bind, Act, fetch, fetch_word, case, nested, Arms, no_arm, arm, Procedure}
-use Rattle.grin_syntax.specs.Binders.{times, numbers_of, target_vars, shape_vars, cell_vars, act_vars, code_vars, arms_vars, procs_vars}
+use Rattle.grin_syntax.specs.Binders.{numbers_of, target_vars, shape_vars, cell_vars, act_vars, code_vars, arms_vars, procs_vars}
 use Rattle.grin_syntax.specs.Formed.{AllOf, InScope}
 use Rattle.grin_syntax.specs.Fresh.{variable, variables, past_code, past_procs}
-use Rattle.grin_syntax.proofs.Counted.{times_append, counts, one_at}
 use Rattle.grin_syntax.proofs.Unbound.{past_code_none}
 use Rattle.grin_meaning.specs.Ready.{NoNodeVar, EachAct, EachCode, EachArms, most_fields, EachBody, vectorised_kind}
 use Rattle.pass_ground.specs.Uses.{word_is, val_uses, code_uses, arms_use, act_mentions}
@@ -23,13 +22,16 @@ use Rattle.fetch_passes.specs.Names.{Names, Wait, as_word, as_val, hiding}
 use Rattle.fetch_passes.specs.Split.{fetched_if, word_fetches, waits_of, front, front_names, all_words, node_arms, whole_node, split_act, split_code, split_arms, split_procs, made_act, made_code}
 use Rattle.fetch_passes.specs.Placed.{by_nodes_kind}
 use Rattle.fetch_passes.specs.Positions.{Tagged, Position, after_tag, at_front, elsewhere, GiveNodes, GivesNode, ActPlaced, CodePlaced, ArmsPlaced}
-use Rattle.pass_ground.proofs.Tests.{never_both, same_var}
+use Rattle.pass_ground.proofs.Tests.{never_both}
 use Rattle.fetch_passes.proofs.Found.{is_waiting, hiding_is}
 use Rattle.fetch_passes.proofs.Near.{At, itself, renamed, gone, Sound, sound_more}
 use Rattle.fetch_passes.proofs.Waiting.{waits_in, waits_outside, both_own, sound_new, sound_hiding, front_sound}
-use Rattle.fetch_passes.proofs.Kept.{below}
 use Rattle.fetch_passes.proofs.Used.{both_or, word_used, val_used, hiding_stays, not_here, not_waiting, act_used, code_used, all_in, once_after, once_before}
 use Rattle.fetch_passes.proofs.Once.{first_once, others_once}
+use Rattle.seq.specs.Lists.{times}
+use Rattle.seq.proofs.Counted.{counts, times_append, one_at}
+use Rattle.grin_meaning.proofs.Scopes.{scope_left, scope_right, scope_below}
+use Rattle.grin_syntax.proofs.Placed.{same_var}
 
 -- ---- the tag's variable stands for itself, and nothing else for it
 
@@ -353,21 +355,15 @@ record Walk (base : ℕ) (zs : List ℕ) (ks : Names) (ps : List Wait) (n : ℕ)
   once : (y : ℕ) → times y zs + times y vars ≤ 1
   low : (y : ℕ) → InScope vars y → y < base
 
-in_left : (xs ys : List ℕ) (y : ℕ) → InScope xs y → InScope (xs ++ ys) y
-in_left xs ys y i = let e : times y (xs ++ ys) ≡ times y xs + times y ys = times_append y xs ys in omega (arith, e, i)
-
-in_right : (xs ys : List ℕ) (y : ℕ) → InScope ys y → InScope (xs ++ ys) y
-in_right xs ys y i = let e : times y (xs ++ ys) ≡ times y xs + times y ys = times_append y xs ys in omega (arith, e, i)
-
 module _ (base : ℕ) (zs : List ℕ) (ks : Names) where
   walk_none : (ps : List Wait) (n : ℕ) (vars : List ℕ) → Walk base zs ks ps n vars → Walk base zs ks [] n vars
   walk_none ps n vars x = record { sound = x.sound; inside = λ z e. cc; from = x.from; once = x.once; low = x.low }
 
   walk_left : (ps : List Wait) (n : ℕ) (xs ys : List ℕ) → Walk base zs ks ps n (xs ++ ys) → Walk base zs ks ps n xs
-  walk_left ps n xs ys x = record { sound = x.sound; inside = x.inside; from = x.from; once = once_before [] zs xs ys x.once; low = λ y i. x.low y (in_left xs ys y i) }
+  walk_left ps n xs ys x = record { sound = x.sound; inside = x.inside; from = x.from; once = once_before [] zs xs ys x.once; low = λ y i. x.low y (scope_left xs ys y i) }
 
   walk_right : (ps : List Wait) (n : ℕ) (xs ys : List ℕ) → Walk base zs ks ps n (xs ++ ys) → Walk base zs ks ps n ys
-  walk_right ps n xs ys x = record { sound = x.sound; inside = x.inside; from = x.from; once = once_after [] zs xs ys x.once; low = λ y i. x.low y (in_right xs ys y i) }
+  walk_right ps n xs ys x = record { sound = x.sound; inside = x.inside; from = x.from; once = once_after [] zs xs ys x.once; low = λ y i. x.low y (scope_right xs ys y i) }
 
   walk_on : (ps : List Wait) (n m : ℕ) (vars : List ℕ) → n ≤ m → Walk base zs ks ps n vars → Walk base zs ks ps m vars
   walk_on ps n m vars le x = record { sound = sound_more base n m zs zs ks le (λ y i. i) x.sound; inside = x.inside; from = omega (arith, le, x.from); once = x.once; low = x.low }
@@ -394,7 +390,7 @@ module _ (base : ℕ) (v : VarId) (vs : List VarId) (b : Code) (zs : List ℕ) (
   v_in = let e : counts (nat_eq v.0 v.0) ≡ 1 = one_at v.0 in omega (arith, e)
 
   v_low : v.0 < base
-  v_low = x.low v.0 (in_left ys (code_vars b) v.0 v_in)
+  v_low = x.low v.0 (scope_left ys (code_vars b) v.0 v_in)
 
   v_new : (times v.0 zs ≡ 0) × (times v.0 (numbers_of vs) ≡ 0) × (times v.0 (code_vars b) ≡ 0)
   v_new = let o : times v.0 zs + times v.0 ys + times v.0 (code_vars b) ≤ 1 = all_once v.0 in let e : counts (nat_eq v.0 v.0) ≡ 1 = one_at v.0 in (omega (arith, o, e), omega (arith, o, e), omega (arith, o, e))
@@ -403,20 +399,20 @@ module _ (base : ℕ) (v : VarId) (vs : List VarId) (b : Code) (zs : List ℕ) (
   v_alone = hiding_alone ws ks v (not_waiting v.0 b 1 vs v.0 v_new.1) (alone_new base n zs ks v x.sound v_new.0 v_low)
 
   ws_in : (z : ℕ) → is_waiting ws z ≡ true → InScope (ys ++ zs) z
-  ws_in z e = let k : InScope (numbers_of vs) z = waits_in v.0 b 1 vs z e in in_left ys zs z (omega (arith, k))
+  ws_in z e = let k : InScope (numbers_of vs) z = waits_in v.0 b 1 vs z e in scope_left ys zs z (omega (arith, k))
 
   walk_node : Walk base (ys ++ zs) (hiding ws ks) (cond (owns v.0 b) ws ps) (n + 0) (code_vars b)
   walk_node = record {
-    sound = sound_hiding base (n + 0) (ys ++ zs) ks ws (sound_more base n (n + 0) zs (ys ++ zs) ks (omega arith) (in_right ys zs) x.sound) ws_in;
+    sound = sound_hiding base (n + 0) (ys ++ zs) ks ws (sound_more base n (n + 0) zs (ys ++ zs) ks (omega arith) (scope_right ys zs) x.sound) ws_in;
     inside = λ z e. inside (owns v.0 b) z e;
     from = omega (arith, x.from);
     once = λ y. (let o : times y zs + times y ys + times y (code_vars b) ≤ 1 = all_once y in let t : times y (ys ++ zs) ≡ times y ys + times y zs = times_append y ys zs in omega (arith, o, t));
-    low = λ y i. x.low y (in_right ys (code_vars b) y i);
+    low = λ y i. x.low y (scope_right ys (code_vars b) y i);
   }
     where
       inside : (o : Bool) (z : ℕ) → is_waiting (cond o ws ps) z ≡ true → InScope (ys ++ zs) z
       inside true z e = ws_in z e
-      inside false z e = in_right ys zs z (x.inside z e)
+      inside false z e = scope_right ys zs z (x.inside z e)
 
   waits_node : (next : Position) (a c : W.Word) → Waits next a ps → Waits (cond (owns v.0 b) (at_front (tagged c v.0 (kept v.0 b 1 vs []))) next) (cond (owns v.0 b) c a) (cond (owns v.0 b) ws ps)
   waits_node next a c w = go (owns v.0 b)
@@ -429,9 +425,9 @@ module _ (base : ℕ) (v : VarId) (vs : List VarId) (b : Code) (zs : List ℕ) (
   owned_node w = go (owns v.0 b) refl w
     where
       go : (o : Bool) → owns v.0 b ≡ o → Owned ps zs b → Owned (cond o ws ps) (ys ++ zs) b
-      go true q w = inr (v.0, q, in_left ys zs v.0 v_in)
+      go true q w = inr (v.0, q, scope_left ys zs v.0 v_in)
       go false q (inl e) = inl e
-      go false q (inr r) = inr (r.0, r.1, in_right ys zs r.0 r.2)
+      go false q (inr r) = inr (r.0, r.1, scope_right ys zs r.0 r.2)
 
   kept_outside : (ts : List Tag) (a : W.Word) → EachCode vectorised_kind b → EachCode by_nodes_kind b → (y : VarId) → InScope (numbers_of vs) y.0 → outside v.0 y.0 b ≡ true → outside v.0 y.0 (split_code ts (hiding ws ks) a (cond (owns v.0 b) ws ps) (n + 0) b) ≡ true
   kept_outside ts a e k y i o = outside_stays ts b (hiding ws ks) a (cond (owns v.0 b) ws ps) (n + 0) v y y v_alone (hiding_stays ws ks y y mine (sound_new base n zs ks x.sound y (let q : times y.0 zs + times y.0 ys + times y.0 (code_vars b) ≤ 1 = all_once y.0 in omega (arith, q, i)))) (go (owns v.0 b)) v_new.2
@@ -519,7 +515,7 @@ module _ (ts : List Tag) (base : ℕ) where
           inside = λ z h. cc;
           from = le;
           once = here;
-          low = λ y i. (let l : y < past_code q.body = below (past_code q.body) (code_vars q.body) (λ y h. past_code_none y q.body h) y i in omega (arith, l, past));
+          low = λ y i. (let l : y < past_code q.body = scope_below (past_code q.body) (code_vars q.body) (λ y h. past_code_none y q.body h) y i in omega (arith, l, past));
         })
         (inl refl) (inl refl) e.0 k.0,
     procs_placed qs (n + made_code ts [] q.body) (omega (arith, le)) (omega (arith, past)) later e.1 k.1,

@@ -11,10 +11,9 @@ use Rattle.grin_syntax.specs.declared.program.Val.TheVariants.{NodeVar, Node, Ve
 use Rattle.grin_syntax.specs.declared.program.Target as T
 use Rattle.grin_syntax.specs.declared.program.Target.TheVariants as to
 use Rattle.grin_syntax.specs.Tree.{Code, end, store, bind, Act, unit, fetch, fetch_word, update, eval, apply, call, prim, read, write, case, nested, fail, Arms, no_arm, arm, Procedure, Program}
-use Rattle.grin_syntax.specs.Binders.{times, numbers_of, target_vars, cell_vars}
+use Rattle.grin_syntax.specs.Binders.{numbers_of, target_vars, cell_vars}
 use Rattle.grin_syntax.specs.Formed.{AllOf, Scope, InScope, with_words, with_target, params_scope, WordFormed, ValFormed, CellFormed, ActFormed, CodeFormed, ArmsFormed, ProcedureFormed}
 use Rattle.grin_syntax.specs.Fresh.{variable, variables}
-use Rattle.grin_syntax.proofs.Counted.{times_append, counts, one_at}
 use Rattle.grin_syntax.proofs.Scopes.{with_procs, known_again, shape_stays}
 use Rattle.grin_meaning.specs.Ready.{NoNodeTarget, NoNodeVar, EachAct, EachCode, EachArms, most_fields, EachBody, vectorised_kind}
 use Rattle.pass_ground.specs.Uses.{code_uses}
@@ -24,6 +23,8 @@ use Rattle.fetch_passes.specs.Split.{fetched_if, word_fetches, waits_of, front, 
 use Rattle.pass_ground.proofs.Tests.{never_both}
 use Rattle.fetch_passes.proofs.Found.{is_waiting, hiding_is, naming_is}
 use Rattle.fetch_passes.proofs.Waiting.{waits_too}
+use Rattle.seq.specs.Lists.{times}
+use Rattle.seq.proofs.Counted.{counts, times_append, one_at}
 
 module _ (g : Program) (procs : List Procedure) (same_count : length procs ≡ length g.procs) where
   abbrev pub after : Program

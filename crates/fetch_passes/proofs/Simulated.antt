@@ -11,9 +11,8 @@ use Rattle.grin_syntax.specs.declared.program.Val as V
 use Rattle.grin_syntax.specs.declared.program.Word as W
 use Rattle.grin_syntax.specs.declared.program.Word.TheVariants.{Lit, Var, Global, TagWord}
 use Rattle.grin_syntax.specs.Tree.{Code, end, store, bind, Act, unit, fetch, fetch_word, update, eval, apply, call, prim, read, write, case, nested, fail, Arms, no_arm, arm, Procedure, Program}
-use Rattle.grin_syntax.specs.Binders.{times, numbers_of, target_vars, shape_vars, cell_vars, act_vars, code_vars, arms_vars}
+use Rattle.grin_syntax.specs.Binders.{numbers_of, target_vars, shape_vars, cell_vars, act_vars, code_vars, arms_vars}
 use Rattle.grin_syntax.specs.Formed.{AllOf, Scope, InScope, with_words, with_target, WordFormed, ValFormed, CellFormed, ActFormed, CodeFormed, ArmsFormed}
-use Rattle.grin_syntax.proofs.Counted.{times_append, counts, one_at}
 use Rattle.grin_meaning.specs.Values.{Datum, tag, cell, Node, Value, node, words, Env, HeapCell, and_then, padded, Binding, with_vars, fits, word_of, value_of, bindings_of}
 use Rattle.grin_meaning.specs.Run.{Calls, places, cells_of, place_of}
 use Rattle.grin_meaning.specs.Checks.{has_block, is_given, all_fill, is_bound_well}
@@ -36,7 +35,10 @@ use Rattle.fetch_passes.proofs.Steps.{plus, plus_out, bound_each, numbered, node
 use Rattle.fetch_passes.proofs.Words.{Clear, clear_left, clear_right, SameFits, same_fits, arms_same, fit_nothing, fewer_uses, word_goes, words_go, value_goes, node_goes, fills_go, node_fills, cells_go, all_fill_goes, own_goes}
 use Rattle.fetch_passes.proofs.Waiting.{waits_outside, waits_in, waits_too, waits_some, outside_uses, both_own, sound_new, sound_hiding, front_sound, front_hidden}
 use Rattle.fetch_passes.proofs.LastFetch.{ending_follows}
-use Rattle.fetch_passes.proofs.Fetching.{is_same, Fetches, fetch_gave, fetch_word_gave, plan_of, it, cells_same, kept_follows, words_follow, front_follows}
+use Rattle.fetch_passes.proofs.Fetching.{Fetches, fetch_gave, fetch_word_gave, plan_of, it, cells_same, kept_follows, words_follow, front_follows}
+use Rattle.seq.specs.Lists.{times}
+use Rattle.seq.proofs.Counted.{counts, times_append, one_at}
+use Rattle.grin_meaning.proofs.Following.{is_same}
 
 -- the words in scope after a target that binds no node
 target_words : (t : Target) (scope : Scope) → NoNodeTarget t → (with_target t scope).words ≡ target_vars t ++ scope.words

@@ -5,18 +5,20 @@ use Rattle.grin_syntax.specs.declared.program.VarId.{VarId}
 use Rattle.grin_syntax.specs.declared.program.Word as W
 use Rattle.grin_syntax.specs.declared.program.Word.TheVariants.{Lit, Var, Global, TagWord}
 use Rattle.grin_syntax.specs.Tree.{Program}
-use Rattle.grin_syntax.specs.Binders.{times, numbers_of}
+use Rattle.grin_syntax.specs.Binders.{numbers_of}
 use Rattle.grin_syntax.specs.Formed.{AllOf, InScope}
 use Rattle.grin_syntax.specs.Fresh.{variable}
-use Rattle.grin_syntax.proofs.Counted.{times_append, counts, one_at}
 use Rattle.grin_meaning.specs.Values.{Datum, tag, words, Env, HeapCell, and_then, only_word, padded, Binding, with_vars, one_each, word_of}
 use Rattle.grin_meaning.specs.Run.{node_word, nth_or_zero, place_of}
 use Rattle.pass_ground.specs.Uses.{word_is}
 use Rattle.fetch_passes.specs.Names.{Names, Wait, as_word, hiding}
-use Rattle.pass_ground.proofs.Tests.{never_both, same_var}
+use Rattle.pass_ground.proofs.Tests.{never_both}
 use Rattle.pass_ground.proofs.Bound.{names_of, vars_out, one_each_names}
 use Rattle.fetch_passes.proofs.Found.{is_var, is_waiting, hiding_is, naming, naming_is}
 use Rattle.fetch_passes.proofs.Near.{At, itself, renamed, Sound, Held, Waits, Near, waits_more}
+use Rattle.seq.specs.Lists.{times}
+use Rattle.seq.proofs.Counted.{counts, times_append, one_at}
+use Rattle.grin_syntax.proofs.Placed.{same_var}
 
 -- one variable with a word
 abbrev pub plus : ℕ → Datum → Env → Env

@@ -11,20 +11,22 @@ use Rattle.grin_syntax.specs.declared.program.Val as V
 use Rattle.grin_syntax.specs.declared.program.Val.TheVariants.{NodeVar, Node, Vector, One}
 use Rattle.grin_syntax.specs.declared.program.Target.TheVariants as to
 use Rattle.grin_syntax.specs.Tree.{Code, end, store, bind, Act, unit, fetch, fetch_word, update, eval, apply, call, prim, read, write, case, nested, fail, Arms, no_arm, arm, Procedure}
-use Rattle.grin_syntax.specs.Binders.{times, numbers_of, target_vars, shape_vars, cell_vars, act_vars, code_vars, arms_vars, procs_vars}
+use Rattle.grin_syntax.specs.Binders.{numbers_of, target_vars, shape_vars, cell_vars, act_vars, code_vars, arms_vars, procs_vars}
 use Rattle.grin_syntax.specs.Formed.{AllOf, InScope}
 use Rattle.grin_syntax.specs.Fresh.{variable, variables}
-use Rattle.grin_syntax.proofs.Counted.{times_append, counts, one_at}
 use Rattle.grin_meaning.specs.Ready.{NoNodeVar, EachAct, EachCode, EachArms, most_fields, EachBody, vectorised_kind}
 use Rattle.pass_ground.specs.Uses.{word_is, words_use, val_uses, cells_use, act_uses, code_uses, arms_use, act_mentions}
 use Rattle.fetch_passes.specs.Windows.{tests_number, vector_uses, decides, act_owns, is_passed, owns, act_outside, outside}
 use Rattle.fetch_passes.specs.Names.{Names, Wait, as_word, as_words, as_val, as_cells, hiding, named_if}
 use Rattle.fetch_passes.specs.Split.{fetched_if, word_fetches, waits_of, front, front_names, all_words, node_arms, whole_node, split_act, split_code, split_arms, split_procs, made_act, made_code}
 use Rattle.fetch_passes.specs.Placed.{CodeFetchesUsed, ActFetchesUsed, ArmsFetchUsed, WordUsed, by_nodes_kind}
-use Rattle.pass_ground.proofs.Tests.{never_both, same_var}
+use Rattle.pass_ground.proofs.Tests.{never_both}
 use Rattle.fetch_passes.proofs.Found.{is_waiting, hiding_is, naming_is}
 use Rattle.fetch_passes.proofs.Waiting.{waits_in, waits_outside}
 use Rattle.fetch_passes.proofs.Once.{first_once, others_once}
+use Rattle.seq.specs.Lists.{times}
+use Rattle.seq.proofs.Counted.{counts, times_append, one_at}
+use Rattle.grin_syntax.proofs.Placed.{same_var}
 
 pub both_or : (a b c d : Bool) → (a ≡ true → c ≡ true) → (b ≡ true → d ≡ true) → (a || b) ≡ true → (c || d) ≡ true
 both_or true b c d f h e = or_left c d (f refl)

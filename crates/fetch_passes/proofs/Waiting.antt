@@ -7,17 +7,19 @@ use Rattle.grin_syntax.specs.declared.program.Word.TheVariants.{Lit, Var, Global
 use Rattle.grin_syntax.specs.declared.program.Val as V
 use Rattle.grin_syntax.specs.declared.program.Val.TheVariants.{NodeVar, Node, Vector, One}
 use Rattle.grin_syntax.specs.Tree.{Code, end, store, bind, Act, unit, fetch, fetch_word, update, eval, apply, call, prim, read, write, case, nested, fail}
-use Rattle.grin_syntax.specs.Binders.{times, numbers_of}
+use Rattle.grin_syntax.specs.Binders.{numbers_of}
 use Rattle.grin_syntax.specs.Formed.{AllOf, InScope}
 use Rattle.grin_syntax.specs.Fresh.{variable}
-use Rattle.grin_syntax.proofs.Counted.{counts, one_at}
 use Rattle.pass_ground.specs.Uses.{act_uses, code_uses, act_mentions}
 use Rattle.fetch_passes.specs.Windows.{begins_with, decides, act_owns, is_passed, owns, act_outside, outside}
 use Rattle.fetch_passes.specs.Names.{Names, Wait, as_word, hiding, named_if}
 use Rattle.fetch_passes.specs.Split.{waits_of, front_names}
-use Rattle.pass_ground.proofs.Tests.{never_both, same_var}
+use Rattle.pass_ground.proofs.Tests.{never_both}
 use Rattle.fetch_passes.proofs.Found.{is_var, is_waiting, hiding_is, naming, naming_is}
 use Rattle.fetch_passes.proofs.Near.{At, itself, renamed, gone, Sound, at_more}
+use Rattle.seq.specs.Lists.{times}
+use Rattle.seq.proofs.Counted.{counts, one_at}
+use Rattle.grin_syntax.proofs.Placed.{same_var}
 
 -- ---- what waits
 

@@ -7,11 +7,11 @@ use Rattle.grin_syntax.specs.declared.program.Shape.TheVariants as shape
 use Rattle.grin_syntax.specs.declared.program.Target.{Target}
 use Rattle.grin_syntax.specs.declared.program.Target.TheVariants as to
 use Rattle.grin_syntax.specs.Tree.{Code, end, store, bind, Act, unit, fetch, fetch_word, case, nested, Arms, no_arm, arm, Program}
-use Rattle.grin_syntax.specs.Binders.{times}
 use Rattle.grin_syntax.specs.Formed.{AllOf}
 use Rattle.grin_syntax.specs.Fresh.{past_procs}
 use Rattle.fetch_passes.specs.Windows.{begins_with, owns, outside}
 use Rattle.fetch_passes.specs.Placed.{ByNodes}
+use Rattle.seq.specs.Lists.{times}
 
 -- a cell whose tag was fetched: the variable of the tag, and the words that were fetched since
 pub record Tagged : Type 0 where

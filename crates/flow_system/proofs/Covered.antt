@@ -17,7 +17,7 @@ use Rattle.grin_syntax.specs.declared.program.Word.TheVariants.{Global}
 use Rattle.grin_syntax.specs.declared.program.Val.{Val}
 use Rattle.grin_syntax.specs.declared.program.Val.TheVariants.{Vector as VectorVal, Node as NodeVal}
 use Rattle.grin_syntax.specs.Tree.{Code, end, store, bind, Act, unit, fetch, fetch_word, update, eval, apply, call, prim, read, write, case, nested, fail, Arms, no_arm, arm, Procedure, Program}
-use Rattle.grin_meaning.specs.Values.{Datum, number, tag as tag', cell, Node, Value, node, words, Env, HeapCell, State, World, Answer, gives, stops, then_do, need, and_then, Binding, with_vars, one_each, Fit, fits, fits_not, unclear, fit_of, fits_if, fields_fit, node_fit, number_fit, int_fit, fields_of, made_node, as_node, word_of, words_of, value_of, node_of, bindings_of}
+use Rattle.grin_meaning.specs.Values.{Datum, number, tag as tag', cell, Node, Value, node, words, Env, HeapCell, World, Answer, gives, stops, then_do, need, and_then, Binding, with_vars, one_each, Fit, fits, fits_not, unclear, fit_of, fits_if, fields_fit, node_fit, number_fit, int_fit, fields_of, made_node, as_node, word_of, words_of, value_of, node_of, bindings_of}
 use Rattle.grin_meaning.specs.Run.{Calls, act, code, arms, calls, run, choose, spend, spent, passing, places, cells_of, with_cells, with_node, place_of, number_of, on_numbers, byte_or_end, after_read, node_word, eval_cell, eval_tag, updated, apply_part, is_fun_kind, is_part_kind, is_evaluated, is_some_and, part_from, start_words, start_world, global_cells, nth_or_zero}
 use Rattle.grin_meaning.specs.Keeps.{world_of}
 use Rattle.grin_meaning.specs.Follows.{Every}
@@ -28,12 +28,9 @@ use Rattle.flow_system.specs.Solution.{Solution, Sets, At, one_word, AsNodes, no
 use Rattle.flow_system.specs.Covers.{site_at, DatumIn, AllIn, NodeIn, ValueIn, GlobalsThere, Lies, Started, Covers, SolutionsCover}
 use Rattle.flow_system.proofs.Lying.{from_some, if_map, if_is, datum_mono, all_mono, all_snoc, Extends, extends_self, extends_on, node_on, value_on, node_mono, Narrow, value_as_node, made_if, BindingsLie, words_bound, Lands, lands, nothing_lands, ArgumentsLie, parameters_lie, nth_lies, EnvLies, env_with, WordsLie, GivenIn, word_lies, words_lie, value_lies, node_lies, place_lies}
 use Rattle.flow_system.proofs.Heap.{set_extends, set_cells, append_extends, append_cells, EachCell, SitesAre, has_sites, sites_are, CellLies, cell_on, met_front, met_back, places_lie, cells_lie, forced}
+use Rattle.grin_meaning.proofs.Fullness.{every_and}
 
-every_snoc : (P : State → Type 0) (ss : List State) (s : State) → Every P ss → P s → Every P (ss ++ s ∷ [])
-every_snoc P [] s e y = (y, tt)
-every_snoc P (x ∷ ss) s e y = (e.0, every_snoc P ss s e.1 y)
-
-site_is : (h : List HeapCell) (i s : ℕ) (c : HeapCell) → site_at h i ≡ Some s → slice_get h i ≡ Some c → s ≡ c.site
+pub site_is : (h : List HeapCell) (i s : ℕ) (c : HeapCell) → site_at h i ≡ Some s → slice_get h i ≡ Some c → s ≡ c.site
 site_is h i s c e q =
     let f : site_at h i ≡ Some c.site = ap (λ o. and_then o (λ k. Some k.site)) q in
     let g : Some s ≡ Some c.site = sym e ∙ f in
@@ -79,7 +76,7 @@ module _ (p : Program) (A : Solution) where
   pass env w g el = record {
     cells_good = g.cells_good;
     globals_there = g.globals_there;
-    seen_good = every_snoc (Lies p A) w.seen _ g.seen_good (record { variables = el; cells = λ a. if_map (CellLies p A w.cells) (λ c. NodeIn p w.cells (At A (site c.site)) c.node) (slice_get w.cells a) (g.cells_good a) (λ c l. l.0); globals = g.globals_there });
+    seen_good = every_and (Lies p A) w.seen _ g.seen_good (record { variables = el; cells = λ a. if_map (CellLies p A w.cells) (λ c. NodeIn p w.cells (At A (site c.site)) c.node) (slice_get w.cells a) (g.cells_good a) (λ c l. l.0); globals = g.globals_there });
   }
 
   env_on : (h h' : List HeapCell) → Extends h h' → (env : Env) → EnvLies p h A env → EnvLies p h' A env

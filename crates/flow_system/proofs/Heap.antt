@@ -10,7 +10,8 @@ use Rattle.flow_system.specs.Inclusions.{cell_of, site, tags, field, value, Incl
 use Rattle.flow_system.specs.System.{has_eval, cells_flow, site_flows}
 use Rattle.flow_system.specs.Solution.{Solution, At, one_word, AsNodes, ValueGives, width, Meets, AllMet}
 use Rattle.flow_system.specs.Covers.{site_at, NodeIn, GlobalsThere}
-use Rattle.flow_system.proofs.Lying.{if_then, Extends, node_on, node_mono, BindingsLie, EnvLies, node_lies}
+use Rattle.flow_system.proofs.Lying.{Extends, node_on, node_mono, BindingsLie, EnvLies, node_lies}
+use Rattle.grin_meaning.proofs.Fullness.{if_and}
 
 set_sites : (h : List HeapCell) (i : ℕ) (c : HeapCell) (n : Node) → slice_get h i ≡ Some c → (a : ℕ) → site_at (slice_set h i (record { site = c.site; node = n })) a ≡ site_at h a
 set_sites [] i c n e a = refl
@@ -78,8 +79,8 @@ has_sites (z ∷ h) cs hs s = sites_later z (h ++ hs) (length h) cs (has_sites h
 
 pub sites_are : (p : Program) (env : Env) (cs : List Cell) → IfSome (cells_of p env cs) (SitesAre cs)
 sites_are p env [] = tt
-sites_are p env (c ∷ cs) = if_then (λ x. x.site ≡ c.site.0) (SitesAre (c ∷ cs)) (and_then (node_of p env c.val) (λ n. Some (record { site = c.site.0; node = n }))) _ (one (node_of p env c.val))
-    (λ x e. if_then (SitesAre cs) (SitesAre (c ∷ cs)) (cells_of p env cs) _ (sites_are p env cs) (λ hs l. (e, l)))
+sites_are p env (c ∷ cs) = if_and (λ x. x.site ≡ c.site.0) (SitesAre (c ∷ cs)) (and_then (node_of p env c.val) (λ n. Some (record { site = c.site.0; node = n }))) _ (one (node_of p env c.val))
+    (λ x e. if_and (SitesAre cs) (SitesAre (c ∷ cs)) (cells_of p env cs) _ (sites_are p env cs) (λ hs l. (e, l)))
   where
     one : (o : Option Node) → IfSome {T = HeapCell} (and_then o (λ n. Some (record { site = c.site.0; node = n }))) (λ x. x.site ≡ c.site.0)
     one None = tt
@@ -111,11 +112,11 @@ module _ (p : Program) (A : Solution) where
 
   pub cells_lie : (h : List HeapCell) → GlobalsThere p h → (env : Env) → EnvLies p h A env → (cs : List Cell) → AllMet (tables p) A (cells_flow p cs) → IfSome (cells_of p env cs) (EachCell (CellLies h))
   cells_lie h gs env el [] m = tt
-  cells_lie h gs env el (c ∷ cs) m = if_then (CellLies h) (EachCell (CellLies h)) (and_then (node_of p env c.val) (λ n. Some (record { site = c.site.0; node = n }))) _ one
-      (λ x l. if_then (EachCell (CellLies h)) (EachCell (CellLies h)) (cells_of p env cs) _ (cells_lie h gs env el cs (met_back (site_flows p c.site.0 c.val) (cells_flow p cs) m.1)) (λ hs k. (l, k)))
+  cells_lie h gs env el (c ∷ cs) m = if_and (CellLies h) (EachCell (CellLies h)) (and_then (node_of p env c.val) (λ n. Some (record { site = c.site.0; node = n }))) _ one
+      (λ x l. if_and (EachCell (CellLies h)) (EachCell (CellLies h)) (cells_of p env cs) _ (cells_lie h gs env el cs (met_back (site_flows p c.site.0 c.val) (cells_flow p cs) m.1)) (λ hs k. (l, k)))
     where
       one : IfSome (and_then (node_of p env c.val) (λ n. Some (record { site = c.site.0; node = n }))) (CellLies h)
-      one = if_then (NodeIn p h (AsNodes (tables p) (width (value c.val)) (ValueGives (tables p) A c.val))) (CellLies h) (node_of p env c.val) _ (node_lies p h A gs env el c.val)
+      one = if_and (NodeIn p h (AsNodes (tables p) (width (value c.val)) (ValueGives (tables p) A c.val))) (CellLies h) (node_of p env c.val) _ (node_lies p h A gs env el c.val)
           (λ n l. (
             node_mono p h (AsNodes (tables p) (width (value c.val)) (ValueGives (tables p) A c.val)) (At A (site c.site.0)) n (m.1.0 tags _) (λ i. m.1.0 (field n.tag i)) l,
             forced c.site.0 (has_eval p) (met_front (site_flows p c.site.0 c.val) (cells_flow p cs) m.1).1,

@@ -17,6 +17,7 @@ use Rattle.flow_system.specs.Tables.{tables, target_of, params_of}
 use Rattle.flow_system.specs.Inclusions.{AbstractWord, cell_of, tag, num, Place, site, var, result, Part, tags, field, word, value, Sink, to, into_site, into_result, cells_at}
 use Rattle.flow_system.specs.Solution.{Solution, Sets, At, Enough, AsNodes, node_tag, node_field, words_tag, words_field, AsWords, word_word, tag_word, field_word, zero_word, StandsFor, literal, variable, global, tag_itself, WordAmong, first, later, ValueGives, of_variable, of_node, of_field, of_words, of_word, FetchGives, its_field, its_zero, width, WordsTo, NodesTo, ReachesTarget, Reaches}
 use Rattle.flow_system.specs.Covers.{site_at, DatumIn, AllIn, NodeIn, ValueIn, GlobalsThere}
+use Rattle.grin_meaning.proofs.Fullness.{if_and}
 
 -- of what may be there
 pub from_some : {A : Type 0} (P : A → Type 0) (o : Option A) (a : A) → IfSome o P → o ≡ Some a → P a
@@ -25,10 +26,6 @@ from_some P o a h e = subst (λ x. IfSome x P) e h
 pub if_map : {A : Type 0} (P Q : A → Type 0) (o : Option A) → IfSome o P → ((a : A) → P a → Q a) → IfSome o Q
 if_map P Q None h f = tt
 if_map P Q (Some a) h f = f a h
-
-pub if_then : {A B : Type 0} (P : A → Type 0) (Q : B → Type 0) (o : Option A) (k : A → Option B) → IfSome o P → ((a : A) → P a → IfSome (k a) Q) → IfSome (and_then o k) Q
-if_then P Q None k h f = tt
-if_then P Q (Some a) k h f = f a h
 
 pub if_is : {A : Type 0} (P : A → Type 0) (o : Option A) → ((a : A) → o ≡ Some a → P a) → IfSome o P
 if_is P None h = tt
@@ -165,7 +162,7 @@ module _ (p : Program) (h : List HeapCell) where
     words_bound X j [] [] r x = tt
     words_bound X j [] (d ∷ ds) r x = tt
     words_bound X j (y ∷ xs) [] r x = tt
-    words_bound X j (y ∷ xs) (d ∷ ds) r x = if_then BindingsLie BindingsLie (one_each xs ds) _ (words_bound X (suc j) xs ds r.1 x.1) (λ bs l. ((datum_mono h (AsWords (tables p) X j) (At A (var y.0) (word 0)) r.0 d x.0, tt), l))
+    words_bound X j (y ∷ xs) (d ∷ ds) r x = if_and BindingsLie BindingsLie (one_each xs ds) _ (words_bound X (suc j) xs ds r.1 x.1) (λ bs l. ((datum_mono h (AsWords (tables p) X j) (At A (var y.0) (word 0)) r.0 d x.0, tt), l))
 
     zeros_lie : (X : Sets) (t m k i : ℕ) → X tags (tag t) → fields_of p t ≡ Some m → m ≤ i → AllIn h (AsWords (tables p) X) (suc i) (padded k [])
     zeros_lie X t m zero i y e le = tt
@@ -186,7 +183,7 @@ module _ (p : Program) (h : List HeapCell) where
     target_lies k X Nothing (node n) r x w = tt
     target_lies k X Nothing (words []) r x w = tt
     target_lies k X Nothing (words (d ∷ ds)) r x w = tt
-    target_lies k X (NodeTarget y) v r x w = if_then (NodeIn p h (AsNodes (tables p) k X)) BindingsLie (as_node p v) _ (value_as_node k X v x w) (λ n l. (node_mono p h (AsNodes (tables p) k X) (At A (var y.0)) n (r tags (tag n.tag)) (λ i. r (field n.tag i)) l, tt))
+    target_lies k X (NodeTarget y) v r x w = if_and (NodeIn p h (AsNodes (tables p) k X)) BindingsLie (as_node p v) _ (value_as_node k X v x w) (λ n l. (node_mono p h (AsNodes (tables p) k X) (At A (var y.0)) n (r tags (tag n.tag)) (λ i. r (field n.tag i)) l, tt))
     target_lies k X (OneTarget y) (node n) r x w = tt
     target_lies k X (OneTarget y) (words []) r x w = tt
     target_lies k X (OneTarget y) (words (d ∷ [])) r x w = ((datum_mono h (X (word 0)) (At A (var y.0) (word 0)) r d x.0, tt), tt)
@@ -264,8 +261,8 @@ module _ (p : Program) (h : List HeapCell) where
 
       pub word_lies : (a : W.Word) → IfSome (word_of p env a) (DatumIn h (StandsFor (tables p) A a))
       word_lies (Lit k) = literal
-      word_lies (Var x) = if_then (ValueIn p h (At A (var x.0))) (DatumIn h (StandsFor (tables p) A (Var x))) (env x.0) only_word (el x.0) (only_lies x)
-      word_lies (Global i) = if_then (λ c. (c' : GlobalCell) × (slice_get p.globals i ≡ Some c') × (site_at h i ≡ Some c'.site.0)) (DatumIn h (StandsFor (tables p) A (Global i))) (slice_get p.globals i) _
+      word_lies (Var x) = if_and (ValueIn p h (At A (var x.0))) (DatumIn h (StandsFor (tables p) A (Var x))) (env x.0) only_word (el x.0) (only_lies x)
+      word_lies (Global i) = if_and (λ c. (c' : GlobalCell) × (slice_get p.globals i ≡ Some c') × (site_at h i ≡ Some c'.site.0)) (DatumIn h (StandsFor (tables p) A (Global i))) (slice_get p.globals i) _
           (if_is _ (slice_get p.globals i) (λ c e. (c, e, from_some (λ c. site_at h i ≡ Some c.site.0) (slice_get p.globals i) c (gs i) e)))
           (λ c l. (l.0.site.0, l.2, global l.1))
       word_lies (TagWord t) = tag_itself
@@ -278,7 +275,7 @@ module _ (p : Program) (h : List HeapCell) where
 
       pub words_lie : (ws : List W.Word) → IfSome (words_of p env ws) (WordsLie ws)
       words_lie [] = (tt, refl)
-      words_lie (a ∷ ws) = if_then (DatumIn h (StandsFor (tables p) A a)) (WordsLie (a ∷ ws)) (word_of p env a) _ (word_lies a) (λ d l. if_then (WordsLie ws) (WordsLie (a ∷ ws)) (words_of p env ws) _ (words_lie ws)
+      words_lie (a ∷ ws) = if_and (DatumIn h (StandsFor (tables p) A a)) (WordsLie (a ∷ ws)) (word_of p env a) _ (word_lies a) (λ d l. if_and (WordsLie ws) (WordsLie (a ∷ ws)) (words_of p env ws) _ (words_lie ws)
           (λ ds m. ((datum_mono h (StandsFor (tables p) A a) (WordAmong (tables p) A (a ∷ ws) 0) (λ u. first) d l, all_later h (WordAmong (tables p) A ws) (WordAmong (tables p) A (a ∷ ws)) (λ j u. later) 0 ds m.0), omega (arith, m.1))))
 
       pub value_lies : (v : V.Val) → IfSome (value_of p env v) (GivenIn v)
@@ -287,18 +284,18 @@ module _ (p : Program) (h : List HeapCell) where
           wide : (v : Value) → Narrow None v
           wide (node n) = tt
           wide (words ds) = tt
-      value_lies (NodeVal t ws) = if_then (WordsLie ws) (GivenIn (NodeVal t ws)) (words_of p env ws) _ (words_lie ws) (λ ds l. if_then (NodeIn p h (ValueGives (tables p) A (NodeVal t ws))) (GivenIn (NodeVal t ws)) (made_node p t.0 ds) _
+      value_lies (NodeVal t ws) = if_and (WordsLie ws) (GivenIn (NodeVal t ws)) (words_of p env ws) _ (words_lie ws) (λ ds l. if_and (NodeIn p h (ValueGives (tables p) A (NodeVal t ws))) (GivenIn (NodeVal t ws)) (made_node p t.0 ds) _
           (made_if t.0 ds (NodeIn p h (ValueGives (tables p) A (NodeVal t ws))) (λ e. record { full = e; tag_in = of_node; fields_in = all_mono h (WordAmong (tables p) A ws) (λ i. ValueGives (tables p) A (NodeVal t ws) (field t.0 i)) (λ i u. of_field) 0 ds l.0 }))
           (λ n m. (m, tt)))
-      value_lies (VectorVal ws) = if_then (WordsLie ws) (GivenIn (VectorVal ws)) (words_of p env ws) _ (words_lie ws) (λ ds l. (all_mono h (WordAmong (tables p) A ws) (λ j. ValueGives (tables p) A (VectorVal ws) (word j)) (λ j u. of_words) 0 ds l.0, omega (arith, l.1)))
-      value_lies (OneVal a) = if_then (DatumIn h (StandsFor (tables p) A a)) (GivenIn (OneVal a)) (word_of p env a) _ (word_lies a) (λ d l. ((datum_mono h (StandsFor (tables p) A a) (ValueGives (tables p) A (OneVal a) (word 0)) (λ u. of_word) d l, tt), omega arith))
+      value_lies (VectorVal ws) = if_and (WordsLie ws) (GivenIn (VectorVal ws)) (words_of p env ws) _ (words_lie ws) (λ ds l. (all_mono h (WordAmong (tables p) A ws) (λ j. ValueGives (tables p) A (VectorVal ws) (word j)) (λ j u. of_words) 0 ds l.0, omega (arith, l.1)))
+      value_lies (OneVal a) = if_and (DatumIn h (StandsFor (tables p) A a)) (GivenIn (OneVal a)) (word_of p env a) _ (word_lies a) (λ d l. ((datum_mono h (StandsFor (tables p) A a) (ValueGives (tables p) A (OneVal a) (word 0)) (λ u. of_word) d l, tt), omega arith))
 
       pub node_lies : (v : V.Val) → IfSome (and_then (value_of p env v) (as_node p)) (NodeIn p h (AsNodes (tables p) (width (value v)) (ValueGives (tables p) A v)))
-      node_lies v = if_then (GivenIn v) (NodeIn p h (AsNodes (tables p) (width (value v)) (ValueGives (tables p) A v))) (value_of p env v) (as_node p) (value_lies v) (λ x l. value_as_node (width (value v)) (ValueGives (tables p) A v) x l.0 l.1)
+      node_lies v = if_and (GivenIn v) (NodeIn p h (AsNodes (tables p) (width (value v)) (ValueGives (tables p) A v))) (value_of p env v) (as_node p) (value_lies v) (λ x l. value_as_node (width (value v)) (ValueGives (tables p) A v) x l.0 l.1)
 
       -- a cell that a word stands for
       pub place_lies : (a : W.Word) → IfSome (and_then (word_of p env a) place_of) (λ i. (s : ℕ) × (site_at h i ≡ Some s) × StandsFor (tables p) A a (cell_of s))
-      place_lies a = if_then (DatumIn h (StandsFor (tables p) A a)) (λ i. (s : ℕ) × (site_at h i ≡ Some s) × StandsFor (tables p) A a (cell_of s)) (word_of p env a) place_of (word_lies a) on
+      place_lies a = if_and (DatumIn h (StandsFor (tables p) A a)) (λ i. (s : ℕ) × (site_at h i ≡ Some s) × StandsFor (tables p) A a (cell_of s)) (word_of p env a) place_of (word_lies a) on
         where
           on : (d : Datum) → DatumIn h (StandsFor (tables p) A a) d → IfSome (place_of d) (λ i. (s : ℕ) × (site_at h i ≡ Some s) × StandsFor (tables p) A a (cell_of s))
           on (number k) l = tt

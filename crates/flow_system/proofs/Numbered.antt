@@ -27,7 +27,7 @@ use Rattle.flow_system.specs.Rows.{Numbers, RowsAre, Indexed, Earlier, Ends, wit
 abbrev pub place_order : Place → Place → Ordering
 place_order = (place_ord.ghosts).cmp
 
-nat_equal : (m n : ℕ) → nat_cmp m n ≡ Equal → m ≡ n
+pub nat_equal : (m n : ℕ) → nat_cmp m n ≡ Equal → m ≡ n
 nat_equal m n e = grind (arith, nat_tests)
 
 nat_self : (n : ℕ) → nat_cmp n n ≡ Equal

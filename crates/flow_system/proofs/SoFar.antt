@@ -86,7 +86,7 @@ pub record ProcsEvalSoFar (ps : List Proc) (found : Bool) : Type 0 where
 pub no_procs : ProcsEvalSoFar [] false
 no_procs = record { by = λ rest. refl }
 
-procs_snoc : (ps : List Proc) (q : Proc) (rest : List Procedure) → map procedure_of (ps ++ q ∷ []) ++ rest ≡ map procedure_of ps ++ (procedure_of q ∷ rest)
+pub procs_snoc : (ps : List Proc) (q : Proc) (rest : List Procedure) → map procedure_of (ps ++ q ∷ []) ++ rest ≡ map procedure_of ps ++ (procedure_of q ∷ rest)
 procs_snoc [] q rest = refl
 procs_snoc (x ∷ ps) q rest = ap (λ l. procedure_of x ∷ l) (procs_snoc ps q rest)
 

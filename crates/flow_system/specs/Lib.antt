@@ -8,3 +8,4 @@ pub mod Shown
 pub mod Readers
 pub mod Rows
 pub mod Demands
+pub mod Starts

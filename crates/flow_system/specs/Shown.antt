@@ -6,7 +6,7 @@ use Rattle.flow_system.specs.Inclusions.{Inclusion}
 pub use Rattle.flow_system.specs.Written.{source_of, sink_of, inclusion_of, shown}
 
 abbrev pub tables_of : FlowSystem → Tables
-tables_of s = record { tags = s.tags; globals = s.globals; params = s.params }
+tables_of s = record { tags = s.tags.now; globals = s.globals.now; params = s.params }
 
 abbrev pub inclusions_of : FlowSystem → List Inclusion
 inclusions_of s = shown s.inclusions

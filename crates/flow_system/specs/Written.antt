@@ -17,7 +17,7 @@ source_of (NodesAt a) = nodes_at a
 source_of (WordAt a i) = word_at a i
 source_of (EvaluatedAt a) = evaluated (nodes_at a)
 source_of (Extended v a) = extended v a
-source_of (FieldsOf v t) = arguments (value v) t.0 []
+source_of (FieldsOf v t) = arguments (value v.now) t.0 []
 
 abbrev pub sink_of : sink'.Sink → Sink
 sink_of (To t) = to t

@@ -3,6 +3,7 @@
 ghost use Rattle.std.specs.Prelude.{◌≡◌, IfOk};
 ghost use Rattle.flow_system.specs.Written.{shown};
 ghost use Rattle.flow_system.specs.Rows.{Indexed};
+ghost use Rattle.flow_system.specs.Starts.{SearchStarts};
 
 use crate::sets::Sets;
 use grin_syntax::copies::copy_target;
@@ -15,7 +16,7 @@ use std::alloc::{AllocError, Global};
 /// them; a function that waits for at least two arguments, with one argument more; the fields of a
 /// tag among the nodes that a value may be.
 #[derive(Drop)]
-pub enum Source {
+pub enum Source<'a> {
     Value(Val),
     ACell(Site),
     ANumber,
@@ -24,7 +25,7 @@ pub enum Source {
     WordAt(Word, u32),
     EvaluatedAt(Word),
     Extended(Val, Word),
-    FieldsOf(Val, TagId),
+    FieldsOf(&'a Val, TagId),
 }
 
 /// Where it flows to: the variables of a target, the result of a procedure, the cells of a site, or
@@ -41,23 +42,27 @@ pub enum Sink {
 /// site are evaluated, there; that the functions a value may be, waiting for one argument, are
 /// called with this one, and their results flow to a sink.
 #[derive(Drop)]
-pub enum Inclusion {
-    Flows(Source, Sink),
+pub enum Inclusion<'a> {
+    Flows(Source<'a>, Sink),
     Forces(Site),
     Applies(Val, Word, Sink),
 }
 
 /// The flow system of a program: its tags, its global cells and the parameters of its procedures,
 /// to which the inclusions refer, and the inclusions, numbered from 0 in their order. `system`
-/// makes it, with the sets that the inclusions name and the readers of each set.
+/// makes it, with the sets that the inclusions name, the readers of each set, and where the tags
+/// begin of each procedure that lacks arguments. Tags, global cells and the values that cases look
+/// at are the program's own.
 #[derive(Drop)]
-pub struct FlowSystem {
-    pub tags: Seq<Tag>,
-    pub globals: Seq<GlobalCell>,
+pub struct FlowSystem<'a> {
+    pub tags: &'a Seq<Tag>,
+    pub globals: &'a Seq<GlobalCell>,
     pub params: Seq<Seq<VarId>>,
-    pub inclusions: Seq<Inclusion>,
+    pub inclusions: Seq<Inclusion<'a>>,
+    pub(crate) starts: Vec<usize>,
     pub(crate) sets: Sets,
     pub(crate) rows: Seq<Seq<u32>>,
+    ghost begin: { SearchStarts tags.now starts.items 0 },
     ghost indexed: { Indexed (shown inclusions) sets rows },
 }
 

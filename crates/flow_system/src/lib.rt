@@ -11,6 +11,7 @@ mod named;
 pub mod reading;
 mod rows;
 mod sets;
+pub mod starts;
 pub mod system;
 
 pub use fact::{Element, Part, Place};

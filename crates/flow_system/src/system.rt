@@ -12,10 +12,10 @@ use crate::inclusion::{FlowSystem, Inclusion, Sink, Source, copy_sink};
 use crate::named::all_named;
 use crate::rows::rows;
 use crate::sets::numbered;
+use crate::starts::part_starts;
 use grin_syntax::copies::{copy_target, copy_val};
 use grin_syntax::program::{
-    Alt, Block, Cell, GlobalCell, Grin, Op, Proc, ProcId, Shape, Site, Stmt, Tag, Target, Val,
-    VarId, Word,
+    Alt, Block, Cell, Grin, Op, Proc, ProcId, Shape, Site, Stmt, Target, Val, VarId, Word,
 };
 use seq::Seq;
 use std::alloc::{AllocError, Global};
@@ -94,9 +94,9 @@ fn has_eval(g: &Grin) -> bool
 }
 
 // One inclusion more.
-fn add(out: &mut Seq<Inclusion>, source: Source, sink: Sink) -> Result<(), AllocError>
+fn add<'a>(out: &mut Seq<Inclusion<'a>>, source: Source<'a>, sink: Sink) -> Result<(), AllocError>
     ensures { OnOk result
-        (shown out.new ≡ shown out.old ++ flows (source_of source) (sink_of sink) ∷ []) }
+        (shown out.new ≡ shown out.old ++ flows (source_of source.entry) (sink_of sink) ∷ []) }
 {
     out.push(Inclusion::Flows(source, sink))
 }
@@ -144,18 +144,18 @@ fn cells_flow(
     Ok(())
 }
 
-fn shape_flows(
+fn shape_flows<'a>(
     alloc: Global,
-    v: &Val,
+    v: &'a Val,
     s: &Shape,
-    out: &mut Seq<Inclusion>,
+    out: &mut Seq<Inclusion<'a>>,
 ) -> Result<(), AllocError>
     ensures { OnOk result (shown out.new ≡ shown out.old ++ shape_flows v.now s.now) }
 {
     match s {
         Shape::Node(tag, xs) => add(
             out,
-            Source::FieldsOf(copy_val(alloc, v)?, *tag),
+            Source::FieldsOf(v, *tag),
             Sink::To(Target::Vector(Seq::from_slice(alloc, xs.as_slice())?)),
         ),
         Shape::Int(_) => Ok(()),
@@ -165,13 +165,13 @@ fn shape_flows(
 
 #[cycle(flows)]
 #[tactic(auto, using(grin_syntax::proofs::TreeOf::tree_of), unfolding(crate::specs::System::act_flows))]
-fn op_flows(
+fn op_flows<'a>(
     alloc: Global,
     g: &Grin,
     evals: bool,
     sink: &Sink,
-    op: &Op,
-    out: &mut Seq<Inclusion>,
+    op: &'a Op,
+    out: &mut Seq<Inclusion<'a>>,
 ) -> Result<(), AllocError>
     requires { evals ≡ has_eval (program_of g.now) }
     ensures { OnOk result
@@ -246,14 +246,14 @@ fn call_flows(
 }
 
 #[cycle(flows)]
-fn alts_flow(
+fn alts_flow<'a>(
     alloc: Global,
     g: &Grin,
     evals: bool,
     sink: &Sink,
-    v: &Val,
-    alts: &[Alt],
-    out: &mut Seq<Inclusion>,
+    v: &'a Val,
+    alts: &'a [Alt],
+    out: &mut Seq<Inclusion<'a>>,
 ) -> Result<(), AllocError>
     requires { evals ≡ has_eval (program_of g.now) }
     ensures { OnOk result
@@ -270,13 +270,13 @@ fn alts_flow(
 
 #[cycle(flows)]
 #[tactic(auto, using(grin_syntax::proofs::TreeOf::tree_of), unfolding(crate::specs::System::act_flows))]
-fn stmt_flows(
+fn stmt_flows<'a>(
     alloc: Global,
     g: &Grin,
     evals: bool,
     sink: &Sink,
-    stmt: &Stmt,
-    out: &mut Seq<Inclusion>,
+    stmt: &'a Stmt,
+    out: &mut Seq<Inclusion<'a>>,
 ) -> Result<(), AllocError>
     requires { evals ≡ has_eval (program_of g.now) }
     ensures { OnOk result
@@ -298,13 +298,13 @@ fn stmt_flows(
 }
 
 #[cycle(flows)]
-fn bind_flows(
+fn bind_flows<'a>(
     alloc: Global,
     g: &Grin,
     evals: bool,
     target: &Target,
-    op: &Op,
-    out: &mut Seq<Inclusion>,
+    op: &'a Op,
+    out: &mut Seq<Inclusion<'a>>,
 ) -> Result<(), AllocError>
     requires { evals ≡ has_eval (program_of g.now) }
     ensures { OnOk result
@@ -316,13 +316,13 @@ fn bind_flows(
 }
 
 #[cycle(flows)]
-fn block_flows(
+fn block_flows<'a>(
     alloc: Global,
     g: &Grin,
     evals: bool,
     sink: &Sink,
-    block: &Block,
-    out: &mut Seq<Inclusion>,
+    block: &'a Block,
+    out: &mut Seq<Inclusion<'a>>,
 ) -> Result<(), AllocError>
     requires { evals ≡ has_eval (program_of g.now) }
     ensures { OnOk result
@@ -354,12 +354,12 @@ fn globals_flow(
     Ok(())
 }
 
-fn procs_flow(
+fn procs_flow<'a>(
     alloc: Global,
     g: &Grin,
     evals: bool,
-    procs: &[Proc],
-    out: &mut Seq<Inclusion>,
+    procs: &'a [Proc],
+    out: &mut Seq<Inclusion<'a>>,
 ) -> Result<(), AllocError>
     requires { evals ≡ has_eval (program_of g.now) }
     ensures { OnOk result
@@ -389,36 +389,6 @@ fn start_flows(alloc: Global, g: &Grin, out: &mut Seq<Inclusion>) -> Result<(), 
     }
 }
 
-fn copied_tags(alloc: Global, g: &Grin) -> Result<Seq<Tag>, AllocError>
-    ensures { IfOk result (λ tags. tags ≡ g.now.tags) }
-{
-    let mut tags = Seq::new(alloc);
-    for tag in g.tags.as_slice() {
-        tags.push(Tag {
-            kind: tag.kind,
-            name: tag.name.copied(alloc)?,
-            missing: tag.missing,
-            fields: tag.fields,
-            proc: tag.proc,
-        })?;
-    }
-    Ok(tags)
-}
-
-fn copied_globals(alloc: Global, g: &Grin) -> Result<Seq<GlobalCell>, AllocError>
-    ensures { IfOk result (λ globals. globals ≡ g.now.globals) }
-{
-    let mut globals = Seq::new(alloc);
-    for global in g.globals.as_slice() {
-        globals.push(GlobalCell {
-            name: global.name.copied(alloc)?,
-            site: global.site,
-            tag: global.tag,
-        })?;
-    }
-    Ok(globals)
-}
-
 fn copied_params(alloc: Global, g: &Grin) -> Result<Seq<Seq<VarId>>, AllocError>
     ensures { IfOk result (λ params. params ≡ map (λ q. q.params) g.now.procs) }
 {
@@ -432,7 +402,7 @@ fn copied_params(alloc: Global, g: &Grin) -> Result<Seq<Seq<VarId>>, AllocError>
 /// The flow system of a program: what its inclusions refer to, the inclusions of all its
 /// statements, reachable or not, in the order of the text, and which of them read which sets. Its
 /// length is that of the text. Running out of procedure numbers counts as want of memory.
-pub fn system(alloc: Global, g: &Grin) -> Result<FlowSystem, AllocError>
+pub fn system(alloc: Global, g: &Grin) -> Result<FlowSystem<'_>, AllocError>
     ensures tables { IfOk result (λ s. tables_of s ≡ tables (program_of g.now)) }
     ensures inclusions { IfOk result (λ s. inclusions_of s ≡ system (program_of g.now)) }
 {
@@ -446,10 +416,11 @@ pub fn system(alloc: Global, g: &Grin) -> Result<FlowSystem, AllocError>
     let sets = numbered(alloc, places.as_slice())?;
     let rows = rows(alloc, &sets, listed)?;
     Ok(FlowSystem {
-        tags: copied_tags(alloc, g)?,
-        globals: copied_globals(alloc, g)?,
+        tags: &g.tags,
+        globals: &g.globals,
         params: copied_params(alloc, g)?,
         inclusions,
+        starts: part_starts(alloc, g.tags.as_slice(), g.procs.len())?,
         sets,
         rows: Seq::from_vec(rows),
     })

@@ -31,7 +31,7 @@ use Rattle.grin_compile.specs.Layers.{AreLayers, MadeFromLayers}
 use Rattle.grin_compile.proofs.Tells.{tells_both, stages_keep, stage_tells, stage_never_missing, stage_no_deeper, low_never_missing}
 use Rattle.grin_compile.proofs.Frames.{over, few_frame_words}
 use Rattle.grin_compile.proofs.Sizes.{stages_outside, FewParts, few_parts, functions_inlined, few_words, few_steps}
-use Rattle.grin_compile.proofs.Functions.{few_functions}
+use Rattle.translated_form.proofs.Limits.{valid_is_limited}
 use Rattle.grin_compile.proofs.Layered.{code_for}
 use Rattle.grin_compile.proofs.Paced.{layers_keep_pace}
 
@@ -52,7 +52,7 @@ module _ (does : ValidTranslationDoesAs) (p : core.Program) (A : Solution) (stag
 
   pub few : length words ≤ 268435456
   few =
-      let globals : length l.globals ≤ 4096 = omega (arith, parts.globals, few_functions p valid) in
+      let globals : length l.globals ≤ 4096 = omega (arith, parts.globals, (valid_is_limited p valid).few_functions) in
       few_words _ _ _ _ _ _ _ fits parts.procs globals parts.light parts.calls (made.selects.few made.small.few_tests) made.placed.few
 
   few_items : size_of items ≤ steps_each p A

@@ -18,10 +18,7 @@ use Rattle.rv32_items.proofs.Addresses.{addresses_rise}
 use Rattle.rv32_items.proofs.Stands.{stands}
 use Rattle.rv32_select.specs.Selects.{zeros, start_at, BelowHeap}
 use Rattle.grin_compile.specs.Code.{IsInCode}
-
-length_words : (numbers : List ℕ) → length (words_bytes numbers) ≡ 4 * length numbers
-length_words [] = refl
-length_words (x ∷ xs) = let e = length_words xs in omega (arith, e)
+use Rattle.rv32_layout.proofs.Steps.{words_length}
 
 module _ (items : List Item) (words : List ℕ) (placed : Placed items words) where
   abbrev lay : Layout
@@ -29,7 +26,7 @@ module _ (items : List Item) (words : List ℕ) (placed : Placed items words) wh
 
   code_is : stretch_of (record { addr = 65536; size = 4 * length words; bytes = words_bytes words; write = false; exec = true }) ≡ lay.code
   code_is =
-      let n : 4 * length words - length (words_bytes words) ≡ 0 = let e = length_words words in omega (arith, e) in
+      let n : 4 * length words - length (words_bytes words) ≡ 0 = let e = words_length words in omega (arith, e) in
       let b : words_bytes words ++ replicate (4 * length words - length (words_bytes words)) 0 ≡ lay.code.bytes =
       ap (λ k. words_bytes words ++ replicate k 0) n ∙ append_nil (words_bytes words) ∙ sym placed.code in
       parts lay.code placed.at_first placed.rises.fixed placed.rises.runs b
@@ -54,7 +51,7 @@ module _ (items : List Item) (words : List ℕ) (placed : Placed items words) wh
 
   code_ends : end_of lay.code ≡ 65536 + 4 * length words
   code_ends =
-      let l : length lay.code.bytes ≡ 4 * length words = ap length placed.code ∙ length_words words in
+      let l : length lay.code.bytes ≡ 4 * length words = ap length placed.code ∙ words_length words in
       let f = placed.at_first in
       omega (arith, l, f)
 

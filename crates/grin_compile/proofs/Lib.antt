@@ -6,10 +6,9 @@ pub mod Paced
 pub mod Tells
 pub mod Frames
 pub mod Sizes
-pub mod Functions
 pub mod FromLayers
 pub mod Narrow
 pub mod Stepped
-mod Staged
+pub mod Staged
 pub mod Below
 pub mod CompiledProgram

@@ -4,32 +4,24 @@ use Rattle.std.proofs.lemmas.List.{length-map}
 use Rattle.grin_syntax.specs.declared.program.VarId.{VarId}
 use Rattle.grin_syntax.specs.declared.program.Target.{Target}
 use Rattle.grin_syntax.specs.declared.program.Target.TheVariants as to
-use Rattle.grin_syntax.specs.declared.program.Cell.{Cell}
 use Rattle.grin_syntax.specs.declared.program.Tag.{Tag}
 use Rattle.grin_syntax.specs.declared.program.TagKind.{TagKind}
 use Rattle.grin_syntax.specs.declared.program.TagKind.TheVariants as kind
 use Rattle.grin_syntax.specs.Tree.{Code, end, store, bind, Act, unit, fetch, fetch_word, update, eval, apply, call, prim, read, write, case, nested, fail, Arms, no_arm, arm, Procedure, Program}
-use Rattle.grin_syntax.specs.Binders.{target_vars}
-use Rattle.grin_syntax.specs.Formed.{AllOf}
 use Rattle.grin_meaning.specs.Checks.{is_fetch}
-use Rattle.grin_meaning.specs.Ready.{EachAct, EachCode, EachArms, most_fields, value_fields, most_value_fields, Ready, any_kind, EachBody, narrow_kind}
+use Rattle.grin_meaning.specs.Ready.{EachAct, EachCode, EachArms, most_fields, value_fields, most_value_fields, Ready, EachBody, narrow_kind}
 use Rattle.vectorise.specs.Whole.{NoVectorTarget, IsWhole, whole_kind}
 use Rattle.vectorise.specs.Widened.{Width, ActWidths, CodeWidths, ArmsWidths, Widths, Widened}
 use Rattle.low_translate.specs.Lowers.{IsNarrow}
-
-abbrev Few : Target → Type 0
-Few t = length (target_vars t) ≤ 14
-
-any_cells : (cs : List Cell) → AllOf (λ c. any_kind.value c.val) cs
-any_cells [] = tt
-any_cells (c ∷ cs) = (tt, any_cells cs)
+use Rattle.eval_inline.proofs.Without.{any_cells}
+use Rattle.low_translate.proofs.Sizes.{IsFew}
 
 module _ (most most_value : ℕ) (few : most ≤ 13) (few_value : most_value ≤ 13) where
-  narrow_target : (fetched : Bool) (t t' : Target) → NoVectorTarget t → Width most most_value fetched t t' → Few t'
-  narrow_target fetched to.Nothing t' h w = subst Few (sym w) (omega arith)
-  narrow_target fetched (to.One x) t' h w = subst Few (sym w) (omega arith)
+  narrow_target : (fetched : Bool) (t t' : Target) → NoVectorTarget t → Width most most_value fetched t t' → IsFew t'
+  narrow_target fetched to.Nothing t' h w = subst IsFew (sym w) (omega arith)
+  narrow_target fetched (to.One x) t' h w = subst IsFew (sym w) (omega arith)
   narrow_target fetched (to.Vector xs) t' h w = absurd h
-  narrow_target fetched (to.Node x) t' h w = subst Few (sym w.1) (omega (arith, length-map w.0 (λ (x : VarId). x.0), w.2, room fetched))
+  narrow_target fetched (to.Node x) t' h w = subst IsFew (sym w.1) (omega (arith, length-map w.0 (λ (x : VarId). x.0), w.2, room fetched))
     where
       room : (fetched : Bool) → cond fetched most most_value ≤ 13
       room true = few

@@ -1,6 +1,5 @@
 -- What was selected carries its low code.
-use Rattle.std.proofs.Common.{◌≡◌, ◌≢◌, inl, inr, ℕ, zero, ◌-◌, List, ◌++◌, length, Some, refl, sym, ap, ◌∙◌, subst, arith}
-use Rattle.std.proofs.lemmas.Grind.{common_steps}
+use Rattle.std.proofs.Common.{◌≡◌, ◌≢◌, inl, inr, ℕ, zero, ◌-◌, List, length, Some, refl, sym, ap, ◌∙◌, subst, arith}
 use Rattle.headline.specs.Carries.{IsBytes, Begins, Told, Seen, exits, Matches, Reaches, After, Finishes, Comes}
 use Rattle.low_code.specs.Tree.{Program}
 use Rattle.low_code.specs.Values.{no_alternative, out_of_units, missing, heap_full, stack_full, Answer}
@@ -14,15 +13,10 @@ use Rattle.rv32_items.specs.Course.{End as CourseEnd, Going, Exited, Stopped, Co
 use Rattle.rv32_items.specs.Told.{finish_of, of_items}
 use Rattle.rv32_steps.specs.Trace.{procedures_at}
 use Rattle.rv32_select.specs.Selects as select
-use Rattle.rv32_select.specs.Selects.{exit_of, SameEnd, Follows, Arrives, Selects, start_at}
+use Rattle.rv32_select.specs.Selects.{exit_of, SameEnd, Follows, Arrives, start_at}
 use Rattle.grin_compile.specs.Limits.{HeapOver, FramesOver}
 use Rattle.grin_compile.specs.Layers.{SelectionCarries}
-
-begins_both : (xs ys zs : List ℕ) → Begins xs ys → Begins ys zs → Begins xs zs
-begins_both xs ys zs a b = (a.0 ++ b.0, b.1 ∙ ap (λ l. l ++ b.0) a.1 ∙ joined xs a.0 b.0)
-  where
-    joined : (xs ys zs : List ℕ) → (xs ++ ys) ++ zs ≡ xs ++ (ys ++ zs)
-    joined xs ys zs = grind (arith, common_steps)
+use Rattle.low_code.proofs.Steady.{begins_on}
 
 module _ (l : Program) (a : Assignment) (cells stack : ℕ) (never : NeverMissing l) (i : List ℕ) (bytes : IsBytes i) where
   abbrev within_room : ℕ → Answer
@@ -81,7 +75,7 @@ module _ (l : Program) (a : Assignment) (cells stack : ℕ) (never : NeverMissin
       let many : n ≡ length (world_of (within_room n)).entered = ap length f.entered in
       let left : (world_of (within_room n)).left ≡ zero = omega (arith, units, many) in
       record {
-        output = begins_both c.out (world_of (within_room n)).out (told n).out f.output (between n).output;
+        output = begins_on c.out (world_of (within_room n)).out (told n).out f.output (between n).output;
         used = omega (arith, f.used, (between n).used);
         finish = finishes n c c.end left f.finish;
       }

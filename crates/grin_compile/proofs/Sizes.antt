@@ -17,23 +17,17 @@ use Rattle.grin_opt.specs.Schedule.{shape_of}
 use Rattle.grin_translate.specs.declared.tags.Delay.{Delay}
 use Rattle.grin_translate.specs.declared.tags.Delay.TheVariants.{Calls}
 use Rattle.grin_translate.specs.declared.tags.Kind.TheVariants.{Waits}
-use Rattle.grin_translate.specs.Tags.{tag, numbers_from, delays}
+use Rattle.grin_translate.specs.Tags.{tag, delays}
 use Rattle.grin_translate.specs.Translation.{global_cells, delayed_procs, print_procs, span, tr}
 use Rattle.low_code.specs.Tree as low
 use Rattle.low_code.specs.Size.{low_all, calls_of}
 use Rattle.low_translate.specs.Lowers.{Lowers, LowersSmall}
 use Rattle.grin_compile.specs.Stages.{AreStages}
+use Rattle.copy_prop.proofs.PassContract.{outside_again}
+use Rattle.seq.specs.Lists.{numbers_from}
+use Rattle.seq.proofs.Counted.{length_numbers}
 
 -- ---- the procedures and global cells of a stage
-
-pub outside_both : (f g h : Program) → SameOutside f g → SameOutside g h → SameOutside f h
-outside_both f g h a b = record {
-  same_tags = b.same_tags ∙ a.same_tags;
-  same_globals = b.same_globals ∙ a.same_globals;
-  same_start = b.same_start ∙ a.same_start;
-  same_argument = b.same_argument ∙ a.same_argument;
-  same_names = b.same_names ∙ a.same_names;
-}
 
 outside_itself : (g : Program) → SameOutside g g
 outside_itself g = record { same_tags = refl; same_globals = refl; same_start = refl; same_argument = refl; same_names = refl }
@@ -57,7 +51,7 @@ stages_outside p [] g (x ∷ hs) are k h there = absurd are
 stages_outside p (a ∷ ks) g [] are k h there = absurd are
 stages_outside p (a ∷ ks) g (x ∷ hs) are zero h there = let e : x ≡ h = cc in subst (SameOutside g) e (shaped_outside a g x are.1.0)
 stages_outside p (a ∷ ks) g (x ∷ hs) are (suc k) h there =
-    outside_both g x h (shaped_outside a g x are.1.0) (stages_outside p ks x hs are.1.1 k h there)
+    outside_again g x h (shaped_outside a g x are.1.0) (stages_outside p ks x hs are.1.1 k h there)
 
 pub as_many_procs : (g h : Program) → SameOutside g h → length h.procs ≡ length g.procs
 as_many_procs g h s = sym (named h.procs) ∙ ap length s.same_names ∙ named g.procs
@@ -113,10 +107,6 @@ largest_is_small g = largest_below g.procs
 
 -- ---- functions
 
-numbers_length : (k n : ℕ) → length (numbers_from k n) ≡ n
-numbers_length k zero = refl
-numbers_length k (suc n) = ap suc (numbers_length (suc k) n)
-
 delayed_length : (p : core.Program) (base : ℕ) (ds : List Delay) → length (delayed_procs p base ds) ≡ length ds
 delayed_length p base [] = refl
 delayed_length p base (d ∷ ds) = ap suc (delayed_length p (base + span p d) ds)
@@ -129,7 +119,7 @@ unfolding delays
 function_delays p =
     let n : length (map Calls (numbers_from 0 (length p.funs))) ≤ length (delays p) = front_shorter (map Calls (numbers_from 0 (length p.funs))) _ in
     let m = length-map (numbers_from 0 (length p.funs)) Calls in
-    omega (arith, n, m, numbers_length 0 (length p.funs))
+    omega (arith, n, m, length_numbers 0 (length p.funs))
 
 eval_length : (p : Program) (A : Solution) (x : ℕ) (qs : List Procedure) → length (eval_procs p A x qs) ≡ length qs
 eval_length p A x [] = refl

@@ -20,21 +20,20 @@ use Rattle.grin_opt.specs.declared.pass.PassName.TheVariants.{Translate, Eval, A
 use Rattle.grin_opt.specs.Schedule.{IsTaken, shape_of}
 use Rattle.grin_stages.specs.Stage.{Analyses, IsStage, translated, evaluations_inlined, both_inlined, by_pass, Fits, OneExpandedSize, VectorisedIsSlim}
 use Rattle.grin_compile.specs.declared.later.Later.{Later}
-use Rattle.grin_compile.specs.declared.stages.Stages.{Stages}
 use Rattle.grin_compile.specs.Parts.{HasStages}
 use Rattle.grin_compile.specs.Passed.{ArePassed, later_after, programs_of, SlimBeside}
 use Rattle.grin_compile.specs.Stages.{passes, AreStages, IsLastOf, IsLastSlim}
-use Rattle.grin_compile.proofs.Functions.{few_functions}
+use Rattle.translated_form.proofs.Limits.{valid_is_limited}
 use Rattle.grin_compile.proofs.Sizes.{as_many_procs, few_procs, few_globals, largest_is_small}
 use Rattle.grin_compile.proofs.Stepped.{can_be_lowered, are_stages}
 
 -- the solution by which a stage is inlined
-record InlinedBy (p : core.Program) (a : Program) : Type 0 where
+pub record InlinedBy (p : core.Program) (a : Program) : Type 0 where
   pub solution : Solution
   pub least : Analyses p solution
   pub is : a ≡ inlined solution (tr p)
 
-inlined_by : (p : core.Program) (k : PassName) (a : Program) → IsStage p k a → k ≡ Apply → InlinedBy p a
+pub inlined_by : (p : core.Program) (k : PassName) (a : Program) → IsStage p k a → k ≡ Apply → InlinedBy p a
 inlined_by p k a translated e = cc
 inlined_by p k a (evaluations_inlined least) e = cc
 inlined_by p k a (both_inlined {A = A} least) e = record { solution = A; least = least; is = refl }
@@ -129,6 +128,6 @@ module _ (taken : VectoriseTakesInlined) (slim : VectorisedIsSlim) (one : OneExp
           fits = small;
           largest_fits = largest_is_small (inlined A (tr p));
           few_procs = omega (arith, as_many_procs (inlined A (tr p)) (later_after l k) outside, few_procs (inlined A (tr p)).procs);
-          few_globals = omega (arith, ap length outside.same_globals, few_globals p p.funs 0, few_functions p valid);
+          few_globals = omega (arith, ap length outside.same_globals, few_globals p p.funs 0, (valid_is_limited p valid).few_functions);
         };
       }

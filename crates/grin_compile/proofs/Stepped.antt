@@ -1,5 +1,5 @@
 -- Stages that passes make, one after another, and the last of them that is as is asked.
-use Rattle.std.proofs.Common.{◌≡◌, ℕ, zero, suc, ◌≤◌, ◌<◌, List, [], ◌∷◌, drop, length, Some, slice_get, refl, sym, ap, ◌∙◌, subst, arith}
+use Rattle.std.proofs.Common.{◌≡◌, ℕ, zero, suc, ◌≤◌, ◌<◌, List, [], ◌∷◌, drop, Some, slice_get, subst, arith}
 use Rattle.arity_check.specs.Program as core
 use Rattle.grin_syntax.specs.Tree.{Program, program_of}
 use Rattle.grin_syntax.specs.Formed.{AllOf}
@@ -15,7 +15,7 @@ use Rattle.grin_compile.specs.declared.later.Later.{Later}
 use Rattle.grin_compile.specs.Passed.{ArePassed, later_after, programs_of}
 use Rattle.grin_compile.specs.Stages.{passes, AreStages, IsLastOf}
 use Rattle.grin_compile.proofs.Narrow.{narrow}
-use Rattle.grin_compile.proofs.Sizes.{outside_both}
+use Rattle.copy_prop.proofs.PassContract.{outside_again}
 
 -- ---- the last one
 
@@ -56,7 +56,7 @@ next_one : (a g h : Program) → CanBeLowered a g → StaysOfVectors g h → Can
 next_one a g h can stays = record {
   of_vectors = stays.of_vectors;
   narrow = stays.narrow 14 can.narrow;
-  outside = outside_both a g h can.outside stays.outside;
+  outside = outside_again a g h can.outside stays.outside;
 }
 
 -- a pass that makes targets of one variable
@@ -65,7 +65,7 @@ splitting_one : (a g h : Program) → CanBeLowered a g → OfVectors h → SameO
 splitting_one a g h can vectors outside narrow = record {
   of_vectors = vectors;
   narrow = narrow 14 (omega arith) can.narrow;
-  outside = outside_both a g h can.outside outside;
+  outside = outside_again a g h can.outside outside;
 }
 
 module _ (a : Program) (taken : IsTaken a) (l : Later) (passed : ArePassed passes a (programs_of l)) where

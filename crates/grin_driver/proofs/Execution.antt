@@ -10,24 +10,21 @@ use Rattle.rv32_machine.specs.Steps.{Stand, IsAt, start_of, state_of}
 use Rattle.rv32_machine.specs.Runs.{pieces}
 use Rattle.grin_driver.specs.declared.status.Status.{Status}
 use Rattle.grin_driver.specs.declared.status.Status.TheVariants.{Refused, OutOfMemory}
-use Rattle.grin_driver.specs.Execution.{IsUnloadable, number_of, Fails, Execution}
+use Rattle.grin_driver.specs.Execution.{IsUnloadable, shown_number, Fails, Execution}
+use Rattle.elf32.proofs.Chain.{below40}
 
 -- a refusal that is no want of memory is the smallest broken rule
-pub unloadable : (r : ElfRefusal) (bytes : List ℕ) → Breaks r bytes × KeepsBelow (rule r) bytes → IsUnloadable bytes (rule r) (number_of r)
+pub unloadable : (r : ElfRefusal) (bytes : List ℕ) → Breaks r bytes × KeepsBelow (rule r) bytes → IsUnloadable bytes (rule r) (shown_number r)
 unloadable r bytes h = record { refusal = r; broken = h.0; smallest = h.1; rule_is = refl; number_is = refl }
 
 -- ---- images that are too long
-
-none_below : (bytes : List ℕ) → KeepsBelow 40 bytes
-none_below bytes (Memory e) less broken = broken
-none_below bytes r less broken = absurd (omega (arith, less))
 
 -- of an image that is too long so much of its front is too long
 unloadable_long : (front bytes : List ℕ) → 1342177280 < length front → 1342177280 < length bytes → (k at : ℕ) → IsUnloadable front k at → IsUnloadable bytes k at
 unloadable_long front bytes short long k at u = go u.refusal u.broken u.smallest u.rule_is u.number_is
   where
-    go : (r : ElfRefusal) → Breaks r front → KeepsBelow (rule r) front → rule r ≡ k → number_of r ≡ at → IsUnloadable bytes k at
-    go ImageTooLong broken smallest rule_is number_is = record { refusal = ImageTooLong; broken = long; smallest = none_below bytes; rule_is = rule_is; number_is = number_is }
+    go : (r : ElfRefusal) → Breaks r front → KeepsBelow (rule r) front → rule r ≡ k → shown_number r ≡ at → IsUnloadable bytes k at
+    go ImageTooLong broken smallest rule_is number_is = record { refusal = ImageTooLong; broken = long; smallest = below40 bytes; rule_is = rule_is; number_is = number_is }
     go (Memory e) broken smallest rule_is number_is = absurd broken
     go r broken smallest rule_is number_is = absurd (smallest ImageTooLong (omega arith) short)
 

@@ -7,13 +7,13 @@ use mathlib.Core.Logic.{◌⊎◌, inl, inr}
 use Rattle.std.proofs.lemmas.Bool.{ltb-true, ltb-false}
 use Rattle.std.proofs.lemmas.Option.{same_Some}
 use Rattle.seq.proofs.Order.{le_or_lt}
-use Rattle.grin_io.specs.Causes.{Rose}
 use Rattle.grin_io.specs.Content.{Files, Fills, file_named, rest_of, moved_on}
 use Rattle.grin_io.specs.Changes.{ShelfChange, of_shelf}
 use Rattle.grin_driver.specs.declared.status.Status.{Status}
 use Rattle.grin_driver.specs.declared.status.Status.TheVariants.{OutOfMemory, ReadFault}
 use Rattle.grin_driver.specs.Reading.{IsBehind, Goes, Reading, ReadsOn, IsRead, open_behind, Stay, IsUnread}
 use Rattle.grin_driver.specs.Answer.{OfFile}
+use Rattle.grin_io.proofs.Changes.{rises}
 
 -- the bytes at a buffer's front
 pub piece_is : (rest buffer filled : List ℕ) (k : ℕ) → k ≤ length rest → filled ≡ take k rest ++ drop k buffer → take k filled ≡ take k rest
@@ -171,9 +171,6 @@ stay_join first before now s t old e =
     let r = s old e in
     let q = t r.0 r.1 in
     (q.0, q.1, q.2 ∙ r.2)
-
-rises : (a b c : ℕ) → a ≤ b → Rose b c → Rose a c
-rises a b c later rose = omega (arith, later, rose)
 
 -- files that stayed, and were then not read on
 pub unread_on : {F : Type 0} (content : F → Option Files) (faults : F → ℕ) (old mid new : F) (status : Status) → Stay (content old) (content mid) → faults old ≤ faults mid

@@ -13,6 +13,7 @@ use Rattle.rv32_machine.specs.Runs.{run, pieces, used}
 use Rattle.rv32_machine.proofs.Composed.{run_none, input_is_used_in_order}
 use Rattle.rv32_machine.proofs.Loops.{pieces_are_the_output}
 use Rattle.grin_driver.specs.Outcome.{Took, Gave}
+use Rattle.low_code.proofs.Steady.{begins_on}
 
 -- ---- what is left of an input
 
@@ -30,9 +31,6 @@ leaves n input s =
     (omega arith, sym dropped)
 
 -- ---- fronts
-
-begins_on : (xs ys zs : List ℕ) → Begins xs ys → Begins ys zs → Begins xs zs
-begins_on xs ys zs h k = (h.0 ++ k.0, k.1 ∙ ap (λ l. l ++ k.0) h.1 ∙ append_assoc xs h.0 k.0)
 
 front_begins : (front rest due : List (List ℕ)) → front ++ rest ≡ due → Begins (concat front) (concat due)
 front_begins front rest due is = (concat rest, ap concat (sym is) ∙ concat-append front rest)

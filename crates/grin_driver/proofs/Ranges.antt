@@ -7,7 +7,7 @@ use Rattle.std.specs.Str.Parse.{digits_value}
 use Rattle.std.proofs.lemmas.Bool.Decides.{nat_tests}
 use Rattle.command_line.specs.Numbers.{is_number}
 use Rattle.command_line.specs.Parts.{Part, parts_of}
-use Rattle.command_line.specs.Commands.{CommandLine, RunFile, ListFile, BuildFile, ExecImage, GenRun, Form, Given, number_of, cells_of, stack_of, steps_of, run_form, check_form, list_form, build_form, exec_form, gen_form, of_operand, without_operand, asked, command_from, command_of, operands, values, takes_only, only, is_empty, seed_of, size_of}
+use Rattle.command_line.specs.Commands.{CommandLine, RunFile, ListFile, BuildFile, ExecImage, GenRun, Form, Given, option_number, cells_of, stack_of, steps_of, run_form, check_form, list_form, build_form, exec_form, gen_form, of_operand, without_operand, asked, command_from, command_of, operands, values, takes_only, only, is_empty, seed_of, size_of}
 use Rattle.grin_driver.specs.Answer.{IsWithin}
 
 -- ---- of what may be none
@@ -41,7 +41,7 @@ within_test digits least most number = go (digits && (nat_le least number && nat
     go true e = (grind (arith, nat_tests), grind (arith, nat_tests))
     go false e = tt
 
-number_in_range : (default least most : ℕ) → least ≤ default → default ≤ most → (values : List (List ℕ)) → IfSome (number_of default least most values) (Within least most)
+number_in_range : (default least most : ℕ) → least ≤ default → default ≤ most → (values : List (List ℕ)) → IfSome (option_number default least most values) (Within least most)
 number_in_range default least most low high [] = (low, high)
 number_in_range default least most low high (value ∷ []) = within_test (is_number value) least most (digits_value 10 value)
 number_in_range default least most low high (value ∷ other ∷ rest) = tt

@@ -10,7 +10,8 @@ use Rattle.grin_driver.specs.declared.status.Status.{Status}
 use Rattle.grin_driver.specs.declared.status.Status.TheVariants.{Done, Refused, OutOfMemory, WriteFault}
 use Rattle.grin_driver.specs.Text.{IsAcceptedAs, IsUnaccepted}
 use Rattle.grin_driver.specs.Outcome.{IsUnmade}
-use Rattle.grin_driver.specs.Generating.{total, summary, IsDefaultImageOf, IsOutput, IsUndone, IsSummary, IsUnsummed, Generates}
+use Rattle.grin_driver.specs.Generating.{summary, IsDefaultImageOf, IsOutput, IsUndone, IsSummary, IsUnsummed, Generates}
+use Rattle.seq.specs.Lists.{sum_of}
 
 -- the summary, put together of named numbers
 pub summary_is : (bytes functions size output sum : ℕ) (first second third fourth fifth whole : List ℕ) → first ≡ codes "text " ++ decimal bytes
@@ -30,15 +31,15 @@ summary_is bytes functions size output sum first second third fourth fifth whole
 -- the summary of an accepted text from which an image was made
 pub summary_from : (text file bytes out : List ℕ) (kept : Accepted) (accepted : IsAcceptedAs text kept) (from : IsDefaultImageOf text file)
     → from.source ≡ accepted.source → from.program ≡ program kept.program → IsOutput from out
-    → bytes ≡ summary (length text) (length kept.program.funs) kept.size (length out) (total out) → IsSummary text bytes
+    → bytes ≡ summary (length text) (length kept.program.funs) kept.size (length out) (sum_of out) → IsSummary text bytes
 summary_from text file bytes out kept accepted from source_is program_is output is = record {
   file = file;
   from = from;
   out = out;
   is_output = output;
   is_summary =
-      is ∙ ap (λ (n : ℕ). summary (length text) n kept.size (length out) (total out)) (sym (ap (λ q. length q.funs) program_is ∙ length-map kept.program.funs function))
-      ∙ ap (λ (n : ℕ). summary (length text) (length from.program.funs) n (length out) (total out)) (accepted.size ∙ sym (ap program_size source_is));
+      is ∙ ap (λ (n : ℕ). summary (length text) n kept.size (length out) (sum_of out)) (sym (ap (λ q. length q.funs) program_is ∙ length-map kept.program.funs function))
+      ∙ ap (λ (n : ℕ). summary (length text) (length from.program.funs) n (length out) (sum_of out)) (accepted.size ∙ sym (ap program_size source_is));
 }
 
 -- ---- why there is none

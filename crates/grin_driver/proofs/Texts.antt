@@ -1,9 +1,9 @@
 -- Refusals of texts, and texts that are too long.
-use Rattle.std.proofs.Common.{◌≡◌, ℕ, ◌<◌, List, length, refl, subst, sym, arith}
+use Rattle.std.proofs.Common.{◌≡◌, ℕ, ◌<◌, List, length, refl, subst, sym}
 use mathlib.Core.Logic.{inl, inr}
 use Rattle.core_reader.specs.Tree as tree
 use Rattle.core_reader.proofs.Unbroken.{unbroken_is_readable}
-use Rattle.core_reader.specs.Text.{IsFirstUnread, IsUnread, BadByte, Syntax, NumberRange, TooDeep, TextTooLong, NoLater}
+use Rattle.core_reader.specs.Text.{IsFirstUnread, TextTooLong, NoLater}
 use Rattle.arity_check.specs.Program.{Program}
 use Rattle.arity_check.specs.Accepted.{IsFirstBroken, IsValid}
 use Rattle.arity_check.specs.First as check
@@ -13,6 +13,7 @@ use Rattle.arity_check.specs.declared.refusal.CheckRefusal.TheVariants.{Duplicat
 use Rattle.grin_driver.specs.declared.status.Status.{Status}
 use Rattle.grin_driver.specs.declared.status.Status.TheVariants.{Refused, OutOfMemory}
 use Rattle.grin_driver.specs.Text.{IsRefusedBy, Unread, Unaccepted, IsAccepted, IsNotRead, IsUnaccepted}
+use Rattle.core_reader.proofs.OnlyOne.{at_five}
 
 -- a refusal that is no want of memory names the first broken rule
 pub caused : (p : tree.Program) (r : CheckRefusal) → (rule r ≡ 0 → ⊥) → check.IsCause p r → IsFirstBroken p (rule r) (place r)
@@ -48,13 +49,6 @@ accepted_is_valid text source p a = record { program = source; readable = unbrok
 
 -- ---- texts that are too long
 
-at_limit : (text : List ℕ) (k at : ℕ) → IsUnread text k at → k ≡ 5 → at ≡ 1048576
-at_limit text k at (BadByte _ h) e = absurd (omega (arith, e))
-at_limit text k at (Syntax _ h) e = absurd (omega (arith, e))
-at_limit text k at (NumberRange _ h) e = absurd (omega (arith, e))
-at_limit text k at (TooDeep _ h) e = absurd (omega (arith, e))
-at_limit text k at (TextTooLong h) e = refl
-
 too_long : (text : List ℕ) → 1048576 < length text → IsFirstUnread text 5 1048576
 too_long text long = record { broken = TextTooLong long; first = λ k at h. inl refl }
 
@@ -66,7 +60,7 @@ five_first k at at' (inr h) = absurd (h.0 refl)
 pub unread_long : (front text : List ℕ) → 1048576 < length front → 1048576 < length text → (k at : ℕ) → IsFirstUnread front k at → IsFirstUnread text k at
 unread_long front text short long k at h =
     let five : k ≡ 5 = five_first k at 1048576 (h.first 5 1048576 (TextTooLong short)) in
-    let limit : at ≡ 1048576 = at_limit front k at h.broken five in
+    let limit : at ≡ 1048576 = at_five front k at h.broken five in
     subst (λ n. IsFirstUnread text n at) (sym five) (subst (λ n. IsFirstUnread text 5 n) (sym limit) (too_long text long))
 
 pub refused_long : (front text : List ℕ) → 1048576 < length front → 1048576 < length text → (k at : ℕ) → IsRefusedBy front k at → IsRefusedBy text k at

@@ -16,10 +16,10 @@ use Rattle.grin_driver.specs.declared.status.Status.{Status}
 use Rattle.grin_driver.specs.declared.status.Status.TheVariants.{Done, Refused, StepLimit, Exited, Trapped, OutOfMemory, ReadFault, WriteFault}
 
 -- the number that is shown of a refusal: that of the program header, where it names one
-abbrev pub number_of : ElfRefusal → ℕ
-number_of (SegmentOutside i) = i
-number_of (SegmentsOverlap j) = j
-number_of _ = 0
+abbrev pub shown_number : ElfRefusal → ℕ
+shown_number (SegmentOutside i) = i
+shown_number (SegmentsOverlap j) = j
+shown_number _ = 0
 
 -- the bytes break this rule, and none with a smaller number
 pub record IsUnloadable (bytes : List ℕ) (rule number : ℕ) : Type 0 where
@@ -27,7 +27,7 @@ pub record IsUnloadable (bytes : List ℕ) (rule number : ℕ) : Type 0 where
   pub broken : Breaks refusal bytes
   pub smallest : KeepsBelow (elf.rule refusal) bytes
   pub rule_is : elf.rule refusal ≡ rule
-  pub number_is : number_of refusal ≡ number
+  pub number_is : shown_number refusal ≡ number
 
 -- why there is no program
 abbrev pub IsUnloaded : (bytes : List ℕ) → Status → Type 0

@@ -12,6 +12,7 @@ use Rattle.grin_compile.specs.Limits.{HeapOver, StackOver, frame_bound, steps_ea
 use Rattle.grin_driver.specs.declared.status.Status.{Status}
 use Rattle.grin_driver.specs.declared.status.Status.TheVariants.{Done, Refused, NoAlternative, HeapFull, StackFull, StepLimit, OutOfMemory, WriteFault}
 use Rattle.grin_driver.specs.Outcome.{IsNotRun, IsImageOf}
+use Rattle.seq.specs.Lists.{sum_of}
 
 -- ---- a run with the defaults
 
@@ -58,10 +59,6 @@ pub record WritesTooMuch {text file : List ℕ} (from : IsDefaultImageOf text fi
 
 -- ---- the summary
 
-abbrev pub total : List ℕ → ℕ
-total [] = 0
-total (b ∷ bs) = b + total bs
-
 -- the bytes of a text, the functions and the size of its program, the bytes of its output and
 -- their sum
 unfoldable pub summary : (bytes functions size output sum : ℕ) → List ℕ
@@ -74,7 +71,7 @@ summary bytes functions size output sum =
 abbrev pub summary_of : {text file : List ℕ} → IsDefaultImageOf text file → (out : List ℕ) → List ℕ
 summary_of {text} from out =
     summary (length text) (length from.program.funs) (program_size from.source)
-    (length out) (total out)
+    (length out) (sum_of out)
 
 -- the program of the image is done, and within the units that end it it tells these bytes
 pub record IsOutput {text file : List ℕ} (from : IsDefaultImageOf text file)

@@ -3,7 +3,8 @@
 ghost use Rattle.std.specs.Prelude.{◌≡◌, ◌≤◌, ℕ, List, length, IfOk, IfErr};
 ghost use Rattle.grin_io.specs.Changes.{of_sink};
 ghost use Rattle.generator.specs.Generated.{generated};
-ghost use Rattle.grin_driver.specs.Generating.{total, summary, Generates, IsDefaultImageOf, IsOutput, IsUndone, IsSummary, IsUnsummed};
+ghost use Rattle.grin_driver.specs.Generating.{summary, Generates, IsDefaultImageOf, IsOutput, IsUndone, IsSummary, IsUnsummed};
+ghost use Rattle.seq.specs.Lists.{sum_of};
 
 use crate::accept::accept;
 use crate::exec::exec_image;
@@ -26,7 +27,7 @@ const MOST: usize = 4_096;
 /// The sum of bytes.
 fn total(bytes: &[u8]) -> u64
     requires { length bytes.now ≤ 4096 }
-    ensures { result ≡ total bytes.now }
+    ensures { result ≡ sum_of bytes.now }
 {
     let mut sum = 0;
     for byte in bytes {
@@ -39,7 +40,7 @@ fn total(bytes: &[u8]) -> u64
 #[tactic(auto, unfolding(crate::specs::Generating::summary))]
 fn summary(bytes: usize, functions: usize, size: u64, output: &[u8]) -> Note
     requires { length output.now ≤ 4096 }
-    ensures { result ≡ summary bytes functions size (length output.now) (total output.now) }
+    ensures { result ≡ summary bytes functions size (length output.now) (sum_of output.now) }
 {
     let mut note = Note::new();
     note.push_named(b"text ", bytes as u64);

@@ -4,7 +4,7 @@ use Rattle.std.specs.Prelude.{IfSome}
 use Rattle.std.specs.List.{concat, FoldsTo}
 use Rattle.std.proofs.lemmas.List.Folds.{concat-append}
 use Rattle.grin_io.specs.Causes.{Rose}
-use Rattle.grin_io.specs.Changes.{Told, SinkChange, of_sink, TookAll, Paused, BrokeOff, Broke}
+use Rattle.grin_io.specs.Changes.{Told, of_sink, TookAll, Paused, BrokeOff, Broke}
 use Rattle.grin_io.specs.declared.outside.Fault.{Fault}
 use Rattle.grin_io.specs.declared.outside.Fault.TheVariants.{Read, Write}
 
@@ -17,7 +17,7 @@ folds_join : {P A : Type 0} (R : P → A → P → Type 0) (p q r : P) (xs ys : 
 folds_join R p q r [] ys f g = subst (λ p. FoldsTo R p ys r) (sym f) g
 folds_join R p q r (x ∷ xs) ys f g = (f.0, f.1, folds_join R f.0 q r xs ys f.2 g)
 
-rises : (a b c : ℕ) → a ≤ b → Rose b c → Rose a c
+pub rises : (a b c : ℕ) → a ≤ b → Rose b c → Rose a c
 rises a b c later rose = omega (arith, later, rose)
 
 joined : (before : List ℕ) (first next : List (List ℕ)) → (before ++ concat first) ++ concat next ≡ before ++ concat (first ++ next)

@@ -118,6 +118,7 @@ pub struct StdIn {
 }
 
 impl StdIn {
+    /// The input of the program, of which no call has failed.
     pub fn new(runtime: &HostRuntime) -> StdIn
         ensures { result.faults ≡ 0 }
     {
@@ -146,6 +147,7 @@ pub struct StdOut {
 }
 
 impl StdOut {
+    /// The output of the program, of which no call has failed.
     pub fn new(runtime: &HostRuntime) -> StdOut
         ensures { result.faults ≡ 0 }
     {
@@ -174,6 +176,7 @@ pub struct StdErr {
 }
 
 impl StdErr {
+    /// The error output of the program, of which no call has failed.
     pub fn new(runtime: &HostRuntime) -> StdErr
         ensures { result.faults ≡ 0 }
     {

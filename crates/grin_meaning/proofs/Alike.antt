@@ -17,6 +17,7 @@ use Rattle.grin_meaning.specs.Names.{WordOk, WordsOk, ValOk, CellsOk, ActOk}
 use Rattle.grin_meaning.proofs.Back.{Back, need_back, CallsBack, code_back, updated_back, every_front}
 use Rattle.grin_meaning.proofs.Related as related
 use Rattle.grin_meaning.proofs.Related.{CallsFollow, Setting, ActFollows, CodeFollows, ArmsFollow}
+use Rattle.grin_meaning.proofs.Plain.{IsLeaf}
 
 -- the second environment has what the first has for the variables that matter
 abbrev pub Agree : (ℕ → Type 0) → Env → Env → Type 0
@@ -53,12 +54,6 @@ module _ (g : Program) (Ok : ℕ → Type 0) (env env' : Env) (agree : Agree Ok 
   pub cells_same : (cs : List Cell) → CellsOk Ok cs → cells_of g env' cs ≡ cells_of g env cs
   cells_same [] h = refl
   cells_same (c ∷ cs) h = λ i. and_then (and_then (node_same c.val h.0 i) (λ n. Some (record { site = c.site.0; node = n }))) (λ b. and_then (cells_same cs h.1 i) (λ bs. Some (b ∷ bs)))
-
--- an operation that has no block
-abbrev pub IsLeaf : Act → Type 0
-IsLeaf (case v as') = ⊥
-IsLeaf (nested b) = ⊥
-IsLeaf _ = Unit {0}
 
 abbrev pub same_args : ℕ → List Datum → List Datum → Type 0
 same_args f = Same

@@ -10,9 +10,10 @@ use Rattle.grin_meaning.specs.Follows.{Same, same, Every}
 use Rattle.grin_meaning.proofs.Back.{CallsBack}
 use Rattle.grin_meaning.proofs.Beside.{Compared, Likewise, no_deeper}
 use Rattle.grin_meaning.proofs.Rules.{Plan, CallsFollow, Setting, CodeFollows}
-use Rattle.grin_meaning.proofs.Procedures.{nothing, BodiesFollow, no_more, one_more, side_by_side, run_follows}
+use Rattle.grin_meaning.proofs.Procedures.{BodiesFollow, no_more, one_more, side_by_side, run_follows}
 use Rattle.grin_meaning.proofs.Plain.{Has, IsPlain}
 use Rattle.grin_meaning.proofs.KeptBy.{likewise_kept, keeps_by, run_is}
+use Rattle.grin_meaning.proofs.Paired.{nothing}
 
 -- nothing is looked at, and arguments and results are the same
 abbrev pub plain : Compared → (State → Type 0) → Program → List Procedure → Plan

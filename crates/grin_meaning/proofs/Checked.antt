@@ -16,12 +16,6 @@ use Rattle.grin_meaning.specs.Values.{Datum, number, tag, cell, Node, Value, nod
 use Rattle.grin_meaning.specs.Checks.{is_some_and, is_none_or, is_zero, all_zero, number_then_zeros, plain_after, plain_number, is_delayed, not_delayed, is_given, is_filled, fills, all_fill}
 use Rattle.grin_meaning.specs.Ready.{IsDelayed, NotDelayed, NumberThenZeros, PlainNumber, Given, Filled, ValFilled}
 
-some_is : {A : Type 0} {a b : A} → ◌≡◌ {A = Option A} (Some a) (Some b) → a ≡ b
-some_is h = cc
-
-pub none_is_some : {A B : Type 0} {a : A} → ◌≡◌ {A = Option A} None (Some a) → B
-none_is_some h = cc
-
 -- ---- zeros
 
 zero_is : (k : ℤ) → same_number (pos 0) k ≡ true → k ≡ pos 0

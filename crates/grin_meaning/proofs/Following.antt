@@ -1,10 +1,10 @@
 -- A program whose runs follow those of another keeps it.
-use Rattle.std.proofs.Common.{◌≡◌, ◌≢◌, ℕ, ◌≤◌, List, length, refl, arith}
+use Rattle.std.proofs.Common.{◌≡◌, ◌≢◌, ℕ, ◌≤◌, List, length, refl, sym, subst, arith}
 use Rattle.grin_syntax.specs.Tree.{Program}
 use Rattle.grin_meaning.specs.Values.{Value, missing, Answer}
 use Rattle.grin_meaning.specs.Run.{run}
 use Rattle.grin_meaning.specs.Keeps.{ended, end_of, world_of, Keeps}
-use Rattle.grin_meaning.specs.Follows.{Depths, Follows, free, gives_too, stops_too}
+use Rattle.grin_meaning.specs.Follows.{Depths, Follows, free, gives_too, stops_too, Same, same}
 
 out_follows : {K : Depths} {V : Value → Value → Type 0} {a a' : Answer} → Follows K V a a' → end_of a ≢ ended missing → (world_of a').out ≡ (world_of a).out
 out_follows free h = absurd (h refl)
@@ -46,3 +46,6 @@ no_deeper = record { Deep = λ e d. e ≤ d; start = omega arith; up = λ h. ome
 
 abbrev pub as_deep : Depths
 as_deep = record { Deep = λ e d. e ≡ d; start = refl; up = λ h. omega arith; greater = λ h k. omega arith; at_most = λ h. omega arith }
+
+pub is_same : {A : Type 0} (a b : A) → b ≡ a → Same a b
+is_same a b e = subst (Same a) (sym e) same

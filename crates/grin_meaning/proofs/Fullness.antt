@@ -21,7 +21,7 @@ use Rattle.grin_meaning.specs.Keeps.{world_of}
 use Rattle.grin_meaning.specs.Follows.{Every}
 use Rattle.grin_meaning.specs.Full.{FullNode, FullValue, FullCell, FullState, NodesAreFull}
 
-if_and : {A B : Type 0} (P : A → Type 0) (Q : B → Type 0) (o : Option A) (k : A → Option B) → IfSome o P → ((a : A) → P a → IfSome (k a) Q) → IfSome (and_then o k) Q
+pub if_and : {A B : Type 0} (P : A → Type 0) (Q : B → Type 0) (o : Option A) (k : A → Option B) → IfSome o P → ((a : A) → P a → IfSome (k a) Q) → IfSome (and_then o k) Q
 if_and P Q None k h f = tt
 if_and P Q (Some a) k h f = f a h
 
@@ -38,7 +38,7 @@ all_both : (P : HeapCell → Type 0) (hs ks : List HeapCell) → AllOf P hs → 
 all_both P [] ks h k = k
 all_both P (x ∷ hs) ks h k = (h.0, all_both P hs ks h.1 k)
 
-every_and : (P : State → Type 0) (ss : List State) (s : State) → Every P ss → P s → Every P (ss ++ s ∷ [])
+pub every_and : (P : State → Type 0) (ss : List State) (s : State) → Every P ss → P s → Every P (ss ++ s ∷ [])
 every_and P [] s h k = (k, tt)
 every_and P (x ∷ ss) s h k = (h.0, every_and P ss s h.1 k)
 

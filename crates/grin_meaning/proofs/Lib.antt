@@ -20,3 +20,6 @@ pub mod Following
 pub mod Paired
 pub mod Alike
 pub mod Simulated
+pub mod Scopes
+pub mod Fields
+pub mod Bindings

@@ -11,14 +11,7 @@ use Rattle.grin_meaning.specs.Checks.{is_bound_well}
 use Rattle.grin_meaning.proofs.Back.{code_by_back, every_last}
 use Rattle.grin_meaning.proofs.Beside.{beside, free, Seen, Sim, need_first}
 use Rattle.grin_meaning.proofs.Rules.{Relation, Here, Setting, h, ActFollows, CodeFollows, ArmsFollow}
-
--- an operation that changes nothing but what it gives: it gives a value in the same world, or something is missing
-abbrev pub IsStill : Act → Type 0
-IsStill (unit v) = Unit {0}
-IsStill (fetch a) = Unit {0}
-IsStill (fetch_word a k) = Unit {0}
-IsStill (prim q a b) = Unit {0}
-IsStill _ = ⊥
+use Rattle.grin_meaning.specs.Pieces.{IsStill}
 
 pub data Still (w : World) : Answer → Type 0 where
   there : (v : Value) → Still w (gives v w)

@@ -103,7 +103,7 @@ IsLeaf (case v as') = ⊥
 IsLeaf (nested b) = ⊥
 IsLeaf _ = Unit {0}
 
-same_is : {A : Type 0} {a b : A} → Same a b → b ≡ a
+pub same_is : {A : Type 0} {a b : A} → Same a b → b ≡ a
 same_is same = refl
 
 -- arguments, results and heaps are the same in both

@@ -1,5 +1,5 @@
 -- Programs whose procedures follow each other, each with its own relation of variables, run side by side.
-use Rattle.std.proofs.Common.{◌≡◌, ℕ, zero, suc, ◌+◌, max, List, [], ◌∷◌, Option, Some, None, slice_get, subst, arith}
+use Rattle.std.proofs.Common.{◌≡◌, ℕ, zero, suc, ◌+◌, max, List, [], ◌∷◌, Option, Some, slice_get, subst, arith}
 use Rattle.grin_syntax.specs.Tree.{Procedure, Program}
 use Rattle.grin_meaning.specs.Values.{Value, Datum, Env, HeapCell, World, Answer, need, one_each, Binding, with_vars}
 use Rattle.grin_meaning.specs.Checks.{is_given}
@@ -9,10 +9,7 @@ use Rattle.grin_meaning.specs.Follows.{Every}
 use Rattle.grin_meaning.proofs.Back.{CallsBack, calls_by_back, code_by_back, given_back, every_last}
 use Rattle.grin_meaning.proofs.Beside.{Beside, beside, Likewise, free, stops_too, Seen, Sim, need_is, need_first, spend_sim, given_sim}
 use Rattle.grin_meaning.proofs.Rules.{Relation, Plan, CallsFollow, Setting, CodeFollows, enter}
-
--- where a procedure begins no variable is bound
-abbrev pub nothing : Env
-nothing = λ y. None
+use Rattle.grin_meaning.proofs.Paired.{nothing}
 
 -- procedure f: its parameters take related arguments to related variables, its body follows, and what it gives then is its result
 pub record BodyFollows (s : Setting) (f : ℕ) (q r : Procedure) : Type 1 where

@@ -8,7 +8,7 @@ use Rattle.grin_syntax.specs.declared.program.Val as V
 use Rattle.grin_syntax.specs.declared.program.Val.TheVariants.{NodeVar, Node, Vector, One}
 use Rattle.grin_syntax.specs.declared.program.Target as T
 use Rattle.grin_syntax.specs.declared.program.Target.TheVariants as to
-use Rattle.grin_syntax.specs.Tree.{Code, end, store, bind, Act, unit, fetch, update, eval, apply, case, nested, Arms, no_arm, arm, Procedure, Program}
+use Rattle.grin_syntax.specs.Tree.{Code, end, store, bind, Act, unit, fetch, update, eval, apply, case, nested, Arms, no_arm, arm, Procedure, Program, fetch_word, prim}
 use Rattle.grin_syntax.specs.Binders.{shape_vars, target_vars}
 use Rattle.grin_syntax.specs.Formed.{AllOf}
 
@@ -140,3 +140,11 @@ unfoldable mutual
   NarrowArms node_width most no_arm = Unit {0}
   NarrowArms node_width most (arm s b as') =
       NarrowCode node_width most b × NarrowArms node_width most as'
+
+-- an operation that changes nothing and gives what it has read or reckoned
+abbrev pub IsStill : Act → Type 0
+IsStill (unit v) = Unit {0}
+IsStill (fetch a) = Unit {0}
+IsStill (fetch_word a k) = Unit {0}
+IsStill (prim q a b) = Unit {0}
+IsStill _ = ⊥

@@ -1,5 +1,5 @@
 -- Counts of the pieces of a program, by those of their parts.
-use Rattle.std.proofs.Common.{◌≡◌, ℕ, suc, ◌+◌, ◌-◌, ◌^◌, ◌≤◌, min, List, [], ◌∷◌, map, length, refl, sym, ap, ◌∙◌, arith}
+use Rattle.std.proofs.Common.{◌≡◌, ℕ, suc, ◌+◌, ◌-◌, List, [], ◌∷◌, length, refl, sym, ap, ◌∙◌, arith}
 use Rattle.grin_syntax.specs.declared.program.ProcId.{ProcId}
 use Rattle.grin_syntax.specs.declared.program.PrimOp.{PrimOp}
 use Rattle.grin_syntax.specs.declared.program.Word.{Word}
@@ -8,12 +8,13 @@ use Rattle.grin_syntax.specs.declared.program.Target.{Target}
 use Rattle.grin_syntax.specs.declared.program.Shape.{Shape}
 use Rattle.grin_syntax.specs.declared.program.Shape.TheVariants as shape
 use Rattle.grin_syntax.specs.declared.program.Cell.{Cell}
-use Rattle.grin_syntax.specs.Tree.{Code, end, store, bind, Act, unit, fetch, fetch_word, update, eval, apply, call, prim, read, write, case, nested, fail, Arms, no_arm, arm, Procedure}
+use Rattle.grin_syntax.specs.Tree.{Code, end, store, bind, Act, unit, fetch, fetch_word, update, eval, apply, call, prim, read, write, case, nested, fail, Arms, no_arm, arm}
 use Rattle.grin_syntax.specs.Binders.{shape_vars}
 use Rattle.grin_meaning.specs.Slim.{val_weight, target_weight, cells_weight, act_weight, code_weight, arms_weight, act_calls, code_calls, arms_calls, node_words, end_words, inner_words, code_words, arms_words}
 use Rattle.apply_inline.specs.Size.{val_size, target_size, shape_size, cells_size, act_size, code_size, arms_size}
 use Rattle.grin_measure.specs.declared.counts.Counts.{Counts}
-use Rattle.grin_measure.specs.Counts.{capped, counts, sum, of_val, of_target, of_cell, of_cells, of_pattern, of_act, of_code, of_arms, of_procedure, of_procs}
+use Rattle.grin_measure.specs.Counts.{counts, sum, of_val, of_target, of_cells, of_pattern, of_act, of_code, of_arms}
+use Rattle.apply_inline.specs.Expanded.{capped}
 
 -- ---- sums
 

@@ -1,6 +1,6 @@
 -- What is counted in a piece of a program: its weight, its calls, the words that it needs in a
 -- frame, and its size.
-use Rattle.std.specs.Prelude.{ℕ, ◌+◌, ◌-◌, ◌^◌, min, List, length}
+use Rattle.std.specs.Prelude.{ℕ, ◌+◌, List, length}
 use Rattle.grin_syntax.specs.declared.program.Val.{Val}
 use Rattle.grin_syntax.specs.declared.program.Target.{Target}
 use Rattle.grin_syntax.specs.declared.program.Shape.{Shape}
@@ -9,10 +9,7 @@ use Rattle.grin_syntax.specs.Tree.{Code, Act, Arms, Procedure}
 use Rattle.grin_meaning.specs.Slim.{val_weight, target_weight, cells_weight, act_weight, code_weight, arms_weight, procs_weight, act_calls, code_calls, arms_calls, procs_calls, inner_words, code_words, arms_words, procedure_words}
 use Rattle.apply_inline.specs.Size.{val_size, target_size, shape_size, cells_size, act_size, code_size, arms_size, procedure_size, total}
 use Rattle.grin_measure.specs.declared.counts.Counts.{Counts}
-
--- a number of 64 bits, the largest one for all that are larger
-abbrev pub capped : ℕ → ℕ
-capped n = min n (2 ^ 64 - 1)
+use Rattle.apply_inline.specs.Expanded.{capped}
 
 unfoldable pub counts : (weight calls words size : ℕ) → Counts
 counts w c v s = record { weight = capped w; calls = capped c; words = capped v; size = capped s }

@@ -30,8 +30,9 @@ use Rattle.grin_opt.specs.declared.pass.PassName.{PassName}
 use Rattle.grin_opt.specs.declared.pass.PassName.TheVariants.{Translate, Eval, Apply, Vectorise, Simplify, Fetch, Copy, Update, Unbox, Raise}
 use Rattle.grin_opt.specs.Schedule.{shape_of}
 use Rattle.grin_stages.specs.Stage.{Analyses, OneExpandedSize, IsStage, translated, evaluations_inlined, both_inlined, by_pass, UpToInlining, OneStage}
-use Rattle.eval_inline.specs.Inlining.{those, some_of, cells_in, site_of, sites_of, tags_of, fields_at, call_body, eval_arm, eval_arms, evaluation, eval_bound, eval_ended, eval_act, eval_code, eval_all, eval_procs, act_room, code_room, all_room, arms_room, eval_inlined}
+use Rattle.eval_inline.specs.Inlining.{some_of, cells_in, site_of, sites_of, tags_of, fields_at, call_body, eval_arm, eval_arms, evaluation, eval_bound, eval_ended, eval_act, eval_code, eval_all, eval_procs, act_room, code_room, all_room, arms_room, eval_inlined}
 use Rattle.apply_inline.specs.Inlining.{word_has, value_has, is_part_tag, part_tags_of, others_of, with_one_more, apply_body, part_body, apply_arm, apply_arms, else_fail, apply_act, apply_code, apply_all, apply_procs, apply_act_room, apply_code_room, apply_arms_room, parts_room, apply_inlined, inlined}
+use Rattle.seq.specs.Lists.{those}
 
 -- two tests that imply each other are one
 both_ways : (x y : Bool) → (IsTrue x → IsTrue y) → (IsTrue y → IsTrue x) → x ≡ y

@@ -14,12 +14,10 @@ use Rattle.eval_inline.specs.Inlining.{eval_inlined}
 use Rattle.apply_inline.specs.Inlining.{apply_inlined, inlined_size}
 use Rattle.eval_inline.specs.Analysed.{IsAnalysed}
 use Rattle.apply_inline.specs.Before.{IsEvalInlined}
-use Rattle.apply_inline.specs.Law.{NeverMissing}
 use Rattle.grin_translate.specs.Translation.{tr}
 use Rattle.translated_form.proofs.Limits.{valid_is_well_formed}
 use Rattle.inlined_form.proofs.Readiness.{never_missing}
 use Rattle.inlined_form.proofs.SizesFit.{sizes_fit}
-use Rattle.vectorise.specs.Widened.{Widened}
 use Rattle.vectorised_form.specs.Laws.{VectoriseTakesInlined}
 use Rattle.grin_opt.specs.declared.pass.PassName.{PassName}
 use Rattle.grin_opt.specs.declared.pass.PassName.TheVariants.{Translate, Eval, Apply}
@@ -27,6 +25,7 @@ use Rattle.grin_opt.specs.Schedule.{IsPass, IsTaken, shape_of, before, IsOptimis
 use Rattle.grin_opt.proofs.Steps.{shaped_of_vectors}
 use Rattle.grin_stages.specs.Stage.{Analyses, IsStage, translated, evaluations_inlined, both_inlined, by_pass as next_stage, HasExpandedSize, Fits}
 use Rattle.grin_stages.specs.Analysed.{IsMade}
+use Rattle.grin_meaning.specs.Looking.{NeverMissing}
 
 -- the solution of a program's system
 pub least_of : (g h : grin.Program) (t : Tables) (cs : List Inclusion) (A : Solution) → g ≡ h → t ≡ tables g → cs ≡ system g → IsLeast t cs A → IsLeast (tables h) (system h) A

@@ -7,12 +7,12 @@ use Rattle.grin_syntax.specs.Formed.{Formed}
 use Rattle.grin_meaning.specs.Keeps.{Keeps}
 use Rattle.points_to.specs.Found.{found}
 use Rattle.eval_inline.specs.Analysed.{IsAnalysed}
-use Rattle.apply_inline.specs.Law.{NeverMissing}
 use Rattle.grin_translate.specs.Translation.{tr}
 use Rattle.grin_opt.specs.declared.pass.PassName.{PassName}
 use Rattle.grin_opt.specs.declared.pass.PassName.TheVariants.{Translate}
 use Rattle.grin_stages.specs.declared.pipeline.Analysis.{Analysis}
 use Rattle.grin_stages.specs.Stage.{Analyses, IsStage, Fits}
+use Rattle.grin_meaning.specs.Looking.{NeverMissing}
 
 -- the translation, with the least solution of its flow system, of a program that is not too large
 pub record IsAnalysisOf (p : Program) (a : Analysis) : Type 0 where

@@ -1,26 +1,11 @@
 -- How often a number stands in a list of variables, and in a run of fresh ones.
-use Rattle.std.proofs.Common.{◌≡◌, ◌≢◌, ℕ, zero, suc, ◌+◌, ◌<◌, ◌≤◌, Bool, true, false, cond, nat_eq, List, [], ◌∷◌, ◌++◌, refl, sym, ap, subst, arith}
+use Rattle.std.proofs.Common.{◌≡◌, ℕ, zero, suc, ◌+◌, ◌<◌, ◌≤◌, Bool, true, false, nat_eq, List, [], ◌∷◌, refl, sym, ap, subst, arith, length}
 use Rattle.std.proofs.lemmas.Bool.Decides.{nat_tests}
-use Rattle.grin_syntax.specs.Binders.{times, numbers_of}
+use Rattle.grin_syntax.specs.Binders.{numbers_of}
 use Rattle.grin_syntax.specs.Fresh.{variables}
-
-pub times_append : (x : ℕ) (xs ys : List ℕ) → times x (xs ++ ys) ≡ times x xs + times x ys
-times_append x [] ys = omega arith
-times_append x (y ∷ xs) ys = let h : times x (xs ++ ys) ≡ times x xs + times x ys = times_append x xs ys in omega arith
-
--- one where the test holds
-abbrev pub counts : Bool → ℕ
-counts b = cond b 1 0
-
-pub none_at : (x y : ℕ) → x ≢ y → counts (nat_eq x y) ≡ 0
-none_at x y h = go (nat_eq x y) refl
-  where
-    go : (b : Bool) → nat_eq x y ≡ b → counts b ≡ 0
-    go true q = let e : x ≡ y = grind (arith, nat_tests) in absurd (h e)
-    go false q = refl
-
-pub one_at : (x : ℕ) → counts (nat_eq x x) ≡ 1
-one_at x = let h : nat_eq x x ≡ true = grind (arith, nat_tests) in ap counts h
+use Rattle.seq.specs.Lists.{times}
+use Rattle.grin_syntax.specs.declared.program.VarId.{VarId}
+use Rattle.seq.proofs.Counted.{counts, none_at}
 
 -- how often x is among k variables from y on
 abbrev pub fresh : ℕ → ℕ → ℕ → ℕ
@@ -56,3 +41,18 @@ fresh_split x y (suc j) k =
     let h : fresh x (suc y) (j + k) ≡ fresh x (suc y) j + fresh x (y + suc j) k = subst (λ z. fresh x (suc y) (j + k) ≡ fresh x (suc y) j + fresh x z k) e (fresh_split x (suc y) j k) in
     let g : fresh x y (suc (j + k)) ≡ fresh x y (suc j) + fresh x (y + suc j) k = omega arith in
     subst (λ n. fresh x y n ≡ fresh x y (suc j) + fresh x (y + suc j) k) f g
+
+pub length_variables : (x k : ℕ) → length (variables x k) ≡ k
+length_variables x zero = refl
+length_variables x (suc k) = ap suc (length_variables (suc x) k)
+
+pub fresh_past : (x y k : ℕ) → y + k ≤ x → fresh x y k ≡ 0
+fresh_past x y zero h = refl
+fresh_past x y (suc k) h =
+    let e : counts (nat_eq x y) ≡ 0 = none_at x y (omega arith) in
+    let r : fresh x (suc y) k ≡ 0 = fresh_past x (suc y) k (omega arith) in
+    omega arith
+
+pub length_numbers : (xs : List VarId) → length (numbers_of xs) ≡ length xs
+length_numbers [] = refl
+length_numbers (x ∷ xs) = ap suc (length_numbers xs)

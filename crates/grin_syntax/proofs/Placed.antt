@@ -3,6 +3,7 @@ use Rattle.std.proofs.Common.{◌≡◌, ℕ, suc, Bool, true, false, cond, nat_
 use Rattle.std.proofs.lemmas.List.{take_more, length-take-le}
 use Rattle.std.specs.Option.{option_map}
 use Rattle.grin_syntax.specs.Listing.{place, or_else}
+use Rattle.grin_syntax.specs.declared.program.VarId.{VarId}
 
 mapped : (o : Option ℕ) (e : Bool) (n : ℕ) → option_map suc (or_else o (cond e (Some n) None)) ≡ or_else (option_map suc o) (cond e (Some (suc n)) None)
 mapped (Some k) e n = refl
@@ -26,3 +27,6 @@ pub places_more : (xs : List ℕ) (i x : ℕ) (g g' : Option ℕ) → i < length
 places_more xs i x g g' h e e' =
     let l : length (take i xs) ≡ i = length-take-le i xs (omega (arith, h)) in
     e' ∙ (λ j. or_else (e j) (cond (nat_eq x (get_or xs i 0)) (Some (sym l j)) None)) ∙ sym (place-push x (get_or xs i 0) (take i xs)) ∙ ap (place x) (sym (take_more xs i 0 h))
+
+pub same_var : (x y : VarId) → x.0 ≡ y.0 → x ≡ y
+same_var x y e = ap (λ n. record { 0 = n }) e

@@ -15,9 +15,10 @@ use Rattle.grin_syntax.specs.declared.program.Shape.{Shape}
 use Rattle.grin_syntax.specs.declared.program.Shape.TheVariants as shape
 use Rattle.grin_syntax.specs.declared.program.Cell.{Cell}
 use Rattle.grin_syntax.specs.Tree.{Procedure, Program}
-use Rattle.grin_syntax.specs.Binders.{times, numbers_of, procs_vars, procs_sites, program_sites}
+use Rattle.grin_syntax.specs.Binders.{numbers_of, procs_vars, procs_sites, program_sites}
 use Rattle.grin_syntax.specs.Formed.{AllOf, Scope, InScope, with_words, with_target, ProcKnown, HasProcedure, KnownIfAny, HasNext, KindFormed, TagFormed, WordFormed, ValFormed, CellFormed, ShapeFormed, ProcedureFormed, Formed, argument_words}
-use Rattle.grin_syntax.proofs.Counted.{times_append, counts, one_at}
+use Rattle.seq.specs.Lists.{times}
+use Rattle.seq.proofs.Counted.{counts, times_append, one_at}
 
 -- each number stands in the second list at least as often
 pub record Fewer (xs ys : List ℕ) : Type 0 where

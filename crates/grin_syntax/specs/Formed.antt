@@ -16,9 +16,10 @@ use Rattle.grin_syntax.specs.declared.program.Shape.TheVariants as shape
 use Rattle.grin_syntax.specs.declared.program.Cell.{Cell}
 use Rattle.grin_syntax.specs.declared.program.GlobalCell.{GlobalCell}
 use Rattle.grin_syntax.specs.Tree.{Code, end, store, bind, Act, unit, fetch, fetch_word, update, eval, apply, call, prim, read, write, case, nested, fail, Arms, no_arm, arm, Procedure, Program}
-use Rattle.grin_syntax.specs.Binders.{times, numbers_of, shape_vars, cell_vars, program_vars, program_sites}
+use Rattle.grin_syntax.specs.Binders.{numbers_of, shape_vars, cell_vars, program_vars, program_sites}
 use Rattle.grin_syntax.specs.Tags.{is_part}
 pub use Rattle.seq.specs.Lists.{AllOf}
+use Rattle.seq.specs.Lists.{times}
 
 -- The variables in scope: those that stand for a node, and those that stand for a word.
 pub record Scope : Type 0 where

@@ -121,3 +121,9 @@ program_of g = record {
   start = g.start;
   argument = g.argument;
 }
+
+-- a block as one operation
+abbrev pub as_act : Code → Act
+as_act (end o) = o
+as_act (store cs b) = nested (store cs b)
+as_act (bind t o b) = nested (bind t o b)

@@ -11,7 +11,8 @@ use Rattle.grin_translate.specs.declared.tags.Delay.{Delay}
 use Rattle.grin_translate.specs.declared.tags.Delay.TheVariants.{Calls, Applies, Operates, Reads}
 use Rattle.grin_translate.specs.declared.numbering.Numbers.{Numbers}
 use Rattle.grin_translate.specs.Numbered.{AreNumbers, starts, after, shared_before, shared_in, params_each}
-use Rattle.grin_translate.specs.Tags.{delays_in, is_delayed, takes_input, delays, numbers_from, operations}
+use Rattle.grin_translate.specs.Tags.{delays_in, is_delayed, takes_input, delays, operations}
+use Rattle.seq.specs.Lists.{numbers_from}
 
 any_of_map : (d : Delay) (fs : List Fun) → list_any (λ f. delays_in d f.body) (map function fs) ≡ list_any (λ f. delays_in d (term f.body)) fs
 any_of_map d [] = refl

@@ -17,7 +17,7 @@ use Rattle.grin_meaning.specs.Run.{Calls, act, code, passing, byte_or_end, after
 use Rattle.grin_translate.specs.declared.tags.Delay.{Delay}
 use Rattle.grin_translate.specs.declared.tags.Delay.TheVariants.{Applies, Reads}
 use Rattle.grin_translate.specs.declared.tags.Kind.TheVariants.{Number, Waits}
-use Rattle.grin_translate.specs.Tags.{delays, tag, numbers_from, delays_in, is_delayed, delay_params}
+use Rattle.grin_translate.specs.Tags.{delays, tag, delays_in, is_delayed, delay_params}
 use Rattle.grin_translate.specs.Blocks.{local, temp}
 use Rattle.grin_translate.specs.Translation.{tr, delay_body, byte_body, input_body, fun_body}
 use Rattle.grin_translate.specs.WellFormed.{AllOf, InLocals, FunOk, VarOk, WellFormed}
@@ -28,15 +28,13 @@ use Rattle.grin_translate.proofs.Forcing.{CallsMatch, params_are, value_made, de
 use Rattle.grin_translate.proofs.Scoping.{Knows, KnowsFields, knows_fields}
 use Rattle.grin_translate.proofs.Forms.{apply_match, prim_match}
 use Rattle.grin_translate.proofs.Expressions.{Waits as WaitsAll, any_has, tag_zero, eval_match}
+use Rattle.seq.specs.Lists.{numbers_from}
+use Rattle.seq.proofs.Counted.{length_numbers}
 
-has_at : {A : Type 0} (xs : List A) (i : ℕ) (x : A) → slice_get xs i ≡ Some x → Has x xs
+pub has_at : {A : Type 0} (xs : List A) (i : ℕ) (x : A) → slice_get xs i ≡ Some x → Has x xs
 has_at [] i x e = absurd (none-some x e)
 has_at (y ∷ xs) zero x e = inl (sym (same_Some y x e))
 has_at (y ∷ xs) (suc i) x e = inr (has_at xs i x e)
-
-length-numbers_from : (k n : ℕ) → length (numbers_from k n) ≡ n
-length-numbers_from k zero = refl
-length-numbers_from k (suc n) = ap suc (length-numbers_from (suc k) n)
 
 -- ---- the locals from 0 on are the arguments
 
@@ -94,7 +92,7 @@ module _ (p : Program) where
   knows_arguments : (base n N : ℕ) (xs : List ℕ) → length xs ≡ n → Names p N xs → KnowsArguments base n N xs
   knows_arguments base n N xs e g =
       let none : Knows p base (λ x. ⊥) N (λ x. 0) nothing = record { below = λ x z. absurd z; bound = λ x z. absurd z } in
-      let f : KnowsFields p base (numbers_from 0 n) xs (λ x. ⊥) N (λ x. 0) nothing = knows_fields p base (numbers_from 0 n) xs (λ x. ⊥) N (λ x. 0) nothing (e ∙ sym (length-numbers_from 0 n)) g none in
+      let f : KnowsFields p base (numbers_from 0 n) xs (λ x. ⊥) N (λ x. 0) nothing = knows_fields p base (numbers_from 0 n) xs (λ x. ⊥) N (λ x. 0) nothing (e ∙ sym (length_numbers 0 n)) g none in
       let at : (x : ℕ) → x < n → with_locals (λ x. 0) (numbers_from 0 n) xs x ≡ slice_index xs x = λ x lt. let z : 0 + x ≡ x = omega arith in subst (λ y. with_locals (λ x. 0) (numbers_from 0 n) xs y ≡ slice_index xs x) z (numbers_at n 0 x xs (λ x. 0) e lt) in
       record {
         bindings = f.bindings;

@@ -16,7 +16,7 @@ use Rattle.core_meaning.specs.Evaluation.{State, Onward, append, binding, with_g
 use Rattle.grin_syntax.specs.declared.program.VarId.{VarId}
 use Rattle.grin_syntax.specs.declared.program.Val.TheVariants.{NodeVar}
 use Rattle.grin_syntax.specs.Tree as tree
-use Rattle.grin_syntax.specs.Tree.{Code, end, store, bind}
+use Rattle.grin_syntax.specs.Tree.{Code, end, store, bind, as_act}
 use Rattle.grin_meaning.specs.Values.{Datum, cell, node, words, World, Env, fits, fits_not, fields_fit, one_each, with_vars}
 use Rattle.grin_meaning.specs.Values as grin
 use Rattle.grin_meaning.specs.Run.{Calls, act, code, arms, choose, passing, places, with_cells}
@@ -24,7 +24,7 @@ use Rattle.grin_translate.specs.declared.tags.Delay.{Delay}
 use Rattle.grin_translate.specs.declared.tags.Kind.{Kind}
 use Rattle.grin_translate.specs.declared.tags.Kind.TheVariants.{Number, Constructor}
 use Rattle.grin_translate.specs.Tags.{kinds, tag, binds, delays_in, delays_in_branches, is_delayed, same_kind}
-use Rattle.grin_translate.specs.Blocks.{local, temp, cell_of, as_act, block, temps}
+use Rattle.grin_translate.specs.Blocks.{local, temp, cell_of, block, temps}
 use Rattle.grin_translate.specs.Blocks as blocks
 use Rattle.grin_translate.specs.Translation.{tr}
 use Rattle.grin_translate.specs.WellFormed.{AllOf, InLocals, InGroup, HasFields, FormOk, TermOk, BranchesOk}

@@ -13,9 +13,10 @@ use Rattle.grin_translate.specs.declared.tags.Delay.{Delay}
 use Rattle.grin_translate.specs.declared.tags.Delay.TheVariants.{Calls, Applies, Operates, Reads}
 use Rattle.grin_translate.specs.declared.tags.Kind.{Kind}
 use Rattle.grin_translate.specs.declared.tags.Kind.TheVariants.{Number, Constructor, Waits, Lacks}
-use Rattle.grin_translate.specs.Tags.{operations, op_number, same_delay, same_kind, first_place, numbers_from, is_delayed, takes_input, delays, kinds, parts, function_parts, tag, tag_of, con_tag, proc}
+use Rattle.grin_translate.specs.Tags.{operations, op_number, same_delay, same_kind, first_place, is_delayed, takes_input, delays, kinds, parts, function_parts, tag, tag_of, con_tag, proc}
 use Rattle.grin_translate.specs.WellFormed.{AllOf, HasFields}
 use Rattle.grin_translate.proofs.Places.{Has, has_left, has_right, has_map, has_filter, has_number_from, all_map, found, places_tell}
+use Rattle.seq.specs.Lists.{numbers_from}
 
 nth_operation : ℕ → PrimOp
 nth_operation zero = Add

@@ -13,9 +13,10 @@ use Rattle.grin_translate.specs.declared.tags.Delay.{Delay}
 use Rattle.grin_translate.specs.declared.tags.Delay.TheVariants.{Calls}
 use Rattle.grin_translate.specs.declared.tags.Kind.{Kind}
 use Rattle.grin_translate.specs.declared.tags.Kind.TheVariants.{Number, Constructor, Waits, Lacks}
-use Rattle.grin_translate.specs.Tags.{numbers_from, parts, function_parts, kinds, delays, takes_input, tag, tag_of, fun_name, delay_name, delay_params}
+use Rattle.grin_translate.specs.Tags.{parts, function_parts, kinds, delays, takes_input, tag, tag_of, fun_name, delay_name, delay_params}
 use Rattle.grin_translate.specs.Translation.{global_cells, procedure, delay_body, span, spans, delayed_procs, rest, print, print_body, tr}
 use Rattle.grin_translate.specs.Pieces.{shared_of, start_if}
+use Rattle.seq.specs.Lists.{numbers_from}
 
 record FunctionAt (fs : List Function) (f : ℕ) : Type 0 where
   function : Function

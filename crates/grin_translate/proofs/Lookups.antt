@@ -13,11 +13,13 @@ use Rattle.grin_translate.specs.declared.tags.Delay.{Delay}
 use Rattle.grin_translate.specs.declared.tags.Delay.TheVariants.{Calls, Applies, Operates, Reads}
 use Rattle.grin_translate.specs.declared.tags.Kind.{Kind}
 use Rattle.grin_translate.specs.declared.tags.Kind.TheVariants.{Number, Constructor, Waits, Lacks}
-use Rattle.grin_translate.specs.Tags.{operations, same_delay, same_kind, first_place, numbers_from, is_delayed, takes_input, delays, kinds, parts, function_parts, tag, proc}
+use Rattle.grin_translate.specs.Tags.{operations, same_delay, same_kind, first_place, is_delayed, takes_input, delays, kinds, parts, function_parts, tag, proc}
 use Rattle.grin_translate.specs.Numbered.{NoCall, starts, after, shared_before, shared_in, one_if_none, params_each}
 use Rattle.grin_translate.specs.WellFormed.{AllOf}
 use Rattle.core_meaning.proofs.Shared.{count_more}
 use Rattle.grin_translate.proofs.Places.{all_map}
+use Rattle.seq.specs.Lists.{numbers_from}
+use Rattle.seq.proofs.Counted.{length_numbers}
 
 -- ---- first places
 
@@ -61,10 +63,6 @@ module _ {A : Type 0} (t : A → Bool) where
 pub place_map : {A B : Type 0} (t : B → Bool) (f : A → B) (xs : List A) → first_place t (map f xs) ≡ first_place (λ x. t (f x)) xs
 place_map t f [] = refl
 place_map t f (x ∷ xs) = ap (λ n. cond (t (f x)) 0 (suc n)) (place_map t f xs)
-
-pub length-numbers_from : (k n : ℕ) → length (numbers_from k n) ≡ n
-length-numbers_from k zero = refl
-length-numbers_from k (suc n) = ap suc (length-numbers_from (suc k) n)
 
 pub number_at : (n k j : ℕ) → j < n → first_place (nat_eq (k + j)) (numbers_from k n) ≡ j
 number_at zero k j lt = absurd (omega (arith, lt))
@@ -127,7 +125,7 @@ module _ (p : Program) where
   others = filter (is_delayed p) (map Applies (numbers_from 0 13) ++ map Operates operations) ++ cond (takes_input p) (Reads ∷ []) []
 
   long_called : length called ≡ length p.funs
-  long_called = length-map (numbers_from 0 (length p.funs)) Calls ∙ length-numbers_from 0 (length p.funs)
+  long_called = length-map (numbers_from 0 (length p.funs)) Calls ∙ length_numbers 0 (length p.funs)
 
   no_calls : AllOf NoCall others
   no_calls = all_append NoCall (filter (is_delayed p) (map Applies (numbers_from 0 13) ++ map Operates operations)) _ (all_filter NoCall (is_delayed p) (map Applies (numbers_from 0 13) ++ map Operates operations) (all_append NoCall (map Applies (numbers_from 0 13)) (map Operates operations) (all_map NoCall Applies (numbers_from 0 13) (λ m. tt)) (all_map NoCall Operates operations (λ op. tt)))) (last (takes_input p))
@@ -181,7 +179,7 @@ module _ (p : Program) where
   constructors = map Constructor (numbers_from 0 (length p.cons))
 
   long_constructors : length constructors ≡ length p.cons
-  long_constructors = length-map (numbers_from 0 (length p.cons)) Constructor ∙ length-numbers_from 0 (length p.cons)
+  long_constructors = length-map (numbers_from 0 (length p.cons)) Constructor ∙ length_numbers 0 (length p.cons)
 
   long_waits : length (map Waits (delays p)) ≡ length (delays p)
   long_waits = length-map (delays p) Waits

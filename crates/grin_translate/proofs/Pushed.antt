@@ -27,22 +27,19 @@ use Rattle.grin_syntax.specs.declared.program.Op.{Op}
 use Rattle.grin_syntax.specs.declared.program.Op.TheVariants.{Case}
 use Rattle.grin_syntax.specs.declared.program.Stmt.{Stmt}
 use Rattle.grin_syntax.specs.declared.program.Stmt.TheVariants.{Store, Bind}
-use Rattle.grin_syntax.specs.Tree.{Code, fail, end, bind, store, Act, nested, case, arm_of, code_of, apply, eval, Arms, arm, no_arm, arms_of, act_of, before_of, all_before}
+use Rattle.grin_syntax.specs.Tree.{Code, fail, end, bind, store, Act, nested, case, arm_of, code_of, apply, eval, Arms, arm, no_arm, arms_of, act_of, before_of, all_before, as_act}
 use Rattle.grin_syntax.proofs.TreeOf.{before_of-Store, before_of-Bind, code_of-parts, act_of-Case}
 use Rattle.grin_translate.specs.declared.tags.Kind.TheVariants.{Constructor}
 use Rattle.grin_translate.specs.Tags.{tag}
-use Rattle.grin_translate.specs.Blocks.{word, local, temp, cell_of, as_act, give_block, apply_block, prim_block, block, arms, temps, branch_temps}
+use Rattle.grin_translate.specs.Blocks.{word, local, temp, cell_of, give_block, apply_block, prim_block, block, arms, temps, branch_temps}
 use Rattle.grin_translate.specs.Pieces.{result_of, evaluated_of, given_to, cell_at, arms_onto}
 use Rattle.grin_translate.proofs.TermOf.{branch-Con, branch-Int, branch-Default}
+use Rattle.grin_syntax.proofs.Pieces.{all_before_push}
 
 pub at_item : {A : Type 0} (xs : List A) (i : ℕ) (x : A) → i < length xs → x ≡ get_or xs i x → drop i xs ≡ x ∷ drop (i + 1) xs
 at_item xs i x lt is = let e : suc i ≡ i + 1 = omega arith in drop-cons xs i x lt ∙ ap (λ y. y ∷ drop (suc i) xs) (sym is) ∙ ap (λ k. x ∷ drop k xs) e
 
-pub statement_pushed : (ss : List Stmt) (s : Stmt) (c : Code) → all_before (map before_of (ss ++ s ∷ [])) c ≡ all_before (map before_of ss) (before_of s c)
-statement_pushed [] s c = refl
-statement_pushed (t ∷ ss) s c = ap (before_of t) (statement_pushed ss s c)
-
-pub ruleset pushed = (statement_pushed)
+pub ruleset pushed = (all_before_push)
 
 -- ---- a block that is an operation
 
@@ -98,7 +95,7 @@ module _ (p : Program) (base : ℕ) where
   given_more ss pushed o o' v t w x xs rest e f g h i =
       let n : t + 1 ≡ suc t = omega arith in
       ap (λ q. all_before (map before_of q) (given_to p base (t + 1) (act_of o') (map (word p base) rest))) e
-      ∙ statement_pushed ss (Bind (to.Node v) o) (given_to p base (t + 1) (act_of o') (map (word p base) rest))
+      ∙ all_before_push ss (Bind (to.Node v) o) (given_to p base (t + 1) (act_of o') (map (word p base) rest))
       ∙ ap (λ s. all_before (map before_of ss) (s (given_to p base (t + 1) (act_of o') (map (word p base) rest)))) (before_of-Bind (to.Node v) o)
       ∙ (λ z. all_before (map before_of ss) (bind (to.Node (g z)) (act_of o) (given_to p base (n z) ((f ∙ (λ y. apply (NodeVar (g y)) (h y))) z) (map (word p base) rest))))
       ∙ ap (λ ys. all_before (map before_of ss) (given_to p base t (act_of o) (map (word p base) ys))) (sym i)
@@ -117,7 +114,7 @@ module _ (p : Program) (base : ℕ) where
       → all_before (map before_of pushed) (block p base t inner) ≡ all_before (map before_of ss) (block p base t whole)
   let_made t ss pushed cells group inner whole e f g =
       ap (λ q. all_before (map before_of q) (block p base t inner)) e
-      ∙ statement_pushed ss (Store cells) (block p base t inner)
+      ∙ all_before_push ss (Store cells) (block p base t inner)
       ∙ ap (λ s. all_before (map before_of ss) (s (block p base t inner))) (before_of-Store cells)
       ∙ ap (λ c. all_before (map before_of ss) (store c (block p base t inner))) f
       ∙ ap (λ w. all_before (map before_of ss) (block p base t w)) (sym g)
@@ -131,7 +128,7 @@ module _ (p : Program) (base : ℕ) where
       let act : act_of o ≡ as_act (block p base (suc t) e) = eo ∙ ap as_act (ec ∙ ap (λ k. block p base k e) n1) in
       let last : act_of (Case (NodeVar v) alts) ≡ case (NodeVar v) (arms p base v (suc t + temps e) bs) = act_of-Case (NodeVar v) alts ∙ ap (case (NodeVar v)) (ea ∙ ap (λ k. arms p base v k bs) n2) in
       ap (λ q. all_before (map before_of q) (end (act_of (Case (NodeVar v) alts)))) ep
-      ∙ statement_pushed ss (Bind (to.Node v) o) (end (act_of (Case (NodeVar v) alts)))
+      ∙ all_before_push ss (Bind (to.Node v) o) (end (act_of (Case (NodeVar v) alts)))
       ∙ ap (λ s. all_before (map before_of ss) (s (end (act_of (Case (NodeVar v) alts))))) (before_of-Bind (to.Node v) o)
       ∙ (λ z. all_before (map before_of ss) (bind (to.Node v) (act z) (end (last z))))
       ∙ (λ z. all_before (map before_of ss) (bind (to.Node (ev z)) (as_act (block p base (suc t) e)) (end (case (NodeVar (ev z)) (arms p base (ev z) (suc t + temps e) bs)))))

@@ -3,16 +3,13 @@ use Rattle.std.proofs.Common.{◌≡◌, ℕ, ℤ, List, Option, map, sym, ap, �
 use Rattle.arity_check.specs.declared.normal.Body.{Body, fold-roll-Body}
 use Rattle.arity_check.specs.declared.normal.Body.TheOpen as open'
 use Rattle.arity_check.specs.declared.normal.Body.TheVariants as body
-use Rattle.arity_check.specs.declared.normal.Body.TheVariants.{rolls-App, rolls-Let, rolls-Case}
+use Rattle.arity_check.specs.declared.normal.Body.TheVariants.{rolls-Let, rolls-Case}
 use Rattle.arity_check.specs.declared.normal.Branch.{Branch, fold-roll-Branch}
 use Rattle.arity_check.specs.declared.normal.Branch.TheVariants as branch'
 use Rattle.arity_check.specs.declared.normal.Branch.TheVariants.{rolls-Con, rolls-Int, rolls-Default}
 use Rattle.arity_check.specs.declared.normal.Bound.{Bound}
-use Rattle.arity_check.specs.declared.normal.Flat.{Flat}
 use Rattle.arity_check.specs.Program.{Term, App, Let, Case, Branches, OnCon, OnInt, OnAny, body_layer, branch_layer, branches_of, term, branch}
-
-pub term-App : (f : Flat) → term (body.App f) ≡ App f
-term-App f = ap term (sym (rolls-App f)) ∙ fold-roll-Body Term (Branches → Branches) body_layer branch_layer (open'.App f)
+use Rattle.arity_check.proofs.TermOf.{term_of-App}
 
 pub term-Let : (group : List Bound) (inner : Box Body _) → term (body.Let group inner) ≡ Let group (term inner.value)
 term-Let group inner = ap term (sym (rolls-Let group inner)) ∙ fold-roll-Body Term (Branches → Branches) body_layer branch_layer (open'.Let group inner)
@@ -29,4 +26,4 @@ branch-Int k inner = ap branch (sym (rolls-Int k inner)) ∙ fold-roll-Branch Te
 pub branch-Default : (x : Option ℕ) (inner : Body) → branch (branch'.Default x inner) ≡ OnAny x (term inner)
 branch-Default x inner = ap branch (sym (rolls-Default x inner)) ∙ fold-roll-Branch Term (Branches → Branches) body_layer branch_layer (open'.Default x inner)
 
-pub ruleset term_of = (term-App, term-Let, term-Case, branch-Con, branch-Int, branch-Default)
+pub ruleset term_of = (term_of-App, term-Let, term-Case, branch-Con, branch-Int, branch-Default)

@@ -19,7 +19,7 @@ use Rattle.grin_syntax.specs.declared.program.Val.{Val}
 use Rattle.grin_syntax.specs.declared.program.Val.TheVariants.{NodeVar, Node}
 use Rattle.grin_syntax.specs.declared.program.Target.TheVariants as to
 use Rattle.grin_syntax.specs.declared.program.Shape.TheVariants as shape
-use Rattle.grin_syntax.specs.Tree.{Code, end, store, bind, Act, unit, eval, apply, call, prim, case, nested, fail, Arms, no_arm, arm}
+use Rattle.grin_syntax.specs.Tree.{Code, end, store, bind, unit, eval, apply, call, prim, case, fail, Arms, no_arm, arm, as_act}
 use Rattle.grin_translate.specs.declared.tags.Delay.TheVariants.{Calls, Applies, Operates}
 use Rattle.grin_translate.specs.declared.tags.Kind.TheVariants.{Number, Constructor, Waits, Lacks}
 use Rattle.grin_translate.specs.Tags.{tag, proc}
@@ -32,12 +32,6 @@ operation Quot = op.Quot
 operation Rem = op.Rem
 operation Eq = op.Eq
 operation Lt = op.Lt
-
--- a block as an operation
-abbrev pub as_act : Code → Act
-as_act (end o) = o
-as_act (store cs b) = nested (store cs b)
-as_act (bind t o b) = nested (bind t o b)
 
 -- the alternatives for all else
 abbrev pub else_fail : Arms

@@ -18,10 +18,7 @@ use Rattle.grin_translate.specs.declared.tags.Delay.TheVariants.{Calls, Reads}
 use Rattle.grin_translate.specs.Tags.{tag, fun_name, takes_input}
 use Rattle.grin_translate.specs.Translation.{procedure, start_body}
 use Rattle.grin_translate.specs.Blocks.{operation, on_number, local, temp, cell}
-
--- the variable of a number
-abbrev pub variable : ℕ → VarId
-variable n = record { 0 = n }
+use Rattle.grin_syntax.specs.Fresh.{variable}
 
 -- the cell of a local whose number is x, where variables begin at base
 abbrev pub cell_at : ℕ → ℕ → Val → Cell

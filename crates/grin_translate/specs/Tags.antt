@@ -17,6 +17,7 @@ use Rattle.grin_syntax.specs.declared.program.Tag.{Tag}
 use Rattle.grin_syntax.specs.declared.program.TagKind.TheVariants as kind
 use Rattle.grin_syntax.specs.declared.program.TagId.{TagId}
 use Rattle.grin_syntax.specs.declared.program.ProcId.{ProcId}
+use Rattle.seq.specs.Lists.{numbers_from}
 
 abbrev pub operations : List PrimOp
 operations = Add ∷ (Sub ∷ (Mul ∷ (Quot ∷ (Rem ∷ (Eq ∷ (Lt ∷ []))))))
@@ -48,11 +49,6 @@ same_kind _ _ = false
 abbrev pub first_place : {A : Type 0} → (A → Bool) → List A → ℕ
 first_place test [] = 0
 first_place test (x ∷ xs) = cond (test x) 0 (suc (first_place test xs))
-
--- so many numbers from k on
-abbrev pub numbers_from : ℕ → ℕ → List ℕ
-numbers_from k zero = []
-numbers_from k (suc n) = k ∷ numbers_from (suc k) n
 
 -- ---- what is delayed in a program
 

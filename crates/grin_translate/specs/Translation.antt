@@ -15,8 +15,9 @@ use Rattle.grin_syntax.specs.Tree.{Code, end, store, bind, unit, eval, call, rea
 use Rattle.grin_translate.specs.declared.tags.Delay.{Delay}
 use Rattle.grin_translate.specs.declared.tags.Delay.TheVariants.{Calls, Applies, Operates, Reads}
 use Rattle.grin_translate.specs.declared.tags.Kind.TheVariants.{Number, Constructor, Waits}
-use Rattle.grin_translate.specs.Tags.{numbers_from, takes_input, delays, kinds, tag, tag_of, delay_name, delay_params}
+use Rattle.grin_translate.specs.Tags.{takes_input, delays, kinds, tag, tag_of, delay_name, delay_params}
 use Rattle.grin_translate.specs.Blocks.{local, temp, cell, else_fail, on_number, form_block, block, temps}
+use Rattle.seq.specs.Lists.{numbers_from}
 
 -- how many locals an expression binds
 abbrev mutual

@@ -3,10 +3,10 @@
 
 ghost use Rattle.std.specs.Prelude.{◌≡◌, [], ◌∷◌, ◌++◌, ◌+◌, IfOk, OnOk, cond, map, length};
 ghost use Rattle.arity_check.specs.Program.{program, term, branch, branches_of, Branches};
-ghost use Rattle.grin_syntax.specs.Tree.{act_of, arm_of, arms_of, before_of, code_of, all_before, Code, end, store, fail, nested, arm, no_arm};
+ghost use Rattle.grin_syntax.specs.Tree.{act_of, arm_of, arms_of, before_of, code_of, all_before, Code, end, store, fail, nested, arm, no_arm, as_act};
 ghost use Rattle.grin_syntax.specs.declared.program.Val.TheVariants.{Node, NodeVar};
 ghost use Rattle.grin_translate.specs.Tags.{tag};
-ghost use Rattle.grin_translate.specs.Blocks.{word as word_of, node as node_of, cell_of, operation as operation_of, on_number as number_case, as_act, apply_block, prim_block, form_block, form_temps, block as block_of, temps, arms, branch_temps};
+ghost use Rattle.grin_translate.specs.Blocks.{word as word_of, node as node_of, cell_of, operation as operation_of, on_number as number_case, apply_block, prim_block, form_block, form_temps, block as block_of, temps, arms, branch_temps};
 ghost use Rattle.grin_translate.specs.Pieces.{result_of, evaluated_of, cell_at};
 ghost use Rattle.grin_translate.specs.Numbered.{AreNumbers};
 

@@ -6,9 +6,10 @@ ghost use Rattle.arity_check.specs.declared.normal.Var.TheVariants.{Local};
 ghost use Rattle.arity_check.specs.Program.{program};
 ghost use Rattle.grin_syntax.specs.Tree.{code_of, procedure_of};
 ghost use Rattle.grin_translate.specs.declared.tags.Delay.TheVariants.{Calls, Applies};
-ghost use Rattle.grin_translate.specs.Tags.{numbers_from, delay_name, delay_params};
+ghost use Rattle.grin_translate.specs.Tags.{delay_name, delay_params};
 ghost use Rattle.grin_translate.specs.Translation.{procedure as procedure_in, delay_body, span};
 ghost use Rattle.grin_translate.specs.Numbered.{AreNumbers};
+ghost use Rattle.seq.specs.Lists.{numbers_from};
 
 use crate::block::{application, block, ended, primitive};
 use crate::counts::bound_in;

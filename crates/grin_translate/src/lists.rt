@@ -5,10 +5,11 @@ ghost use Rattle.arity_check.specs.Program.{program};
 ghost use Rattle.core_meaning.specs.Evaluation.{params as params_of};
 ghost use Rattle.grin_syntax.specs.Tree.{procedure_of};
 ghost use Rattle.grin_translate.specs.declared.tags.Kind.TheVariants.{Constructor, Waits};
-ghost use Rattle.grin_translate.specs.Tags.{tag_of as tag_in, numbers_from, parts, function_parts, kinds, delays};
+ghost use Rattle.grin_translate.specs.Tags.{tag_of as tag_in, parts, function_parts, kinds, delays};
 ghost use Rattle.grin_translate.specs.Translation.{global_cells, delayed_procs, rest, tr};
 ghost use Rattle.grin_translate.specs.Pieces.{shared_of, start_if};
 ghost use Rattle.grin_translate.specs.Numbered.{AreNumbers};
+ghost use Rattle.seq.specs.Lists.{numbers_from};
 
 use crate::bodies::waiting_procedure;
 use crate::names::{function_name, waiting_name, waiting_params};

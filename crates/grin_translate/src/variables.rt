@@ -2,7 +2,7 @@
 //! are those of values between operations.
 
 ghost use Rattle.std.specs.Prelude.{◌≡◌, ◌+◌, ◌*◌, IfOk, OnOk, map};
-ghost use Rattle.grin_translate.specs.Pieces.{variable};
+ghost use Rattle.grin_syntax.specs.Fresh.{variable};
 
 use grin_syntax::program::VarId;
 use seq::Seq;

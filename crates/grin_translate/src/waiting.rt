@@ -5,7 +5,8 @@ ghost use Rattle.std.specs.Prelude.{◌≡◌, [], ◌∷◌, ◌++◌, map, fil
 ghost use Rattle.std.specs.List.{list_any};
 ghost use Rattle.arity_check.specs.Program.{program, term, branch, branches_of};
 ghost use Rattle.grin_translate.specs.declared.tags.Delay.TheVariants.{Calls, Reads};
-ghost use Rattle.grin_translate.specs.Tags.{binds, delays_in, delays_in_branches, delays, is_delayed, takes_input, numbers_from};
+ghost use Rattle.grin_translate.specs.Tags.{binds, delays_in, delays_in_branches, delays, is_delayed, takes_input};
+ghost use Rattle.seq.specs.Lists.{numbers_from};
 
 use crate::tags::Delay;
 use crate::variables::as_u32;

@@ -17,6 +17,7 @@ use Rattle.flow_system.specs.Solution.{Solution}
 use Rattle.eval_inline.specs.Inlining.{call_body, eval_body, eval_arms, evaluation, eval_bound, eval_ended, eval_act, eval_code, eval_all, eval_procs, eval_inlined, act_room, code_room, tags_of}
 use Rattle.inlined_form.proofs.Sorts.{Sort, anything, a_node, evaluated, Sorts, nothing_known, sorted, vars_sorted, cells_sorted, target_sorted, sort_of, IsNode, TargetFits, ScrutineeFits, delayed, alternative_sorted, ActFits, CodeFits, ArmsFit, ProcedureFits, ProgramFits}
 use Rattle.inlined_form.proofs.MoreSorts.{KnowsNoMore, knows_self, knows_cells, knows_target, knows_alternative, kept_known, all_known, scrutinee_known, given_known, fresh_known, Unknown, unknown_vars, unknown_cells, unknown_target, unknown_alternative}
+use Rattle.eval_inline.specs.Without.{NotEval}
 
 -- what is known of a variable
 pub has_sort : (x : ℕ) (s : Sort) (Γ : Sorts) → sorted x s Γ x ≡ s
@@ -27,10 +28,6 @@ variables_above : (y k n : ℕ) (Γ : Sorts) → n < y → vars_sorted (variable
 variables_above y zero n Γ lt = refl
 variables_above y (suc k) n Γ lt = let e : nat_eq n y ≡ false = grind (arith, nat_tests) in
     variables_above (suc y) k n (sorted y anything Γ) (omega arith) ∙ ap (λ b. cond b anything (Γ n)) e
-
-abbrev IsNotEval : Act → Type 0
-IsNotEval (eval a) = ⊥
-IsNotEval _ = Unit {0}
 
 module _ (p : Program) (A : Solution) where
   call_fits : (a : Word) (y k : ℕ) (o : Option ProcId) (Γ : Sorts) → CodeFits p.tags ⊥ (Unit {0}) Γ (call_body p A a y k o)
@@ -63,13 +60,13 @@ module _ (p : Program) (A : Solution) where
   unfolding ActFits
   case_fits a x Γ = (subst IsNode (sym (has_sort x a_node Γ)) tt, arms_fit a x (suc x) (tags_of p A a) (sorted x a_node Γ) (omega arith))
 
-  bound_fits : (x : ℕ) (t : Target) (o : Act) (b : Code) (Γ Γ' : Sorts) → KnowsNoMore Γ Γ' → Γ x ≡ anything → TargetFits t (sort_of o) → (IsNotEval o → (Γ' : Sorts) → KnowsNoMore Γ Γ' → ActFits p.tags ⊥ (Unit {0}) Γ' (eval_act p A x o))
+  bound_fits : (x : ℕ) (t : Target) (o : Act) (b : Code) (Γ Γ' : Sorts) → KnowsNoMore Γ Γ' → Γ x ≡ anything → TargetFits t (sort_of o) → (NotEval o → (Γ' : Sorts) → KnowsNoMore Γ Γ' → ActFits p.tags ⊥ (Unit {0}) Γ' (eval_act p A x o))
       → ((Γ' : Sorts) → KnowsNoMore (target_sorted t (sort_of o) Γ) Γ' → CodeFits p.tags ⊥ (Unit {0}) Γ' b) → CodeFits p.tags ⊥ (Unit {0}) Γ' (eval_bound p A x t (eval_act p A x o) b)
   unfolding ActFits eval_act
   bound_fits x t (eval a) b Γ Γ' k new ht ho hb = (tt, tt, (ht, case_fits a x Γ', hb _ (knows_target t evaluated Γ (sorted x a_node Γ') (fresh_known Γ Γ' k x a_node new))))
   bound_fits x t o b Γ Γ' k new ht ho hb = (ht, ho tt Γ' k, hb _ (knows_target t (sort_of o) Γ Γ' k))
 
-  ended_fits : (x : ℕ) (o : Act) (Γ Γ' : Sorts) → KnowsNoMore Γ Γ' → Γ x ≡ anything → sort_of o ≡ evaluated → (IsNotEval o → (Γ' : Sorts) → KnowsNoMore Γ Γ' → ActFits p.tags ⊥ (Unit {0}) Γ' (eval_act p A x o))
+  ended_fits : (x : ℕ) (o : Act) (Γ Γ' : Sorts) → KnowsNoMore Γ Γ' → Γ x ≡ anything → sort_of o ≡ evaluated → (NotEval o → (Γ' : Sorts) → KnowsNoMore Γ Γ' → ActFits p.tags ⊥ (Unit {0}) Γ' (eval_act p A x o))
       → CodeFits p.tags ⊥ (Unit {0}) Γ' (eval_ended p A x (eval_act p A x o))
   unfolding ActFits eval_act
   ended_fits x (eval a) Γ Γ' k new hs ho = (tt, tt, (refl, case_fits a x Γ'))
@@ -80,7 +77,7 @@ module _ (p : Program) (A : Solution) where
     mutual
       unfolding ActFits eval_act past_act
 
-      act_fits : (o : Act) (x : ℕ) (Γ Γ' : Sorts) → x0 ≤ x → past_act o ≤ x0 → Unknown x0 Γ → KnowsNoMore Γ Γ' → IsNotEval o → ActFits p.tags (Unit {0}) (Unit {0}) Γ o → ActFits p.tags ⊥ (Unit {0}) Γ' (eval_act p A x o)
+      act_fits : (o : Act) (x : ℕ) (Γ Γ' : Sorts) → x0 ≤ x → past_act o ≤ x0 → Unknown x0 Γ → KnowsNoMore Γ Γ' → NotEval o → ActFits p.tags (Unit {0}) (Unit {0}) Γ o → ActFits p.tags ⊥ (Unit {0}) Γ' (eval_act p A x o)
       act_fits (unit v) x Γ Γ' fresh past u k ne h = given_known Γ Γ' k p.tags v h
       act_fits (fetch a) x Γ Γ' fresh past u k ne h = tt
       act_fits (fetch_word a i) x Γ Γ' fresh past u k ne h = h

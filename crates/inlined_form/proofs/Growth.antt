@@ -15,8 +15,12 @@ use Rattle.grin_meaning.specs.Run.{is_fun_kind, part_from}
 use Rattle.grin_meaning.specs.Ready.{most_fields}
 use Rattle.flow_system.specs.Solution.{Solution}
 use Rattle.apply_inline.specs.Size.{val_size, target_size, cells_size, shape_size, act_size, code_size, arms_size, procedure_size, total, size}
-use Rattle.eval_inline.specs.Inlining.{those, call_body, eval_body, eval_arms, evaluation, eval_bound, eval_ended, eval_act, eval_code, eval_all, eval_procs, eval_inlined, act_room, code_room, tags_of}
+use Rattle.eval_inline.specs.Inlining.{call_body, eval_body, eval_arms, evaluation, eval_bound, eval_ended, eval_act, eval_code, eval_all, eval_procs, eval_inlined, act_room, code_room, tags_of}
 use Rattle.apply_inline.specs.Inlining.{with_one_more, apply_body, part_body, apply_arms, part_tags_of, others_of, else_fail, apply_act, apply_code, apply_all, apply_procs, apply_act_room, apply_code_room, inlined}
+use Rattle.apply_inline.proofs.Measured.{words_many}
+use Rattle.seq.specs.Lists.{those}
+use Rattle.grin_syntax.proofs.Counted.{length_variables}
+use Rattle.grin_meaning.proofs.Fields.{field_bound}
 
 -- ---- numbers
 
@@ -35,19 +39,6 @@ at_least : (g n : ℕ) → 1 ≤ g → n ≤ g * n
 at_least g n le = omega (arith, more_times 1 g n le)
 
 -- ---- pieces
-
-field_bound : (ts : List Tag) (t : ℕ) (i : Tag) → slice_get ts t ≡ Some i → i.fields ≤ most_fields ts
-field_bound [] t i e = cc
-field_bound (x ∷ ts) zero i e = let h : x ≡ i = cc in rw h (omega arith)
-field_bound (x ∷ ts) (suc t) i e = omega (arith, field_bound ts t i e)
-
-variables_length : (x k : ℕ) → length (map Var (variables x k)) ≡ k
-variables_length x zero = refl
-variables_length x (suc k) = omega (arith, variables_length (suc x) k)
-
-names_length : (x k : ℕ) → length (variables x k) ≡ k
-names_length x zero = refl
-names_length x (suc k) = omega (arith, names_length (suc x) k)
 
 those_few : (test : ℕ → Bool) (i k : ℕ) → length (those test i k) ≤ k
 those_few test i zero = omega arith
@@ -72,7 +63,7 @@ module _ (p : Program) (A : Solution) where
   call_size : (a : Word) (y k : ℕ) (o : Option ProcId) → code_size (call_body p A a y k o) ≤ k + 7
   unfolding act_size
   call_size a y k None = omega arith
-  call_size a y k (Some f) = omega (arith, variables_length y k)
+  call_size a y k (Some f) = omega (arith, words_many y k)
 
   eval_body_size : (a : Word) (n y : ℕ) (i : Tag) → code_size (eval_body p A a n y i) ≤ i.fields + 7
   unfolding act_size
@@ -89,7 +80,7 @@ module _ (p : Program) (A : Solution) where
     where
       on : (o : Option Tag) → slice_get p.tags t ≡ o → ((z : ℕ) → arms_size (eval_arms p A a n z ts) ≤ length ts * M) → arms_size (eval_arms p A a n y (t ∷ ts)) ≤ length (t ∷ ts) * M
       on None e later = rw e (omega (arith, one_more (length ts) M, later (suc (y + 0))))
-      on (Some i) e later = rw e (omega (arith, one_more (length ts) M, later (suc (y + i.fields)), names_length y i.fields, eval_body_size a n y i, field_bound p.tags t i e))
+      on (Some i) e later = rw e (omega (arith, one_more (length ts) M, later (suc (y + i.fields)), length_variables y i.fields, eval_body_size a n y i, field_bound p.tags t i e))
 
   case_size : (x : ℕ) (a : Word) → act_size (evaluation p A x a) + 3 ≤ G
   unfolding act_size
@@ -152,7 +143,7 @@ module _ (p : Program) (A : Solution) where
   part_size : (x : ℕ) (a : Word) (i : Tag) (o : Option ProcId) → code_size (part_body p A x a i o) ≤ i.fields + 2
   unfolding act_size
   part_size x a i None = omega arith
-  part_size x a i (Some f) = omega (arith, apply_body_size f.0 i.missing (map Var (variables x i.fields) ++ a ∷ []), length-append (map Var (variables x i.fields)) (a ∷ []), variables_length x i.fields)
+  part_size x a i (Some f) = omega (arith, apply_body_size f.0 i.missing (map Var (variables x i.fields) ++ a ∷ []), length-append (map Var (variables x i.fields)) (a ∷ []), words_many x i.fields)
 
   apply_arms_size : (a : Word) (x : ℕ) (ks : List ℕ) (last : Arms) → arms_size (apply_arms p A a x ks last) ≤ length ks * M + arms_size last
   unfolding act_size
@@ -161,7 +152,7 @@ module _ (p : Program) (A : Solution) where
     where
       on : (o : Option Tag) → slice_get p.tags t ≡ o → ((z : ℕ) → arms_size (apply_arms p A a z ts last) ≤ length ts * M + arms_size last) → arms_size (apply_arms p A a x (t ∷ ts) last) ≤ length (t ∷ ts) * M + arms_size last
       on None e later = rw e (omega (arith, one_more (length ts) M, later (x + 0)))
-      on (Some i) e later = rw e (omega (arith, one_more (length ts) M, later (x + i.fields), names_length x i.fields, part_size x a i i.proc, field_bound p.tags t i e))
+      on (Some i) e later = rw e (omega (arith, one_more (length ts) M, later (x + i.fields), length_variables x i.fields, part_size x a i i.proc, field_bound p.tags t i e))
 
   last_size : (ks : List ℕ) → arms_size (else_fail p A ks) ≤ 1
   unfolding act_size

@@ -18,12 +18,13 @@ use Rattle.grin_syntax.specs.Formed.{AllOf}
 use Rattle.apply_inline.specs.Size.{act_size, code_size, procedure_size, total, size}
 use Rattle.grin_translate.specs.declared.tags.Delay.{Delay}
 use Rattle.grin_translate.specs.declared.tags.Delay.TheVariants.{Calls, Applies, Operates, Reads}
-use Rattle.grin_translate.specs.Tags.{operations, numbers_from, is_delayed, takes_input, delays, delay_name, delay_params}
+use Rattle.grin_translate.specs.Tags.{operations, is_delayed, takes_input, delays, delay_name, delay_params}
 use Rattle.grin_translate.specs.Translation.{procedure, fun_body, delay_body, input_body, print_body, start_body, span, delayed_procs, rest, print_procs, tr}
 use Rattle.grin_translate.proofs.Places.{all_map}
-use Rattle.grin_translate.proofs.Lookups.{length-numbers_from}
 use Rattle.translated_form.proofs.Lists.{all_if, all_numbers, all_mapped}
 use Rattle.inlined_form.proofs.BlockSizes.{form_size, block_size}
+use Rattle.seq.specs.Lists.{numbers_from}
+use Rattle.seq.proofs.Counted.{length_numbers}
 
 total_append : (qs rs : List Procedure) → total procedure_size (qs ++ rs) ≡ total procedure_size qs + total procedure_size rs
 total_append [] rs = omega arith
@@ -38,7 +39,7 @@ IsOther Reads = Unit {0}
 
 module _ (q : Program) where
   procedure_is : (base : ℕ) (name : List ℕ) (n : ℕ) (b : Code) → procedure_size (procedure q base name n b) ≡ n + code_size b
-  procedure_is base name n b = ap (λ k. k + code_size b) (length-map (numbers_from 0 n) _ ∙ length-numbers_from 0 n)
+  procedure_is base name n b = ap (λ k. k + code_size b) (length-map (numbers_from 0 n) _ ∙ length_numbers 0 n)
 
   input_size : (base : ℕ) → code_size (input_body q base) ≤ 30
   unfolding act_size
@@ -54,7 +55,7 @@ module _ (q : Program) where
 
   other_size : (d : Delay) (base : ℕ) → IsOther d → delay_params q d + code_size (delay_body q base d) ≤ 100
   other_size (Calls f) base h = absurd h
-  other_size (Applies m) base h = omega (arith, form_size q base 0 (flat.Apply (var.Local 0) (map var.Local (numbers_from 1 m))), length-map (numbers_from 1 m) var.Local, length-numbers_from 1 m, h)
+  other_size (Applies m) base h = omega (arith, form_size q base 0 (flat.Apply (var.Local 0) (map var.Local (numbers_from 1 m))), length-map (numbers_from 1 m) var.Local, length_numbers 1 m, h)
   other_size (Operates op) base h = omega (arith, form_size q base 0 (flat.Prim op (var.Local 0) (var.Local 1)))
   other_size Reads base h = omega (arith, input_size base)
 

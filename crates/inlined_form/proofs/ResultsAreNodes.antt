@@ -20,8 +20,9 @@ use Rattle.grin_syntax.specs.Tree.{Code, end, store, bind, Act, unit, fetch, fet
 use Rattle.grin_syntax.specs.Formed.{AllOf}
 use Rattle.grin_meaning.specs.Values.{Datum, number, tag, cell, Node, Value, node, words, Env, HeapCell, World, Answer, gives, stops, then_do, need, and_then, Binding, with_vars, one_each, Fit, fits, fits_not, unclear, fit_of, fits_if, fields_fit, node_fit, number_fit, only_word, fields_of, made_node, as_node, word_of, words_of, value_of, node_of, bindings_of}
 use Rattle.grin_meaning.specs.Run.{Calls, act, code, arms, calls, choose, spend, spent, passing, places, cells_of, with_cells, place_of, number_of, on_numbers, byte_or_end, after_read, start_world}
-use Rattle.flow_system.proofs.Lying.{from_some, if_map, if_then, if_is}
+use Rattle.flow_system.proofs.Lying.{from_some, if_map, if_is}
 use Rattle.inlined_form.proofs.Sorts.{Sort, anything, a_number, a_node, evaluated, Sorts, nothing_known, sorted, vars_sorted, cells_sorted, target_sorted, sort_of, IsNode, TargetFits, IsNumber, WordsFit, KeptFits, ScrutineeFits, delayed, GivenFits, alternative_sorted, ActFits, CodeFits, ArmsFit, ProcedureFits}
+use Rattle.grin_meaning.proofs.Fullness.{if_and}
 
 -- ---- lists
 
@@ -91,7 +92,7 @@ module _ (p : Program) where
   words_more (x ∷ xs) (d ∷ ds) Γ env f =
       let Γ' = sorted x.0 anything Γ in
       let env' : Env = λ y. cond (nat_eq y x.0) (Some (words (d ∷ []))) (env y) in
-      if_then (λ bs. Fits (vars_sorted xs Γ') (with_vars bs env')) (λ bs. Fits (vars_sorted xs Γ') (with_vars bs env)) (one_each xs ds) _ (words_more xs ds Γ' env' (one_more Γ env x.0 anything (words (d ∷ [])) f tt)) (λ bs b. b)
+      if_and (λ bs. Fits (vars_sorted xs Γ') (with_vars bs env')) (λ bs. Fits (vars_sorted xs Γ') (with_vars bs env)) (one_each xs ds) _ (words_more xs ds Γ' env' (one_more Γ env x.0 anything (words (d ∷ [])) f tt)) (λ bs b. b)
 
   pub places_more : (cs : List Cell) (a : ℕ) (Γ : Sorts) (env : Env) → Fits Γ env → Fits (cells_sorted cs Γ) (with_vars (places a cs) env)
   places_more [] a Γ env f = f
@@ -99,7 +100,7 @@ module _ (p : Program) where
 
   number_there : (Γ : Sorts) (env : Env) → Fits Γ env → (a : W.Word) → IsNumber Γ a → IfSome (word_of p env a) (λ d. OneNumber (d ∷ []))
   number_there Γ env f (Lit k) h = tt
-  number_there Γ env f (Var x) h = if_then (HasSort p a_number) (λ d. OneNumber (d ∷ [])) (env x.0) only_word (subst (λ s. IfSome (env x.0) (HasSort p s)) h (f x.0)) only
+  number_there Γ env f (Var x) h = if_and (HasSort p a_number) (λ d. OneNumber (d ∷ [])) (env x.0) only_word (subst (λ s. IfSome (env x.0) (HasSort p s)) h (f x.0)) only
     where
       only : (v : Value) → HasSort p a_number v → IfSome (only_word v) (λ d. OneNumber (d ∷ []))
       only (words (number k ∷ [])) h = tt
@@ -114,11 +115,11 @@ module _ (p : Program) where
   words_plain : (Γ : Sorts) (env : Env) → Fits Γ env → (t : ℕ) (ws : List W.Word) → WordsFit Γ t ws → IfSome (words_of p env ws) (λ ds. PlainNode (record { tag = t; fields = ds }))
   words_plain Γ env f (suc t) ws h = if_is (λ ds. PlainNode (record { tag = suc t; fields = ds })) (words_of p env ws) (λ ds e z. absurd (not_zero t z))
   words_plain Γ env f zero [] h = absurd h
-  words_plain Γ env f zero (a ∷ []) h = if_then (λ d. OneNumber (d ∷ [])) (λ ds. PlainNode (record { tag = 0; fields = ds })) (word_of p env a) _ (number_there Γ env f a h) (λ d o z. o)
+  words_plain Γ env f zero (a ∷ []) h = if_and (λ d. OneNumber (d ∷ [])) (λ ds. PlainNode (record { tag = 0; fields = ds })) (word_of p env a) _ (number_there Γ env f a h) (λ d o z. o)
   words_plain Γ env f zero (a ∷ (b ∷ ws)) h = absurd h
 
   made_there : (t : ℕ) (ds : List Datum) (P : Node → Type 0) → P (record { tag = t; fields = ds }) → IfSome (made_node p t ds) P
-  made_there t ds P h = if_then (λ k. Unit {0}) P (fields_of p t) _ (if_is (λ k. Unit {0}) (fields_of p t) (λ k e. tt)) (λ k u. on (nat_eq k (length ds)))
+  made_there t ds P h = if_and (λ k. Unit {0}) P (fields_of p t) _ (if_is (λ k. Unit {0}) (fields_of p t) (λ k e. tt)) (λ k u. on (nat_eq k (length ds)))
     where
       on : (b : Bool) → IfSome (cond b (Some (record { tag = t; fields = ds })) None) P
       on true = h
@@ -127,8 +128,8 @@ module _ (p : Program) where
   node_there : (Γ : Sorts) (env : Env) → Fits Γ env → (t : ℕ) (ws : List W.Word) → WordsFit Γ t ws → (P : Node → Type 0) → ((ds : List Datum) → PlainNode (record { tag = t; fields = ds }) → P (record { tag = t; fields = ds }))
       → IfSome (and_then (words_of p env ws) (λ ds. and_then (made_node p t ds) (λ n. Some (node n)))) (λ v. (n : Node) × (v ≡ node n) × P n)
   node_there Γ env f t ws h P g =
-      if_then (λ ds. PlainNode (record { tag = t; fields = ds })) (λ v. (n : Node) × (v ≡ node n) × P n) (words_of p env ws) _ (words_plain Γ env f t ws h)
-      (λ ds pl. if_then P (λ v. (n : Node) × (v ≡ node n) × P n) (made_node p t ds) _ (made_there t ds P (g ds pl)) (λ n pn. (n, refl, pn)))
+      if_and (λ ds. PlainNode (record { tag = t; fields = ds })) (λ v. (n : Node) × (v ≡ node n) × P n) (words_of p env ws) _ (words_plain Γ env f t ws h)
+      (λ ds pl. if_and P (λ v. (n : Node) × (v ≡ node n) × P n) (made_node p t ds) _ (made_there t ds P (g ds pl)) (λ n pn. (n, refl, pn)))
 
   node_plain : (s : Sort) (v : Value) → IsNode s → HasSort p s v → (n : Node) × (v ≡ node n) × PlainNode n
   node_plain a_node (node n) i h = (n, refl, h)
@@ -143,16 +144,16 @@ module _ (p : Program) where
 
   -- what is kept in a cell is plain
   kept : (Γ : Sorts) (env : Env) → Fits Γ env → (v : V.Val) → KeptFits Γ v → IfSome (node_of p env v) PlainNode
-  kept Γ env f (NodeVar x) h = if_then (HasSort p (Γ x.0)) PlainNode (env x.0) (as_node p) (f x.0) (λ v s. as_plain v (node_plain (Γ x.0) v h s))
-  kept Γ env f (NodeVal t ws) h = if_then (λ v. (n : Node) × (v ≡ node n) × PlainNode n) PlainNode (value_of p env (NodeVal t ws)) (as_node p) (node_there Γ env f t.0 ws h PlainNode (λ ds pl. pl)) as_plain
+  kept Γ env f (NodeVar x) h = if_and (HasSort p (Γ x.0)) PlainNode (env x.0) (as_node p) (f x.0) (λ v s. as_plain v (node_plain (Γ x.0) v h s))
+  kept Γ env f (NodeVal t ws) h = if_and (λ v. (n : Node) × (v ≡ node n) × PlainNode n) PlainNode (value_of p env (NodeVal t ws)) (as_node p) (node_there Γ env f t.0 ws h PlainNode (λ ds pl. pl)) as_plain
   kept Γ env f (Vector ws) h = absurd h
   kept Γ env f (One a) h = absurd h
 
   pub all_kept : (Γ : Sorts) (env : Env) → Fits Γ env → (cs : List Cell) → AllOf (λ c. KeptFits Γ c.val) cs → IfSome (cells_of p env cs) (AllOf PlainCell)
   all_kept Γ env f [] h = tt
-  all_kept Γ env f (c ∷ cs) h = if_then PlainCell (AllOf PlainCell) (and_then (node_of p env c.val) (λ n. Some (record { site = c.site.0; node = n }))) _
-      (if_then PlainNode PlainCell (node_of p env c.val) _ (kept Γ env f c.val h.0) (λ n pl. pl))
-      (λ x px. if_then (AllOf PlainCell) (AllOf PlainCell) (cells_of p env cs) _ (all_kept Γ env f cs h.1) (λ hs all. (px, all)))
+  all_kept Γ env f (c ∷ cs) h = if_and PlainCell (AllOf PlainCell) (and_then (node_of p env c.val) (λ n. Some (record { site = c.site.0; node = n }))) _
+      (if_and PlainNode PlainCell (node_of p env c.val) _ (kept Γ env f c.val h.0) (λ n pl. pl))
+      (λ x px. if_and (AllOf PlainCell) (AllOf PlainCell) (cells_of p env cs) _ (all_kept Γ env f cs h.1) (λ hs all. (px, all)))
 
   -- what is given is evaluated
   given_there : (Γ : Sorts) (env : Env) → Fits Γ env → (v : V.Val) → GivenFits p.tags Γ v → IfSome (value_of p env v) (HasSort p evaluated)

@@ -2,30 +2,23 @@
 use Rattle.std.proofs.Common.{◌≡◌, ◌≤◌, ℕ, zero, suc, ◌+◌, ◌*◌, List, [], ◌∷◌, ◌++◌, map, length, length-append, refl, arith}
 use Rattle.std.proofs.lemmas.List.{length-map}
 use Rattle.seq.proofs.Order.{not_below, more_times}
-use Rattle.seq.proofs.Lists.{some_at}
 use Rattle.core_reader.specs.Size.{program_size}
-use Rattle.arity_check.specs.Broken.{TooManyFunctions, TooManyConstructors, CoreTooLarge}
-use Rattle.arity_check.specs.Normal.{Pairwise}
+use Rattle.arity_check.specs.Broken.{CoreTooLarge}
 use Rattle.arity_check.specs.Program.{Program, Function}
 use Rattle.grin_syntax.specs.Formed.{AllOf}
 use Rattle.grin_meaning.specs.Ready.{most_fields}
 use Rattle.apply_inline.specs.Size.{size}
 use Rattle.grin_translate.specs.declared.tags.Kind.TheVariants.{Constructor, Waits}
 use Rattle.grin_translate.specs.declared.tags.Delay.TheVariants.{Calls}
-use Rattle.grin_translate.specs.Tags.{numbers_from, delays, kinds, parts, function_parts, tag_of}
+use Rattle.grin_translate.specs.Tags.{delays, kinds, parts, function_parts, tag_of}
 use Rattle.grin_translate.specs.Translation.{tr}
-use Rattle.grin_translate.proofs.Lookups.{length-numbers_from}
 use Rattle.translated_form.proofs.Limits.{Limited, valid_is_limited}
 use Rattle.translated_form.proofs.Bounds.{valid_few_words}
 use Rattle.inlined_form.specs.Laws.{InlinedSizesFit}
 use Rattle.inlined_form.proofs.Growth.{growth, inlined_grows}
 use Rattle.inlined_form.proofs.ProgramSizes.{others, few_others, translated_size}
-
-paired_length : {X Y : Type 0} (R : X → Y → Type 0) (xs : List X) (ys : List Y) → Pairwise R xs ys → length xs ≡ length ys
-paired_length R [] [] w = refl
-paired_length R [] (y ∷ ys) w = absurd w
-paired_length R (x ∷ xs) [] w = absurd w
-paired_length R (x ∷ xs) (y ∷ ys) w = omega (arith, paired_length R xs ys w.1)
+use Rattle.seq.specs.Lists.{numbers_from}
+use Rattle.seq.proofs.Counted.{length_numbers}
 
 parts_of_length : (f n : ℕ) → length (function_parts f n) ≡ n
 parts_of_length f zero = refl
@@ -38,7 +31,7 @@ parts_length (g ∷ gs) f h = omega (arith, length-append (function_parts f g.pa
 module _ (q : Program) where
   delays_length : length (delays q) ≤ length q.funs + 21
   unfolding delays
-  delays_length = omega (arith, length-append (map Calls (numbers_from 0 (length q.funs))) (others q), length-map (numbers_from 0 (length q.funs)) Calls, length-numbers_from 0 (length q.funs), few_others q)
+  delays_length = omega (arith, length-append (map Calls (numbers_from 0 (length q.funs))) (others q), length-map (numbers_from 0 (length q.funs)) Calls, length_numbers 0 (length q.funs), few_others q)
 
   tags_length : AllOf (λ g. g.params ≤ 12) q.funs → length (tr q).tags ≤ 22 + length q.cons + 13 * length q.funs
   unfolding kinds
@@ -47,7 +40,7 @@ module _ (q : Program) where
     length-map (kinds q) (tag_of q),
     length-append (map Constructor (numbers_from 0 (length q.cons))) (map Waits (delays q) ++ parts q.funs 0),
     length-map (numbers_from 0 (length q.cons)) Constructor,
-    length-numbers_from 0 (length q.cons),
+    length_numbers 0 (length q.cons),
     length-append (map Waits (delays q)) (parts q.funs 0),
     length-map (delays q) Waits,
     delays_length,
@@ -60,13 +53,11 @@ pub sizes_fit : InlinedSizesFit
 sizes_fit q valid A =
     let t = valid.program in
     let limited : Limited q = valid_is_limited q valid in
-    let funs : length t.functions ≤ 4096 = not_below 4096 (length t.functions) (λ lt. let f = some_at t.functions 4096 lt in valid.unbroken 31 _ (TooManyFunctions f.1)) in
-    let cons : length t.constructors ≤ 1024 = not_below 1024 (length t.constructors) (λ lt. let d = some_at t.constructors 1024 lt in valid.unbroken 32 _ (TooManyConstructors d.1)) in
     let text : program_size t ≤ 16384 = not_below 16384 (program_size t) (λ lt. valid.unbroken 35 _ (CoreTooLarge lt)) in
     let ts = (tr q).tags in
     let g : ℕ = growth ts in
     let s : ℕ = size (tr q) in
-    let tags : length ts ≤ 54294 = omega (arith, tags_length q limited.few_params, paired_length _ t.functions q.funs valid.normal.funs, paired_length _ t.constructors q.cons valid.normal.cons, funs, cons) in
+    let tags : length ts ≤ 54294 = omega (arith, tags_length q limited.few_params, limited.few_functions, limited.few_constructors) in
     let factor : g ≤ 1791707 = omega (arith, more_times (length ts) 54294 (2 * most_fields ts + 7) tags, (valid_few_words q valid).few_fields) in
     let small : s ≤ 395416 = omega (arith, translated_size q t valid.normal.funs valid.readable.functions, text) in
     omega (arith, inlined_grows (tr q) A, more_times g 1791707 (g * s) factor, more_times g 1791707 s factor, small)

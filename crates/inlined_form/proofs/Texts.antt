@@ -1,17 +1,13 @@
 -- What the text of such a program has: no evaluation, no application, and nodes at the ends of its blocks.
 use Rattle.std.proofs.Common.{ℕ, ◌≤◌, List, [], ◌∷◌}
 use Rattle.grin_syntax.specs.declared.program.Tag.{Tag}
-use Rattle.grin_syntax.specs.declared.program.Cell.{Cell}
 use Rattle.grin_syntax.specs.declared.program.Val.{Val}
 use Rattle.grin_syntax.specs.declared.program.Val.TheVariants.{NodeVar, Node, Vector, One}
 use Rattle.grin_syntax.specs.Tree.{Code, end, store, bind, Act, unit, fetch, fetch_word, update, eval, apply, call, prim, read, write, case, nested, fail, Arms, no_arm, arm, Procedure}
 use Rattle.grin_syntax.specs.Formed.{AllOf}
-use Rattle.grin_meaning.specs.Ready.{EachAct, EachCode, EachArms, val_width, NarrowAct, NarrowCode, NarrowArms, any_kind, EachBody, inlined_kind}
+use Rattle.grin_meaning.specs.Ready.{EachAct, EachCode, EachArms, val_width, NarrowAct, NarrowCode, NarrowArms, EachBody, inlined_kind}
 use Rattle.inlined_form.proofs.Sorts.{Sorts, nothing_known, vars_sorted, cells_sorted, target_sorted, sort_of, GivenFits, alternative_sorted, ActFits, CodeFits, ArmsFit, ProcedureFits}
-
-all_any : (cs : List Cell) → AllOf (λ c. any_kind.value c.val) cs
-all_any [] = tt
-all_any (c ∷ cs) = (tt, all_any cs)
+use Rattle.eval_inline.proofs.Without.{any_cells}
 
 module _ (ts : List Tag) where
   mutual
@@ -34,7 +30,7 @@ module _ (ts : List Tag) where
 
     code_inlined : (b : Code) (Γ : Sorts) → CodeFits ts ⊥ ⊥ Γ b → EachCode inlined_kind b
     code_inlined (end o) Γ h = act_inlined o Γ h.1
-    code_inlined (store cs b) Γ h = (all_any cs, code_inlined b (cells_sorted cs Γ) h.1)
+    code_inlined (store cs b) Γ h = (any_cells cs, code_inlined b (cells_sorted cs Γ) h.1)
     code_inlined (bind t o b) Γ h = (tt, act_inlined o Γ h.1, code_inlined b (target_sorted t (sort_of o) Γ) h.2)
 
     arms_inlined : (as' : Arms) (v : Val) (Γ : Sorts) → ArmsFit ts ⊥ ⊥ Γ v as' → EachArms inlined_kind as'

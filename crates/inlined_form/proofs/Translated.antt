@@ -17,19 +17,20 @@ use Rattle.grin_syntax.specs.declared.program.Word.TheVariants.{Var}
 use Rattle.grin_syntax.specs.declared.program.Val.TheVariants.{NodeVar, Node}
 use Rattle.grin_syntax.specs.declared.program.Target.TheVariants as to
 use Rattle.grin_syntax.specs.declared.program.Shape.TheVariants as shape
-use Rattle.grin_syntax.specs.Tree.{Code, end, store, bind, unit, eval, prim, case, Procedure}
+use Rattle.grin_syntax.specs.Tree.{Code, end, store, bind, unit, eval, prim, case, Procedure, as_act}
 use Rattle.grin_syntax.specs.Formed.{AllOf}
 use Rattle.grin_meaning.specs.Run.{is_fun_kind}
 use Rattle.grin_translate.specs.declared.tags.Delay.{Delay}
 use Rattle.grin_translate.specs.declared.tags.Delay.TheVariants.{Calls, Applies, Operates, Reads}
 use Rattle.grin_translate.specs.declared.tags.Kind.{Kind}
 use Rattle.grin_translate.specs.declared.tags.Kind.TheVariants.{Number, Constructor, Waits, Lacks}
-use Rattle.grin_translate.specs.Tags.{same_kind, first_place, con_tag, kinds, tag, tag_of, numbers_from, takes_input, delays}
-use Rattle.grin_translate.specs.Blocks.{operation, as_act, temps, local, temp, node, cell_of, give_block, apply_block, on_number, prim_block, form_block, block, arms, word}
+use Rattle.grin_translate.specs.Tags.{same_kind, first_place, con_tag, kinds, tag, tag_of, takes_input, delays}
+use Rattle.grin_translate.specs.Blocks.{operation, temps, local, temp, node, cell_of, give_block, apply_block, on_number, prim_block, form_block, block, arms, word}
 use Rattle.grin_translate.specs.Translation.{global_cells, procedure, fun_body, delay_body, input_body, write_block, pair_block, print_body, start_body, span, delayed_procs, rest, print_procs, tr}
 use Rattle.inlined_form.proofs.Sorts.{Sort, anything, a_number, evaluated, Sorts, nothing_known, sorted, IsNode, WordsFit, KeptFits, delayed, alternative_sorted, ActFits, CodeFits, ArmsFit, ProcedureFits, ProgramFits}
 use Rattle.inlined_form.proofs.Evaluations.{has_sort}
 use Rattle.inlined_form.proofs.Applications.{FirstIsNoPart}
+use Rattle.seq.specs.Lists.{numbers_from}
 
 other_sort : (x y : ℕ) (s : Sort) (Γ : Sorts) → nat_eq y x ≡ false → sorted x s Γ y ≡ Γ y
 other_sort x y s Γ e = ap (λ b. cond b s (Γ y)) e

@@ -4,8 +4,9 @@ use Rattle.std.proofs.lemmas.Option.{same_Some}
 use Rattle.rv32_items.specs.declared.Item.{Item}
 use Rattle.rv32_items.specs.Placed.{size_of, times, target_of, IsPlain, AllPlain, LabelsStand}
 use Rattle.layout_rows.specs.Alternatives.{alternative, alternatives, first_items, last_items, chosen}
-use Rattle.layout_rows.proofs.Placeable.{Each, each_get, each_append, size_append}
+use Rattle.layout_rows.proofs.Placeable.{Each, each_get, each_append}
 use Rattle.layout_rows.proofs.Pieces.{each_piece, size_pieces, once as label_once}
+use Rattle.rv32_items.proofs.Counted.{size_append}
 
 -- ---- what holds of each item
 

@@ -5,7 +5,8 @@ use Rattle.std.proofs.lemmas.Bool.{cases_eq, eq-eqb, ne_eqb}
 use Rattle.rv32_items.specs.declared.Item.{Item}
 use Rattle.rv32_items.specs.Placed.{size_of, times}
 use Rattle.layout_rows.specs.Pieces.{pieces}
-use Rattle.layout_rows.proofs.Placeable.{Each, each_append, times_append, size_append}
+use Rattle.layout_rows.proofs.Placeable.{Each, each_append}
+use Rattle.rv32_items.proofs.Counted.{size_append, times_append}
 
 -- how often the label l stands in a list whose one label is k
 abbrev pub counts : (k l : ℕ) → ℕ

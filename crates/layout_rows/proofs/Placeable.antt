@@ -1,5 +1,5 @@
 -- What is spread between two labels can be placed.
-use Rattle.std.proofs.Common.{◌≡◌, ℕ, zero, suc, ◌+◌, ◌<◌, ◌≤◌, ◌⊎◌, Bool, true, false, nat_eq, List, [], ◌∷◌, ◌++◌, replicate, Some, slice_get, inl, inr, refl, sym, ap, ◌∙◌, subst, arith}
+use Rattle.std.proofs.Common.{◌≡◌, ℕ, zero, suc, ◌+◌, ◌<◌, ◌≤◌, ◌⊎◌, List, [], ◌∷◌, ◌++◌, replicate, Some, slice_get, inl, inr, refl, sym, ap, ◌∙◌, subst, arith}
 use Rattle.std.specs.Prelude.{if◌then◌else◌}
 use Rattle.std.proofs.lemmas.Bool.{eq-eqb, ne_eqb}
 use Rattle.std.proofs.lemmas.Option.{same_Some}
@@ -7,6 +7,7 @@ use Rattle.rv32_items.specs.declared.Item.{Item}
 use Rattle.rv32_items.specs.declared.Item.TheVariants.{Label, Plain, Branch, Jump}
 use Rattle.rv32_items.specs.Placed.{size, size_of, times, target_of, IsPlain, AllPlain, LabelsStand}
 use Rattle.layout_rows.specs.Spread.{idle, spread, GoesThere}
+use Rattle.rv32_items.proofs.Counted.{size_append, times_append}
 
 -- ---- what holds of each item
 
@@ -33,17 +34,6 @@ each_spread P before after last i zeroth still here final =
     (here, each_append P (replicate after idle) (Label last ∷ []) (each_idle P after still) (final, tt))
 
 -- ---- labels
-
-pub times_append : (l : ℕ) (xs ys : List Item) → times l (xs ++ ys) ≡ times l xs + times l ys
-times_append l [] ys = omega arith
-times_append l (Plain i ∷ xs) ys = times_append l xs ys
-times_append l (Branch c a b t ∷ xs) ys = times_append l xs ys
-times_append l (Jump k t ∷ xs) ys = times_append l xs ys
-times_append l (Label k ∷ xs) ys = go (nat_eq k l) (times_append l xs ys)
-  where
-    go : (b : Bool) → times l (xs ++ ys) ≡ times l xs + times l ys → (if b then suc (times l (xs ++ ys)) else times l (xs ++ ys)) ≡ (if b then suc (times l xs) else times l xs) + times l ys
-    go true e = omega arith
-    go false e = e
 
 times_idle : (l n : ℕ) → times l (replicate n idle) ≡ 0
 times_idle l zero = refl
@@ -95,10 +85,6 @@ all_plain before after last i goes n j e = each_get IsPlain (spread before after
     plain (Jump k t) goes = tt
 
 -- ---- size
-
-pub size_append : (xs ys : List Item) → size_of (xs ++ ys) ≡ size_of xs + size_of ys
-size_append [] ys = omega arith
-size_append (x ∷ xs) ys = let e = size_append xs ys in omega arith
 
 size_idle : (n : ℕ) → size_of (replicate n idle) ≡ n
 size_idle zero = refl

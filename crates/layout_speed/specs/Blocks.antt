@@ -1,15 +1,10 @@
 -- Many blocks of items.
-use Rattle.std.specs.Prelude.{ℕ, pos, List, [], ◌∷◌, ◌++◌}
-use Rattle.rv32_isa.specs.declared.instr.Instr.TheVariants.{OpImm}
-use Rattle.rv32_isa.specs.declared.instr.ImmKind.TheVariants.{Addi}
+use Rattle.std.specs.Prelude.{ℕ, List, [], ◌∷◌, ◌++◌}
 use Rattle.rv32_items.specs.declared.Cond.TheVariants.{Ne}
 use Rattle.rv32_items.specs.declared.Item.{Item}
-use Rattle.rv32_items.specs.declared.Item.TheVariants.{Label, Plain, Branch, Jump}
+use Rattle.rv32_items.specs.declared.Item.TheVariants.{Label, Branch, Jump}
 use Rattle.layout_rows.specs.Pieces.{pieces}
-
--- an instruction that does nothing
-abbrev pub idle : Item
-idle = Plain (OpImm Addi 0 0 (pos 0))
+use Rattle.layout_rows.specs.Spread.{idle}
 
 -- a loop, a branch that goes far, and a call of what stands after all blocks
 abbrev pub block : (last k : ℕ) → List Item

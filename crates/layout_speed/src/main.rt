@@ -2,6 +2,7 @@
 #![tactic(auto)]
 
 ghost use Rattle.std.specs.Prelude.{◌≡◌, ◌≤◌, [], ◌∷◌, ◌++◌, IfOk, OnOk};
+ghost use Rattle.layout_rows.specs.Spread.{idle};
 ghost use Rattle.layout_speed.specs.Blocks.{block, blocks, last_block, all_blocks};
 
 use anyhow::Context;
@@ -13,7 +14,7 @@ use std::env;
 
 /// An instruction that does nothing.
 fn idle() -> Instr
-    ensures { Item.Plain result ≡ Rattle.layout_speed.specs.Blocks.idle }
+    ensures { Item.Plain result ≡ idle }
 {
     Instr::OpImm(ImmKind::Addi, Reg(0), Reg(0), Imm12(0))
 }

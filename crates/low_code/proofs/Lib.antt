@@ -3,3 +3,4 @@ pub mod Steady
 pub mod MoreUnits
 pub mod Limits
 pub mod Worked
+pub mod Sites

@@ -22,7 +22,7 @@ pub record Grows (s t : World) : Type 0 where
 begins_same : (xs : List ℕ) → Begins xs xs
 begins_same xs = ([], sym (append-nil xs))
 
-begins_on : (xs ys zs : List ℕ) → Begins xs ys → Begins ys zs → Begins xs zs
+pub begins_on : (xs ys zs : List ℕ) → Begins xs ys → Begins ys zs → Begins xs zs
 begins_on xs ys zs a b = (a.0 ++ b.0, b.1 ∙ ap (λ l. l ++ b.0) a.1 ∙ append_assoc xs a.0 b.0)
 
 pub grows_same : (s : World) → Grows s s

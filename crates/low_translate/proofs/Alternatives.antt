@@ -18,19 +18,11 @@ use Rattle.low_translate.specs.declared.blocks.Goal.{Goal}
 use Rattle.low_translate.specs.Translation.{code_numbers, arms_numbers, arms_code, tests}
 use Rattle.low_translate.specs.Lowered.{ArmsRanged, ShapeRanged}
 use Rattle.low_translate.specs.Emitted.{BlockDone, ArmsDone}
-
--- alternatives before further ones
-abbrev pub all_arms : List (Shape × Code) → Arms → Arms
-all_arms [] r = r
-all_arms (a ∷ as') r = arm a.0 a.1 (all_arms as' r)
+use Rattle.grin_syntax.proofs.Pieces.{all_arms_push, all_arms}
 
 pub all_arms_last : (as' : List Alt) (a : Alt) → all_arms (map arm_of as') (arm a.pattern (code_of a.body) no_arm) ≡ arms_of (map arm_of (as' ++ a ∷ []))
 all_arms_last [] a = ap (λ x. arm x.0 x.1 no_arm) (sym (arm_of-parts a))
 all_arms_last (b ∷ as') a = ap (arm (arm_of b).0 (arm_of b).1) (all_arms_last as' a)
-
-pub all_arms_push : (as' : List Alt) (a : Alt) (r : Arms) → all_arms (map arm_of (as' ++ a ∷ [])) r ≡ all_arms (map arm_of as') (arm a.pattern (code_of a.body) r)
-all_arms_push [] a r = ap (λ x. arm x.0 x.1 r) (arm_of-parts a)
-all_arms_push (b ∷ as') a r = ap (arm (arm_of b).0 (arm_of b).1) (all_arms_push as' a r)
 
 -- arms of low code before further ones
 abbrev pub low_arms : List (List LowTest × low.Code) → low.Arms → low.Arms

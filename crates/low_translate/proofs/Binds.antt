@@ -4,20 +4,20 @@ use Rattle.grin_syntax.specs.declared.program.Target.{Target}
 use Rattle.grin_syntax.specs.declared.program.Target.TheVariants as to
 use Rattle.grin_syntax.specs.declared.program.Cell as C
 use Rattle.grin_syntax.specs.declared.program.VarId.{VarId}
-use Rattle.grin_syntax.specs.Binders.{times, numbers_of, target_vars, shape_vars, cell_vars, act_vars, code_vars, arms_vars, procedure_vars, procs_vars}
+use Rattle.grin_syntax.specs.Binders.{numbers_of, target_vars, shape_vars, cell_vars, act_vars, code_vars, arms_vars, procedure_vars, procs_vars}
 use Rattle.grin_syntax.specs.Tree as grin
 use Rattle.grin_syntax.specs.Tree.{Act, unit, fetch, fetch_word, update, eval, apply, call, prim, read, write, case, nested, fail, end, store, bind, no_arm, arm}
-use Rattle.grin_syntax.proofs.Counted.{times_append}
 use Rattle.grin_meaning.specs.Slim as slim
 use Rattle.grin_meaning.specs.Slim.{target_weight, node_words, inner_words, code_words, arms_words, procedure_words}
 use Rattle.low_code.specs.declared.program.Operand.{Operand}
 use Rattle.low_code.specs.Tree as low
 use Rattle.low_code.specs.Formed.{binds, arms_binds, variables, all_variables}
 use Rattle.low_translate.specs.declared.blocks.Goal.{Goal}
-use Rattle.low_translate.specs.Translation.{operand_of, operands_of, operands_of_words, operation_of, fitted, variables_of, numbers_from, sets, load_word, stores, results_of, to_join, end_words, plain_numbers, through_numbers, plain_end_numbers, act_numbers, end_numbers, code_numbers, arms_numbers, plain_code, through, plain_end, act_code, end_code, code_code, arms_code, procedure_code, procedures_code, procedure_numbers}
+use Rattle.low_translate.specs.Translation.{operand_of, operands_of, operands_of_words, operation_of, fitted, variables_of, sets, load_word, stores, results_of, to_join, end_words, plain_numbers, through_numbers, plain_end_numbers, act_numbers, end_numbers, code_numbers, arms_numbers, plain_code, through, plain_end, act_code, end_code, code_code, arms_code, procedure_code, procedures_code, procedure_numbers}
 use Rattle.low_translate.proofs.Numbered.{taken_times, taken_both, times_parts, length_parts, procs_numbers}
-use Rattle.low_translate.proofs.Operations.{length_numbers}
 use Rattle.low_translate.proofs.Parts.{sets_binds, word_binds, loads_binds, first_binds, saves_binds, taken_binds, stores_binds}
+use Rattle.seq.specs.Lists.{numbers_from, times}
+use Rattle.seq.proofs.Counted.{length_numbers, times_append}
 
 module _ (x : ℕ) where
   -- x is among these variables v times, but for k numbers from n on, and they are w at most

@@ -5,7 +5,7 @@ use Rattle.seq.proofs.Lists.{map_append, all_append}
 use Rattle.seq.proofs.Order.{le_or_lt}
 use Rattle.grin_syntax.specs.declared.program.Cell as C
 use Rattle.grin_syntax.specs.declared.program.Target.{Target}
-use Rattle.grin_syntax.specs.Binders.{times, target_vars, cell_vars}
+use Rattle.grin_syntax.specs.Binders.{target_vars, cell_vars}
 use Rattle.grin_syntax.specs.Formed.{AllOf}
 use Rattle.grin_syntax.specs.Tree as grin_tree
 use Rattle.grin_syntax.specs.Tree.{Act, Code, store}
@@ -23,11 +23,13 @@ use Rattle.low_code.specs.Run.{Calls, code}
 use Rattle.low_translate.specs.Translation.{taken, stores}
 use Rattle.low_translate.specs.Lowered.{ValRanged}
 use Rattle.low_translate.proofs.Images.{images, words_of_value, fit, length_fit, cell_image, world_image, zeros, SoundNode, SoundValue, SoundWorld}
-use Rattle.low_translate.proofs.Operands.{bound, with_vars_bound, Agrees, agrees_alike, agrees_more, agrees_var, times_append}
+use Rattle.low_translate.proofs.Operands.{bound, with_vars_bound, Agrees, agrees_alike, agrees_more, agrees_var}
 use Rattle.low_translate.proofs.Stored.{Placed, placed, stores_run, taken_run}
 use Rattle.low_translate.proofs.Bindings.{bindings_are, target_many, agrees_target}
 use Rattle.low_translate.proofs.Matches as m
 use Rattle.low_translate.proofs.Matches.{free, Match, missed, fails, ran_out, given}
+use Rattle.seq.specs.Lists.{times}
+use Rattle.seq.proofs.Counted.{times_append}
 
 -- new cells stand for their places
 pub agrees_places : (first : ℕ) (cs : List C.Cell) (a : ℕ) (scope : List ℕ) (env : grin.Env) (e : low.Env) → AllOf (λ x. x < first) (cell_vars cs) → Agrees first scope env e

@@ -1,24 +1,21 @@
 -- The calls of the translation: as many as the program's, of procedures that there are, each at a site of its own.
 use Rattle.std.proofs.Common.{◌≡◌, ◌≤◌, ◌<◌, ℕ, suc, ◌+◌, ◌-◌, Bool, true, false, List, [], ◌∷◌, ◌++◌, length, drop, refl, sym, ap, ◌∙◌, subst, arith, length-append}
-use Rattle.grin_syntax.specs.Binders.{times, target_vars, shape_vars, cell_vars}
+use Rattle.grin_syntax.specs.Binders.{target_vars, shape_vars, cell_vars}
 use Rattle.grin_syntax.specs.Tree as grin
 use Rattle.grin_syntax.specs.Tree.{Act, unit, fetch, fetch_word, update, eval, apply, call, prim, read, write, case, nested, fail, end, store, bind, no_arm, arm}
 use Rattle.grin_syntax.specs.Formed.{AllOf, Scope, with_words, with_target, params_scope, ActFormed, CodeFormed, ArmsFormed, ProcedureFormed}
-use Rattle.grin_syntax.proofs.Counted.{times_append}
 use Rattle.grin_meaning.specs.Slim.{act_calls, code_calls, arms_calls, procs_calls}
 use Rattle.low_code.specs.declared.program.Operand.{Operand}
 use Rattle.low_code.specs.Tree as low
 use Rattle.low_code.specs.Formed.{Site, calls_in, arms_calls as low_arms_calls, sites_of, all_sites, CallsInRange, AllCallsInRange}
 use Rattle.low_code.specs.Size.{calls_from}
 use Rattle.low_translate.specs.declared.blocks.Goal.{Goal}
-use Rattle.low_translate.specs.Translation.{operand_of, operands_of, operands_of_words, operation_of, fitted, variables_of, numbers_from, sets, load_word, stores, results_of, to_join, end_words, plain_numbers, through_numbers, plain_end_numbers, act_numbers, end_numbers, code_numbers, arms_numbers, plain_code, through, plain_end, act_code, end_code, code_code, arms_code, procedures_code, procedure_numbers}
+use Rattle.low_translate.specs.Translation.{operand_of, operands_of, operands_of_words, operation_of, fitted, variables_of, sets, load_word, stores, results_of, to_join, end_words, plain_numbers, through_numbers, plain_end_numbers, act_numbers, end_numbers, code_numbers, arms_numbers, plain_code, through, plain_end, act_code, end_code, code_code, arms_code, procedures_code, procedure_numbers}
 use Rattle.low_translate.proofs.Numbered.{taken_times, taken_both, procs_numbers}
-use Rattle.low_translate.proofs.Operations.{length_numbers}
 use Rattle.low_translate.proofs.Parts.{sets_calls, word_calls, loads_calls, first_calls, saves_calls, taken_calls, stores_calls}
-
-sites_append : (xs ys : List Site) → sites_of (xs ++ ys) ≡ sites_of xs ++ sites_of ys
-sites_append [] ys = refl
-sites_append (x ∷ xs) ys = ap (λ l. x.0 ∷ l) (sites_append xs ys)
+use Rattle.seq.specs.Lists.{numbers_from, times}
+use Rattle.low_code.proofs.Sites.{sites_append}
+use Rattle.seq.proofs.Counted.{length_numbers, times_append}
 
 range_append : (n : ℕ) (xs ys : List Site) → CallsInRange n xs → CallsInRange n ys → CallsInRange n (xs ++ ys)
 range_append n [] ys h k = k

@@ -27,19 +27,17 @@ use Rattle.low_translate.proofs.Deciding.{Decides, taken', passed, tests_decide}
 use Rattle.low_translate.proofs.Deciding as deciding
 use Rattle.low_translate.proofs.Matches as m
 use Rattle.low_translate.proofs.Matches.{free, Match, missed}
+use Rattle.grin_meaning.proofs.Bindings.{fits_is}
 
 -- ---- patterns without variables
 
-fits_same : {bs cs : List Binding} → fits bs ≡ fits cs → bs ≡ cs
-fits_same h = cc
-
 -- they bind nothing
 binds_none : (g : grin_tree.Program) (s : S.Shape) (x : Value) (bs : List Binding) → BindsNothing (shape_vars s) → fit_of g s x ≡ fits bs → bs ≡ []
-binds_none g shape.Else x bs b h = sym (fits_same h)
+binds_none g shape.Else x bs b h = sym (fits_is h)
 binds_none g (shape.Int k) x bs b h = go (as_node g x) h
   where
     yes : (c : Bool) → cond c (fits []) fits_not ≡ fits bs → bs ≡ []
-    yes true e = sym (fits_same e)
+    yes true e = sym (fits_is e)
     yes false e = absurd (let z : fits_not ≡ fits bs = e in cc)
 
     numbers : (ds : List Datum) → number_fit k ds ≡ fits bs → bs ≡ []
@@ -58,7 +56,7 @@ binds_none g (shape.Int k) x bs b h = go (as_node g x) h
 binds_none g (shape.Node t xs) x bs b h = go (as_node g x) h
   where
     fields : (xs : List VarId) → numbers_of xs ≡ [] → (ds : List Datum) → fields_fit xs ds ≡ fits bs → bs ≡ []
-    fields [] q ds e = sym (fits_same e)
+    fields [] q ds e = sym (fits_is e)
     fields (y ∷ ys) q ds e = absurd (let z : y.0 ∷ numbers_of ys ≡ [] = q in cc)
 
     by : (c : Bool) (n : Node) → cond c (fields_fit xs n.fields) fits_not ≡ fits bs → bs ≡ []

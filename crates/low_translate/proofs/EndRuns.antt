@@ -4,7 +4,6 @@ use Rattle.std.proofs.lemmas.List.{length-map}
 use Rattle.grin_syntax.specs.declared.program.ProcId.{ProcId}
 use Rattle.grin_syntax.specs.declared.program.Word as W
 use Rattle.grin_syntax.specs.declared.program.Val as V
-use Rattle.grin_syntax.specs.Binders.{times}
 use Rattle.grin_syntax.specs.Formed.{AllOf}
 use Rattle.grin_syntax.specs.Tree as grin_tree
 use Rattle.grin_syntax.specs.Tree.{Act, unit, fetch, fetch_word, update, eval, apply, call, prim, read, write, case, nested, fail}
@@ -20,16 +19,18 @@ use Rattle.low_code.specs.Values as low
 use Rattle.low_code.specs.Values.{need}
 use Rattle.low_code.specs.Run.{Calls, code, operands}
 use Rattle.low_translate.specs.declared.blocks.Goal.{Goal}
-use Rattle.low_translate.specs.Translation.{operands_of, operands_of_words, fitted, variables_of, numbers_from, results_of, end_words, through, plain_end}
+use Rattle.low_translate.specs.Translation.{operands_of, operands_of_words, fitted, variables_of, results_of, end_words, through, plain_end}
 use Rattle.low_translate.specs.Lowered.{WordRanged, ValRanged, PlainRanged, ActGives}
 use Rattle.low_translate.proofs.Images.{word_image, images, words_of_value, fit, fit_again, length_fit, world_image, SoundValue, node_fits}
 use Rattle.low_translate.proofs.Operands.{words_are, value_is, fitted_are}
-use Rattle.low_translate.proofs.Operations.{IsPlain, length_numbers}
 use Rattle.low_translate.proofs.OwnVariables.{apart_numbers, numbered}
 use Rattle.low_translate.proofs.Standings.{Standing, Giving, Gives, ends_fit, node_fits_goal, value_fits_goal}
 use Rattle.low_translate.proofs.Matches as m
 use Rattle.low_translate.proofs.Matches.{free, Match, missed, fails, ran_out, given, CallsMatch}
 use Rattle.low_translate.proofs.PlainRuns as plain
+use Rattle.seq.specs.Lists.{numbers_from, times}
+use Rattle.seq.proofs.Counted.{length_numbers}
+use Rattle.grin_meaning.proofs.Plain.{IsLeaf}
 
 -- goes through variables of its own
 abbrev pub IsThrough : Act → Type 0
@@ -41,7 +42,7 @@ IsThrough (nested b) = ⊥
 IsThrough fail = ⊥
 IsThrough _ = Unit {0}
 
-through_plain : (o : Act) → IsThrough o → IsPlain o
+through_plain : (o : Act) → IsThrough o → IsLeaf o
 through_plain (unit v) h = absurd h
 through_plain (eval a) h = absurd h
 through_plain (apply v a) h = absurd h
@@ -185,7 +186,7 @@ module _ (g : grin_tree.Program) (p : low_tree.Program) (fw : ℕ → ℕ) (most
       unfolding act_by code
       fail_ends = fails h.within
 
-      pub end_runs : (o : Act) → IsPlain o → EachAct inlined_kind o → EachAct vectorised_kind o → PlainRanged o → Giving g rs width most goal (Gives g rs width most o)
+      pub end_runs : (o : Act) → IsLeaf o → EachAct inlined_kind o → EachAct vectorised_kind o → PlainRanged o → Giving g rs width most goal (Gives g rs width most o)
           → Matches P goal.words (act_by g gcalls true env d o w) (does e (plain_end width rs goal n o) (world_image width frames w))
       unfolding EachAct
       end_runs (unit v) pl inl' vec r gives = unit_ends v vec.1 r gives

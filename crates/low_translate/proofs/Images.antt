@@ -16,6 +16,7 @@ use Rattle.grin_meaning.specs.Values.{Datum, number, tag, cell, Node, Value, nod
 use Rattle.low_code.specs.Values as low
 use Rattle.low_code.specs.Values.{Word}
 use Rattle.low_translate.specs.Lowered.{Has32Bits}
+use Rattle.grin_meaning.proofs.Fields.{field_bound}
 
 abbrev pub word_image : Datum → Word
 word_image (number k) = low.number (pattern k)
@@ -136,17 +137,12 @@ none_some h = cc
 pub some_same : {A : Type 0} {a b : A} → Some a ≡ Some b → a ≡ b
 some_same h = cc
 
-most_at : (ts : List Tag) (t : ℕ) (i : Tag) → slice_get ts t ≡ Some i → i.fields ≤ most_fields ts
-most_at [] t i e = absurd (none_some e)
-most_at (x ∷ ts) zero i e = let q : x.fields ≡ i.fields = ap (λ u. u.fields) (some_same e) in omega (arith, q)
-most_at (x ∷ ts) (suc t) i e = let h = most_at ts t i e in omega (arith, h)
-
 pub fields_most : (g : Program) (t k : ℕ) → grin.fields_of g t ≡ Some k → k ≤ most_fields g.tags
 fields_most g t k e = go (slice_get g.tags t) refl e
   where
     go : (o : Option Tag) → slice_get g.tags t ≡ o → grin.and_then o (λ i. Some i.fields) ≡ Some k → k ≤ most_fields g.tags
     go None q e = absurd (none_some e)
-    go (Some i) q e = let h = most_at g.tags t i q in let m : i.fields ≡ k = some_same e in omega (arith, h, m)
+    go (Some i) q e = let h = field_bound g.tags t i q in let m : i.fields ≡ k = some_same e in omega (arith, h, m)
 
 -- a sound node fits in a cell
 pub node_fits : (g : Program) (n : Node) → SoundNode g n → length (images (tag n.tag ∷ n.fields)) ≤ 1 + most_fields g.tags

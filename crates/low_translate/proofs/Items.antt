@@ -1,10 +1,12 @@
 -- Items of lists by their places.
+use Rattle.seq.proofs.Lists.{drop_again}
 use Rattle.std.proofs.Common.{◌≡◌, ◌<◌, ℕ, zero, suc, ◌+◌, List, [], ◌∷◌, ◌++◌, length, drop, get_or, refl, sym, ap, ◌∙◌, arith}
 use Rattle.low_code.specs.declared.program.Operand.{Operand}
 use Rattle.low_code.specs.declared.program.Operand.TheVariants.{Num}
 use Rattle.std.proofs.lemmas.List.{drop_more}
 use Rattle.low_code.specs.Tree.{Code, set, save}
-use Rattle.low_translate.specs.Translation.{results_of, nth_operand, fitted, numbers_from, sets, load_word, loads, saves}
+use Rattle.low_translate.specs.Translation.{results_of, nth_operand, fitted, sets, load_word, loads, saves}
+use Rattle.seq.specs.Lists.{numbers_from}
 
 pub results_of-get : (rs : List ℕ) (f : ℕ) → results_of rs f ≡ get_or rs f 0
 results_of-get [] f = refl
@@ -41,12 +43,6 @@ nth-drop [] (suc i) = refl
 nth-drop (a ∷ as') zero = refl
 nth-drop (a ∷ as') (suc i) = nth-drop as' i
 
-drop-one : {A : Type 0} (xs : List A) (i : ℕ) → drop 1 (drop i xs) ≡ drop (suc i) xs
-drop-one [] zero = refl
-drop-one [] (suc i) = refl
-drop-one (x ∷ xs) zero = refl
-drop-one (x ∷ xs) (suc i) = drop-one xs i
-
 -- ---- one statement more
 
 sets_first : (x : ℕ) (xs : List ℕ) (as' : List Operand) (c : Code) → sets (x ∷ xs) as' c ≡ set x (nth_operand as' 0) (sets xs (drop 1 as') c)
@@ -58,7 +54,7 @@ pub sets_step : (xs : List ℕ) (as' : List Operand) (i : ℕ) (a : Operand) →
 sets_step xs as' i a lt e c =
     let one : suc i ≡ i + 1 = omega arith in
     ap (λ l. sets l (drop i as') c) (drop_more xs i 0 lt) ∙ sets_first _ _ (drop i as') c
-    ∙ (λ j. set (get_or xs i 0) ((nth-drop as' i ∙ sym e) j) (sets (drop (i + 1) xs) ((drop-one as' i ∙ ap (λ k. drop k as') one) j) c))
+    ∙ (λ j. set (get_or xs i 0) ((nth-drop as' i ∙ sym e) j) (sets (drop (i + 1) xs) ((drop_again as' i ∙ ap (λ k. drop k as') one) j) c))
 
 pub loads_step : (width : ℕ) (xs : List ℕ) (a : Operand) (i : ℕ) → i < length xs → (c : Code) → loads width (drop i xs) a i c ≡ load_word width (get_or xs i 0) a i (loads width (drop (i + 1) xs) a (i + 1) c)
 loads_step width xs a i lt c = ap (λ l. loads width l a i c) (drop_more xs i 0 lt) ∙ ap (λ k. load_word width (get_or xs i 0) a i (loads width (drop (i + 1) xs) a k c)) (omega arith)

@@ -4,9 +4,8 @@ use Rattle.std.proofs.lemmas.List.{length-map}
 use Rattle.std.proofs.lemmas.Option.{slice_get_within}
 use Rattle.seq.proofs.Order.{lt_or_le}
 use Rattle.seq.proofs.Lists.{is_empty}
-use Rattle.grin_syntax.specs.declared.program.VarId.{VarId}
 use Rattle.grin_syntax.specs.declared.program.GlobalCell.{GlobalCell}
-use Rattle.grin_syntax.specs.Binders.{times, numbers_of}
+use Rattle.grin_syntax.specs.Binders.{numbers_of}
 use Rattle.grin_syntax.specs.Fresh.{past_procs}
 use Rattle.grin_syntax.specs.Formed as grin_formed
 use Rattle.grin_syntax.specs.Formed.{AllOf, GlobalFormed, argument_words}
@@ -26,6 +25,8 @@ use Rattle.low_translate.proofs.Scoping.{AllFine, procedures_fine}
 use Rattle.low_translate.proofs.Calls.{AllCalls, procedures_calls}
 use Rattle.low_translate.proofs.Binds.{procedure_binds, procedures_once}
 use Rattle.low_translate.proofs.Sizes.{procedures_light}
+use Rattle.seq.specs.Lists.{times}
+use Rattle.grin_syntax.proofs.Counted.{length_numbers}
 
 pub results_few : (rs : List ℕ) → AllOf (λ r. r ≤ 13) rs → (f : ℕ) → results_of rs f ≤ 13
 results_few [] h f = omega arith
@@ -54,10 +55,6 @@ procedure_at width rs n (k ∷ ks) (p ∷ qs) (suc f) q e h = procedure_at width
 tags_small : (g : grin.Program) (cs : List GlobalCell) → length g.tags ≤ 2 ^ 32 → AllOf (GlobalFormed g) cs → TagsSmall (map (λ c. c.tag.0) cs)
 tags_small g [] few h = tt
 tags_small g (c ∷ cs) few h = (let k = slice_get_within g.tags c.tag.0 h.0.0 h.0.1 in omega (arith, k, few), tags_small g cs few h.1)
-
-many_vars : (xs : List VarId) → length (numbers_of xs) ≡ length xs
-many_vars [] = refl
-many_vars (x ∷ xs) = ap suc (many_vars xs)
 
 module _ (g : grin.Program) (formed : grin_formed.Formed g) (ready : Ready g) (vectorised : IsVectorised g) (rs : List ℕ) (gives : EachGives (1 + most_value_fields g.tags) rs rs g.procs) (few : AllOf (λ r. r ≤ 13) rs) (few_tags : length g.tags ≤ 2 ^ 32) where
   abbrev width : ℕ
@@ -101,8 +98,8 @@ module _ (g : grin.Program) (formed : grin_formed.Formed g) (ready : Ready g) (v
       subst (λ o. Starts made o g.argument) (sym s.is) (by g.argument s formed.start.2 formed.argument)
     where
       by : (a : Option ℕ) (s : Stands (slice_get made.procs made.start) formed.start.0) → length formed.start.0.params ≡ argument_words a → grin_formed.ArgumentKnown g a → Starts made (Some s.made) a
-      by None s e k = is_empty s.made.params (ap length s.params ∙ many_vars formed.start.0.params ∙ e)
-      by (Some i) s e k = (ap length s.params ∙ many_vars formed.start.0.params ∙ e, subst (λ m. i < m) (sym (length-map g.globals (λ c. c.tag.0))) k)
+      by None s e k = is_empty s.made.params (ap length s.params ∙ length_numbers formed.start.0.params ∙ e)
+      by (Some i) s e k = (ap length s.params ∙ length_numbers formed.start.0.params ∙ e, subst (λ m. i < m) (sym (length-map g.globals (λ c. c.tag.0))) k)
 
   pub formed_code : AllOf (λ q. CodeRanged q.body) g.procs → Formed made
   formed_code ranged =

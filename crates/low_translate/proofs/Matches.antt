@@ -4,7 +4,6 @@ use Rattle.seq.proofs.Lists.{all_get, all_set, map_get}
 use Rattle.seq.proofs.Order.{le_or_lt}
 use Rattle.grin_syntax.specs.declared.program.Word as W
 use Rattle.grin_syntax.specs.declared.program.Val as V
-use Rattle.grin_syntax.specs.Binders.{times}
 use Rattle.grin_syntax.specs.Formed.{AllOf}
 use Rattle.grin_syntax.specs.Tree as grin_tree
 use Rattle.grin_syntax.specs.Tree.{Act, unit, fetch, update, write}
@@ -25,6 +24,7 @@ use Rattle.low_translate.proofs.Operands.{bound, Agrees, Word', operand_is, valu
 use Rattle.low_translate.proofs.Pieces.{sets_run, loads_run, map_set}
 use Rattle.low_translate.proofs.Stored.{update_run}
 use Rattle.low_translate.proofs.Figures.{low_of_pattern}
+use Rattle.seq.specs.Lists.{times}
 
 -- no limits
 abbrev pub free : Room

@@ -1,12 +1,12 @@
 -- Numbers that are taken one after the other.
 use Rattle.std.proofs.Common.{◌≡◌, ◌≤◌, ◌<◌, inl, inr, ℕ, zero, suc, ◌+◌, ◌-◌, nat_eq, List, [], ◌∷◌, length, take, drop, refl, ap, arith}
-use Rattle.grin_syntax.specs.Binders.{times}
-use Rattle.grin_syntax.proofs.Counted.{counts, none_at, one_at}
-use Rattle.low_code.specs.Formed.{is_among, Distinct}
+use Rattle.low_code.specs.Formed.{Distinct}
 use Rattle.grin_syntax.specs.Tree.{Procedure}
-use Rattle.low_translate.specs.Translation.{numbers_from, procedure_numbers}
+use Rattle.low_translate.specs.Translation.{procedure_numbers}
 use Rattle.std.specs.Prelude.{false, ◌||◌}
 use Rattle.std.proofs.lemmas.Bool.Decides.{eqb_tells}
+use Rattle.seq.specs.Lists.{numbers_from, times, is_among}
+use Rattle.seq.proofs.Counted.{counts, none_at, one_at}
 
 -- how often x is among k numbers from n on
 abbrev pub taken_times : (x n k : ℕ) → ℕ

@@ -9,7 +9,7 @@ use Rattle.grin_syntax.specs.declared.program.Word as W
 use Rattle.grin_syntax.specs.declared.program.Word.TheVariants as word
 use Rattle.grin_syntax.specs.declared.program.Val as V
 use Rattle.grin_syntax.specs.declared.program.Val.TheVariants as val
-use Rattle.grin_syntax.specs.Binders.{times, numbers_of}
+use Rattle.grin_syntax.specs.Binders.{numbers_of}
 use Rattle.grin_syntax.specs.Formed.{AllOf}
 use Rattle.grin_syntax.specs.Tree as grin_tree
 use Rattle.grin_meaning.specs.Values as grin
@@ -24,6 +24,8 @@ use Rattle.low_code.specs.Run.{operand, operands}
 use Rattle.low_translate.specs.Translation.{operand_of, operands_of_words, operands_of, fitted}
 use Rattle.low_translate.specs.Lowered.{WordRanged, ValRanged}
 use Rattle.low_translate.proofs.Images.{word_image, images, words_of_value, fit, InRange, SoundNode, SoundValue, none_some, some_same}
+use Rattle.seq.specs.Lists.{times}
+use Rattle.seq.proofs.Counted.{times_append}
 
 -- ---- environments
 
@@ -89,10 +91,6 @@ agrees_var first scope env e x d lt r a y v h = go (nat_eq y x) refl h
       ranged = f.ranged;
       found = ap (λ b. cond b (Some (word_image d)) (e y)) q ∙ f.found;
     }
-
-pub times_append : (x : ℕ) (xs ys : List ℕ) → times x (xs ++ ys) ≡ times x xs + times x ys
-times_append x [] ys = omega arith
-times_append x (y ∷ xs) ys = let h = times_append x xs ys in omega (arith, h)
 
 -- a word for each variable
 pub agrees_each : (first : ℕ) (vars : List VarId) (ds : List Datum) (bs : List grin.Binding) (scope : List ℕ) (env : Env) (e : low.Env) → grin.one_each vars ds ≡ Some bs → AllOf InRange ds → AllOf (λ x. x < first) (numbers_of vars) → Agrees first scope env e

@@ -1,5 +1,5 @@
 -- Operations and statements.
-use Rattle.std.proofs.Common.{◌≡◌, ◌⊎◌, inl, inr, Result, Ok, Err, IfOk, ◌≤◌, ◌<◌, ℕ, zero, suc, ◌+◌, ◌-◌, true, false, List, [], ◌∷◌, ◌++◌, map, length, take, drop, get_or, refl, sym, ap, ◌∙◌, subst, arith}
+use Rattle.std.proofs.Common.{◌≡◌, ◌⊎◌, inl, inr, ◌≤◌, ◌<◌, ℕ, zero, suc, ◌+◌, ◌-◌, true, false, List, [], ◌∷◌, ◌++◌, map, length, take, drop, get_or, refl, sym, ap, ◌∙◌, subst, arith}
 use Rattle.std.specs.declared.alloc.Global.{Global}
 use Rattle.std.specs.declared.boxed.Box.{Box}
 use Rattle.std.proofs.lemmas.List.{drop_more, take_rest, take_all}
@@ -30,10 +30,13 @@ use Rattle.low_code.specs.declared.program.Operand.{Operand}
 use Rattle.low_code.specs.Tree as low
 use Rattle.low_code.proofs.TreeOf as low_tree
 use Rattle.low_translate.specs.declared.blocks.Goal.{Goal}
-use Rattle.low_translate.specs.Translation.{operand_of, operands_of_words, operands_of, fitted, numbers_from, variables_of, sets, to_first, taken, stores, results_of, to_join, end_words, plain_numbers, through_numbers, act_numbers, code_numbers, arms_numbers, plain_code, through, act_code, code_code, arms_code}
+use Rattle.low_translate.specs.Translation.{operand_of, operands_of_words, operands_of, fitted, variables_of, sets, to_first, taken, stores, results_of, to_join, end_words, plain_numbers, through_numbers, act_numbers, code_numbers, arms_numbers, plain_code, through, act_code, code_code, arms_code}
 use Rattle.low_translate.specs.Lowered.{WordRanged, ValRanged, ActRanged, CodeRanged, ArmsRanged}
 use Rattle.low_translate.specs.Emitted.{emitted, Adds, PlainDone, ActDone, ThroughDone, PlainEndDone, EndDone, BlockDone, StmtDone, ArmsDone, ProcedureDone}
 use Rattle.low_translate.proofs.Emitting.{adds_then}
+use Rattle.seq.specs.Lists.{numbers_from}
+use Rattle.seq.proofs.Counted.{length_numbers}
+use Rattle.grin_meaning.proofs.Plain.{IsLeaf}
 
 -- the first variable, then the others
 pub first_done : (a b c : List LowStmt) (x : ℕ) (xs rest : List ℕ) (e : ℕ → low.Code → low.Code) → xs ≡ x ∷ rest → Adds a b (e x) → Adds b c (sets rest []) → Adds a c (to_first xs e)
@@ -47,40 +50,26 @@ length_fitted zero as' = refl
 length_fitted (suc k) [] = ap suc (length_fitted k [])
 length_fitted (suc k) (a ∷ as') = ap suc (length_fitted k as')
 
-pub length_numbers : (n k : ℕ) → length (numbers_from n k) ≡ k
-length_numbers n zero = refl
-length_numbers n (suc k) = ap suc (length_numbers (suc n) k)
-
--- no block in it
-abbrev pub IsPlain : Act → Type 0
-IsPlain (case v as') = ⊥
-IsPlain (nested b) = ⊥
-IsPlain _ = Unit {0}
-
-pub plain_as : (o : Op) (t : Act) → act_of o ≡ t → IsPlain t → IsPlain (act_of o)
-plain_as o t e h = subst IsPlain (sym e) h
+pub plain_as : (o : Op) (t : Act) → act_of o ≡ t → IsLeaf t → IsLeaf (act_of o)
+plain_as o t e h = subst IsLeaf (sym e) h
 
 -- the operations without blocks, in three groups
-pub plain_first : (o : Op) → ((v : Val) × (o ≡ op.Unit v)) ⊎ (((w : Word) × (o ≡ op.Fetch w)) ⊎ (((w : Word) × (i : ℕ) × (o ≡ op.FetchWord w i)) ⊎ (((w : Word) × (v : Val) × (o ≡ op.Update w v)) ⊎ ((w : Word) × (o ≡ op.Eval w))))) → IsPlain (act_of o)
+pub plain_first : (o : Op) → ((v : Val) × (o ≡ op.Unit v)) ⊎ (((w : Word) × (o ≡ op.Fetch w)) ⊎ (((w : Word) × (i : ℕ) × (o ≡ op.FetchWord w i)) ⊎ (((w : Word) × (v : Val) × (o ≡ op.Update w v)) ⊎ ((w : Word) × (o ≡ op.Eval w))))) → IsLeaf (act_of o)
 plain_first o (inl h) = plain_as o _ (ap act_of h.1 ∙ grin_tree.act_of-Unit h.0) tt
 plain_first o (inr (inl h)) = plain_as o _ (ap act_of h.1 ∙ grin_tree.act_of-Fetch h.0) tt
 plain_first o (inr (inr (inl h))) = plain_as o _ (ap act_of h.2 ∙ grin_tree.act_of-FetchWord h.0 h.1) tt
 plain_first o (inr (inr (inr (inl h)))) = plain_as o _ (ap act_of h.2 ∙ grin_tree.act_of-Update h.0 h.1) tt
 plain_first o (inr (inr (inr (inr h)))) = plain_as o _ (ap act_of h.1 ∙ grin_tree.act_of-Eval h.0) tt
 
-pub plain_second : (o : Op) → ((v : Val) × (w : Word) × (o ≡ op.Apply v w)) ⊎ (((f : ProcId) × (ws : List Word) × (o ≡ op.Call f ws)) ⊎ (((f : G.PrimOp) × (a : Word) × (b : Word) × (o ≡ op.Prim f a b)) ⊎ (o ≡ op.Read))) → IsPlain (act_of o)
+pub plain_second : (o : Op) → ((v : Val) × (w : Word) × (o ≡ op.Apply v w)) ⊎ (((f : ProcId) × (ws : List Word) × (o ≡ op.Call f ws)) ⊎ (((f : G.PrimOp) × (a : Word) × (b : Word) × (o ≡ op.Prim f a b)) ⊎ (o ≡ op.Read))) → IsLeaf (act_of o)
 plain_second o (inl h) = plain_as o _ (ap act_of h.2 ∙ grin_tree.act_of-Apply h.0 h.1) tt
 plain_second o (inr (inl h)) = plain_as o _ (ap act_of h.2 ∙ grin_tree.act_of-Call h.0 h.1) tt
 plain_second o (inr (inr (inl h))) = plain_as o _ (ap act_of h.3 ∙ grin_tree.act_of-Prim h.0 h.1 h.2) tt
 plain_second o (inr (inr (inr h))) = plain_as o _ (ap act_of h ∙ grin_tree.act_of-Read) tt
 
-pub plain_third : (o : Op) → ((w : Word) × (o ≡ op.Write w)) ⊎ (o ≡ op.Fail) → IsPlain (act_of o)
+pub plain_third : (o : Op) → ((w : Word) × (o ≡ op.Write w)) ⊎ (o ≡ op.Fail) → IsLeaf (act_of o)
 plain_third o (inl h) = plain_as o _ (ap act_of h.1 ∙ grin_tree.act_of-Write h.0) tt
 plain_third o (inr h) = plain_as o _ (ap act_of h ∙ grin_tree.act_of-Fail) tt
-
-pub ok_follows : {T E : Type 0} (P Q : T → Type 0) (r : Result T E) → ((t : T) → P t → Q t) → IfOk r P → IfOk r Q
-ok_follows P Q (Ok t) f h = f t h
-ok_follows P Q (Err e) f h = tt
 
 all_before_push : (ss : List S.Stmt) (s : S.Stmt) (c : grin.Code) → all_before (map before_of (ss ++ s ∷ [])) c ≡ all_before (map before_of ss) (before_of s c)
 all_before_push [] s c = refl
@@ -173,13 +162,13 @@ module _ (w : ℕ) (rs : List ℕ) where
 
   -- ---- with blocks
 
-  pub plain_act : (n n1 : ℕ) (xs : List ℕ) (o : Act) (a b : List LowStmt) → IsPlain o → PlainDone w rs n n1 xs o a b → ActDone w rs n n1 xs o a b
+  pub plain_act : (n n1 : ℕ) (xs : List ℕ) (o : Act) (a b : List LowStmt) → IsLeaf o → PlainDone w rs n n1 xs o a b → ActDone w rs n n1 xs o a b
   unfolding act_code act_numbers ActRanged
   plain_act n n1 xs (case v as') a b h d = absurd h
   plain_act n n1 xs (nested c) a b h d = absurd h
   plain_act n n1 xs o a b h d = record { is = d.is; numbers = d.numbers; ranged = d.ranged }
 
-  pub plain_end_act : (n n1 : ℕ) (goal : Goal) (o : Act) (a b : List LowStmt) (e : low.Code) → IsPlain o → PlainEndDone w rs n n1 goal o a b e → EndDone w rs n n1 goal o a b e
+  pub plain_end_act : (n n1 : ℕ) (goal : Goal) (o : Act) (a b : List LowStmt) (e : low.Code) → IsLeaf o → PlainEndDone w rs n n1 goal o a b e → EndDone w rs n n1 goal o a b e
   unfolding act_code act_numbers ActRanged
   plain_end_act n n1 goal (case v as') a b e h d = absurd h
   plain_end_act n n1 goal (nested c) a b e h d = absurd h

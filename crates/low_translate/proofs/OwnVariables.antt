@@ -4,16 +4,16 @@ use Rattle.std.specs.Prelude.{nat_eq}
 use Rattle.std.proofs.lemmas.Bool.{eq-eqb}
 use Rattle.std.proofs.lemmas.Bool.Decides.{eqb_tells}
 use Rattle.std.proofs.lemmas.List.{length-take}
-use Rattle.grin_syntax.specs.Binders.{times}
 use Rattle.low_code.specs.Tree as low_tree
 use Rattle.low_code.specs.Values as low
 use Rattle.low_code.specs.Values.{Word, with_var, and_then}
 use Rattle.low_code.specs.Run.{operands}
-use Rattle.low_translate.specs.Translation.{variables_of, numbers_from}
+use Rattle.low_translate.specs.Translation.{variables_of}
 use Rattle.low_translate.proofs.Images.{fit}
 use Rattle.low_translate.proofs.Operands.{bound}
 use Rattle.low_translate.proofs.Pieces.{bound_other}
-use Rattle.low_translate.proofs.Operations.{length_numbers}
+use Rattle.seq.specs.Lists.{numbers_from, times}
+use Rattle.seq.proofs.Counted.{length_numbers}
 
 -- ---- variables of their own
 

@@ -4,7 +4,6 @@ use Rattle.std.specs.Prelude.{nat_eq, nat_lt, slice_set}
 use Rattle.std.proofs.lemmas.Bool.{ltb-true, ltb-false}
 use Rattle.std.proofs.lemmas.List.{length-take, length-replicate}
 use Rattle.seq.proofs.Lists.{get_set, length_set, some_at, get_within}
-use Rattle.grin_syntax.specs.Binders.{times}
 use Rattle.grin_syntax.specs.Formed.{AllOf}
 use Rattle.low_code.specs.declared.program.Operand.{Operand}
 use Rattle.low_code.specs.declared.program.Operand.TheVariants.{Var, Num, Cell}
@@ -16,6 +15,7 @@ use Rattle.low_code.specs.Run.{Calls, operand, operands, cell_in, code, with_wor
 use Rattle.low_translate.specs.Translation.{sets, loads, saves}
 use Rattle.low_translate.proofs.Images.{fit, nth_word, fit_from, get_fit, nth_past, fit_none, zeros, none_some, some_same}
 use Rattle.low_translate.proofs.Operands.{bound, Avoids}
+use Rattle.seq.specs.Lists.{times}
 
 -- ---- lists
 

@@ -4,7 +4,6 @@ use Rattle.std.proofs.lemmas.List.{length-map}
 use Rattle.seq.proofs.Order.{le_or_lt}
 use Rattle.grin_syntax.specs.declared.program.ProcId.{ProcId}
 use Rattle.grin_syntax.specs.declared.program.Word as W
-use Rattle.grin_syntax.specs.Binders.{times}
 use Rattle.grin_syntax.specs.Formed.{AllOf}
 use Rattle.grin_syntax.specs.Tree as grin_tree
 use Rattle.grin_syntax.specs.Tree.{Act, unit, fetch, fetch_word, update, eval, apply, call, prim, read, write, case, nested, fail}
@@ -17,16 +16,17 @@ use Rattle.low_code.specs.Tree as low_tree
 use Rattle.low_code.specs.Values as low
 use Rattle.low_code.specs.Values.{need}
 use Rattle.low_code.specs.Run.{Calls, code}
-use Rattle.low_translate.specs.Translation.{numbers_from, sets, results_of, plain_code}
+use Rattle.low_translate.specs.Translation.{sets, results_of, plain_code}
 use Rattle.low_translate.specs.Lowered.{WordRanged, PlainRanged}
 use Rattle.low_translate.proofs.Images.{word_image, images, words_of_value, fit, length_fit, world_image}
 use Rattle.low_translate.proofs.Operands.{bound, with_vars_bound, words_are}
 use Rattle.low_translate.proofs.Pieces.{sets_run}
-use Rattle.low_translate.proofs.Operations.{IsPlain}
 use Rattle.low_translate.proofs.OwnVariables.{call_bound, call_many}
 use Rattle.low_translate.proofs.Matches as m
 use Rattle.low_translate.proofs.Matches.{free, Match, missed, fails, ran_out, given, CallsMatch}
 use Rattle.low_translate.proofs.Singles as one
+use Rattle.seq.specs.Lists.{numbers_from, times}
+use Rattle.grin_meaning.proofs.Plain.{IsLeaf}
 
 module _ (g : grin_tree.Program) (p : low_tree.Program) (fw : ℕ → ℕ) (most : ℕ) (rs : List ℕ) (first : ℕ) (same_globals : length p.globals ≡ length g.globals) (width : ℕ) (wide : width ≡ 1 + most_fields g.tags)
     (gcalls : grin_run.Calls) (lcalls : Calls) (calls_match : CallsMatch g p fw most rs first same_globals width wide gcalls lcalls) (top : ℕ) (under : Option ℕ) where
@@ -104,7 +104,7 @@ module _ (g : grin_tree.Program) (p : low_tree.Program) (fw : ℕ → ℕ) (most
       unfolding act_by code
       fail_runs = fails h.within
 
-      pub plain_runs : (o : Act) → IsPlain o → EachAct inlined_kind o → EachAct vectorised_kind o → PlainRanged o → Lies o d → Going P k n xs e c goes → Skipping P k xs o goes
+      pub plain_runs : (o : Act) → IsLeaf o → EachAct inlined_kind o → EachAct vectorised_kind o → PlainRanged o → Lies o d → Going P k n xs e c goes → Skipping P k xs o goes
           → Matches P k (grin.then_do (act_by g gcalls true env d o w) goes) (does e (plain_code width rs xs n o c) (world_image width frames w))
       unfolding EachAct
       plain_runs (unit v) pl inl' vec r le go skip = m.unit_runs g p fw most rs first same_globals width wide gcalls lcalls top under P k n xs e c goes scope env w frames d apart h v vec.1 r go skip

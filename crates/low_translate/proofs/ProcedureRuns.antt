@@ -6,7 +6,7 @@ use Rattle.std.proofs.lemmas.List.{length-map}
 use Rattle.seq.proofs.Order.{more_times, le_or_lt}
 use Rattle.seq.proofs.Truth.{and_left}
 use Rattle.seq.proofs.Lists.{get_within, all_get}
-use Rattle.grin_syntax.specs.Binders.{times, numbers_of, code_vars, procedure_vars, procs_vars, program_vars}
+use Rattle.grin_syntax.specs.Binders.{numbers_of, code_vars, procedure_vars, procs_vars, program_vars}
 use Rattle.grin_syntax.specs.Formed.{AllOf}
 use Rattle.grin_syntax.specs.Fresh.{past_procs}
 use Rattle.grin_syntax.specs.Tree as grin_tree
@@ -26,12 +26,14 @@ use Rattle.low_code.specs.Run.{as_many}
 use Rattle.low_translate.specs.Translation.{results_of, procedure_code, procedure_numbers, procedures_code, program_code}
 use Rattle.low_translate.specs.Lowered.{CodeRanged, CodeGives, EachGives}
 use Rattle.low_translate.proofs.Images.{images, word_image, words_of_value, fit, length_fit, world_image, InRange, SoundWorld, none_some, some_same}
-use Rattle.low_translate.proofs.Operands.{bound, with_vars_bound, agrees_each, times_append}
+use Rattle.low_translate.proofs.Operands.{bound, with_vars_bound, agrees_each}
 use Rattle.low_translate.proofs.Bindings.{each_many}
 use Rattle.low_translate.proofs.ScopedOnce.{Scoped, scoped_rest, scoped_below}
 use Rattle.low_translate.proofs.Standings.{Standing}
 use Rattle.low_translate.proofs.Matches.{free, Match, missed, fails, ran_out, given, CallsMatch}
 use Rattle.low_translate.proofs.Simulates as blocks
+use Rattle.seq.specs.Lists.{times}
+use Rattle.seq.proofs.Counted.{times_append}
 
 -- ---- the procedures and their translations
 

@@ -1,9 +1,9 @@
 -- Variables in scope and those that a piece binds: each once, and all below the first number that is free.
 use Rattle.std.proofs.Common.{◌≡◌, ◌≤◌, ◌<◌, ℕ, ◌+◌, cond, List, [], ◌∷◌, ◌++◌, refl, sym, subst, arith}
 use Rattle.std.proofs.lemmas.Bool.{eq-eqb}
-use Rattle.grin_syntax.specs.Binders.{times}
 use Rattle.grin_syntax.specs.Formed.{AllOf}
-use Rattle.low_translate.proofs.Operands.{times_append}
+use Rattle.seq.specs.Lists.{times}
+use Rattle.seq.proofs.Counted.{times_append}
 
 -- the variables in scope, and those that are bound from here on
 pub record Scoped (first : ℕ) (scope vars : List ℕ) : Type 0 where

@@ -1,36 +1,26 @@
 -- Blocks of low code whose operands are in scope, whose literals are words, and whose arms have few tests.
-use Rattle.std.proofs.Common.{◌≡◌, ◌≤◌, ◌<◌, ◌^◌, inl, inr, ℕ, zero, suc, ◌+◌, Bool, true, false, cond, List, [], ◌∷◌, ◌++◌, length, take, drop, refl, sym, ap, ◌∙◌, arith, lit<}
-use Rattle.std.specs.Prelude.{nat_lt, nat_eq, ◌||◌}
-use Rattle.std.proofs.lemmas.Bool.{eq-eqb}
+use Rattle.std.proofs.Common.{◌≡◌, ◌≤◌, ◌<◌, ◌^◌, inl, inr, ℕ, zero, suc, ◌+◌, Bool, true, false, List, [], ◌∷◌, ◌++◌, length, take, drop, sym, ap, ◌∙◌, arith, lit<}
+use Rattle.std.specs.Prelude.{nat_lt, ◌||◌}
 use Rattle.std.proofs.lemmas.Bool.Decides.{eqb_tells}
 use Rattle.grin_syntax.specs.declared.program.Cell as C
-use Rattle.grin_syntax.specs.Binders.{times}
-use Rattle.grin_syntax.specs.Formed.{AllOf, InScope}
+use Rattle.grin_syntax.specs.Formed.{AllOf}
 use Rattle.low_code.specs.declared.program.LowTest.{LowTest}
 use Rattle.low_code.specs.declared.program.PrimOp.{PrimOp}
 use Rattle.low_code.specs.declared.program.Operand.{Operand}
 use Rattle.low_code.specs.declared.program.Operand.TheVariants.{Var, Num, Cell}
 use Rattle.low_code.specs.Tree.{Code, set, prim, load, put, get, call, join, give, tail, choose, fail, Arms, otherwise, arm}
-use Rattle.low_code.specs.Formed.{is_among, Known, AllKnown, TestsKnown, Scoped, ArmsScoped}
+use Rattle.low_code.specs.Formed.{Known, AllKnown, TestsKnown, Scoped, ArmsScoped}
 use Rattle.low_code.specs.Literals.{IsSmall, AreSmall, TestsSmall, Small, ArmsSmall}
 use Rattle.low_code.specs.Size.{FewTests, ArmsFewTests}
 use Rattle.low_translate.specs.Translation.{operands_of, fitted, variables_of, nth_operand, is_number, tested, sets, to_first, load_word, loads, saves, taken, stores}
+use Rattle.seq.specs.Lists.{is_among}
+use Rattle.seq.proofs.Counted.{among_later, among_first}
 
 -- ---- numbers among others
 
 -- each number of the first list is in the second
 pub record More (xs ys : List ℕ) : Type 0 where
   pub by : (x : ℕ) → is_among x xs ≡ true → is_among x ys ≡ true
-
-pub is_here : (x : ℕ) (xs : List ℕ) → is_among x (x ∷ xs) ≡ true
-is_here x xs = ap (λ b. b || is_among x xs) (eq-eqb x x refl)
-
-is_later : (z x : ℕ) (xs : List ℕ) → is_among z xs ≡ true → is_among z (x ∷ xs) ≡ true
-is_later z x xs h = by (nat_eq z x)
-  where
-    by : (b : Bool) → (b || is_among z xs) ≡ true
-    by true = refl
-    by false = h
 
 pub more_self : (xs : List ℕ) → More xs xs
 more_self xs = record { by = λ x h. h }
@@ -42,7 +32,7 @@ pub more_chain : {xs ys zs : List ℕ} → More xs ys → More ys zs → More xs
 more_chain m n = record { by = λ x h. n.by x (m.by x h) }
 
 pub more_later : (x : ℕ) (xs : List ℕ) → More xs (x ∷ xs)
-more_later x xs = record { by = λ z h. is_later z x xs h }
+more_later x xs = record { by = λ z h. among_later z x xs h }
 
 pub more_cons : (x : ℕ) (xs ys : List ℕ) → is_among x ys ≡ true → More xs ys → More (x ∷ xs) ys
 more_cons x xs ys h m = record {
@@ -53,14 +43,14 @@ more_cons x xs ys h m = record {
 }
 
 pub more_first : (x : ℕ) (xs ys : List ℕ) → More (x ∷ xs) ys → is_among x ys ≡ true
-more_first x xs ys m = m.by x (is_here x xs)
+more_first x xs ys m = m.by x (among_first x xs)
 
 pub more_rest : (x : ℕ) (xs ys : List ℕ) → More (x ∷ xs) ys → More xs ys
 more_rest x xs ys m = more_chain (more_later x xs) m
 
 pub more_left : (xs ys : List ℕ) → More xs (xs ++ ys)
 more_left [] ys = more_none ys
-more_left (x ∷ xs) ys = more_cons x xs (x ∷ (xs ++ ys)) (is_here x (xs ++ ys)) (more_chain (more_left xs ys) (more_later x (xs ++ ys)))
+more_left (x ∷ xs) ys = more_cons x xs (x ∷ (xs ++ ys)) (among_first x (xs ++ ys)) (more_chain (more_left xs ys) (more_later x (xs ++ ys)))
 
 pub more_right : (xs ys : List ℕ) → More ys (xs ++ ys)
 more_right [] ys = more_self ys
@@ -76,14 +66,6 @@ more_parts zero [] zs m n = n
 more_parts zero (x ∷ xs) zs m n = n
 more_parts (suc k) [] zs m n = n
 more_parts (suc k) (x ∷ xs) zs m n = more_cons x xs zs (more_first x (take k xs) zs m) (more_parts k xs zs (more_rest x (take k xs) zs m) n)
-
-pub among_in : (x : ℕ) (xs : List ℕ) → InScope xs x → is_among x xs ≡ true
-among_in x [] h = absurd (omega (arith, h))
-among_in x (y ∷ ys) h = by (nat_eq x y) (among_in x ys) h
-  where
-    by : (b : Bool) → (InScope ys x → is_among x ys ≡ true) → 0 < cond b 1 0 + times x ys → (b || is_among x ys) ≡ true
-    by true r k = refl
-    by false r k = r (omega (arith, k))
 
 module _ (globals : ℕ) where
   -- ---- operands

@@ -21,9 +21,11 @@ use Rattle.low_code.specs.Formed.{AllScoped}
 use Rattle.low_code.specs.Literals.{AllSmall}
 use Rattle.low_code.specs.Size.{AllFewTests}
 use Rattle.low_translate.specs.declared.blocks.Goal.{Goal}
-use Rattle.low_translate.specs.Translation.{operand_of, operands_of, operands_of_words, operation_of, fitted, variables_of, numbers_from, nth_operand, tests, sets, load_word, results_of, to_join, end_words, plain_code, through, plain_end, act_code, end_code, code_code, arms_code, procedures_code, procedure_numbers, act_numbers, code_numbers}
+use Rattle.low_translate.specs.Translation.{operand_of, operands_of, operands_of_words, operation_of, fitted, variables_of, nth_operand, tests, sets, load_word, results_of, to_join, end_words, plain_code, through, plain_end, act_code, end_code, code_code, arms_code, procedures_code, procedure_numbers, act_numbers, code_numbers}
 use Rattle.low_translate.specs.Lowered.{Has32Bits, WordRanged, ValRanged, ShapeRanged, PlainRanged, ActRanged, CodeRanged, ArmsRanged}
-use Rattle.low_translate.proofs.Scopes.{More, more_self, more_chain, more_left, more_right, more_append, more_parts, more_first, more_rest, among_in, Good, AllGood, Fine, ArmsFine, TestsFine, Onward, CellGood, fitted_good, nth_good, variables_good, no_tests, tested_fine, fine_prim, fine_put, fine_get, fine_call, fine_join, fine_give, fine_tail, fine_fail, fine_choose, fine_otherwise, fine_arm, sets_fine, word_fine, loads_fine, first_fine, saves_fine, taken_fine, stores_fine}
+use Rattle.low_translate.proofs.Scopes.{More, more_self, more_chain, more_left, more_right, more_append, more_parts, more_first, more_rest, Good, AllGood, Fine, ArmsFine, TestsFine, Onward, CellGood, fitted_good, nth_good, variables_good, no_tests, tested_fine, fine_prim, fine_put, fine_get, fine_call, fine_join, fine_give, fine_tail, fine_fail, fine_choose, fine_otherwise, fine_arm, sets_fine, word_fine, loads_fine, first_fine, saves_fine, taken_fine, stores_fine}
+use Rattle.seq.specs.Lists.{numbers_from}
+use Rattle.grin_meaning.proofs.Scopes.{among_in}
 
 pattern_small : (k : ℤ) → Has32Bits k → pattern k < 2 ^ 32
 pattern_small (pos k) h = omega (arith, h)

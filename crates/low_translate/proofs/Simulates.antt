@@ -1,7 +1,7 @@
 -- A block of low code does what the block of GRIN does that it comes from, wherever the calls do.
 use Rattle.std.proofs.Common.{◌≡◌, ◌≤◌, ◌<◌, ℕ, suc, ◌+◌, ◌*◌, true, false, List, ◌++◌, length, Option, Some, None, arith}
 use Rattle.seq.proofs.Truth.{false_not_true}
-use Rattle.grin_syntax.specs.Binders.{times, target_vars, shape_vars, cell_vars, act_vars, code_vars, arms_vars}
+use Rattle.grin_syntax.specs.Binders.{target_vars, shape_vars, cell_vars, act_vars, code_vars, arms_vars}
 use Rattle.grin_syntax.specs.Tree as grin_tree
 use Rattle.grin_syntax.specs.Tree.{Act, call, case, nested, Code, end, store, bind, Arms, no_arm, arm}
 use Rattle.grin_meaning.specs.Values as grin
@@ -18,7 +18,6 @@ use Rattle.low_translate.specs.declared.blocks.Goal.{Goal}
 use Rattle.low_translate.specs.Translation.{operands_of, to_join, act_numbers, code_numbers, act_code, end_code, code_code, arms_code}
 use Rattle.low_translate.specs.Lowered.{ActRanged, CodeRanged, ArmsRanged, ActGives, CodeGives, ArmsGive}
 use Rattle.low_translate.proofs.Images.{images, words_of_value, world_image, SoundValue}
-use Rattle.low_translate.proofs.Operations.{IsPlain}
 use Rattle.low_translate.proofs.ScopedOnce.{Scoped, scoped_front, scoped_back, scoped_rest, scoped_apart, scoped_once, scoped_below}
 use Rattle.low_translate.proofs.Standings.{Standing, Giving}
 use Rattle.low_translate.proofs.Matches as m
@@ -27,6 +26,8 @@ use Rattle.low_translate.proofs.PlainRuns as plain
 use Rattle.low_translate.proofs.EndRuns as ends
 use Rattle.low_translate.proofs.BoundRuns as binds
 use Rattle.low_translate.proofs.Choices as choices
+use Rattle.seq.specs.Lists.{times}
+use Rattle.grin_meaning.proofs.Plain.{IsLeaf}
 
 module _ (g : grin_tree.Program) (rs : List ℕ) (width most first : ℕ) where
   -- what is known of the text of a piece, whose further numbers begin at n
@@ -148,7 +149,7 @@ module _ (g : grin_tree.Program) (p : low_tree.Program) (fw : ℕ → ℕ) (most
   lows top under e c w = code p fw free lcalls e top under c w
 
   -- an operation without blocks
-  plain_act : (P : Value → Type 0) (k n : ℕ) (xs : List ℕ) (e : low.Env) (c : low_tree.Code) (goes : Value → grin.World → grin.Answer) (d top : ℕ) (under : Option ℕ) → top ≤ d * most → (scope : List ℕ) (o : Act) → IsPlain o → ActPiece g rs width most first (to_join xs) scope n o
+  plain_act : (P : Value → Type 0) (k n : ℕ) (xs : List ℕ) (e : low.Env) (c : low_tree.Code) (goes : Value → grin.World → grin.Answer) (d top : ℕ) (under : Option ℕ) → top ≤ d * most → (scope : List ℕ) (o : Act) → IsLeaf o → ActPiece g rs width most first (to_join xs) scope n o
       → ((x : ℕ) → 0 < times x scope → times x xs ≡ 0) → (env : grin.Env) (w : grin.World) (frames : ℕ) → At top under scope env e w frames
       → m.Goes g p fw most rs first same_globals width wide gcalls lcalls top under P k n xs e c goes → binds.Passes g p fw most rs first same_globals width wide gcalls lcalls top under P k xs goes
       → Matches P k (grin.then_do (act_by g gcalls true env d o w) goes) (lows top under e (act_code width rs xs n o c) (world_image width frames w))
@@ -158,7 +159,7 @@ module _ (g : grin_tree.Program) (p : low_tree.Program) (fw : ℕ → ℕ) (most
   plain_act P k n xs e c goes d top under le scope o pl h apart env w frames at go pass =
       plain.plain_runs g p fw most rs first same_globals width wide gcalls lcalls calls_match top under P k n xs e c goes scope env w frames d apart at o pl h.inlined h.vectorised h.ranged (lies o d top under le) go (λ v w' sv sw wd lt a. pass v w' sv sw lt a)
 
-  plain_end : (P : Value → Type 0) (goal : Goal) (d top : ℕ) (under : Option ℕ) → Standing g rs width most P goal d top under → (n : ℕ) (scope : List ℕ) (o : Act) → IsPlain o → ActPiece g rs width most first goal scope n o → (env : grin.Env) (e : low.Env) (w : grin.World) (frames : ℕ) → At top under scope env e w frames
+  plain_end : (P : Value → Type 0) (goal : Goal) (d top : ℕ) (under : Option ℕ) → Standing g rs width most P goal d top under → (n : ℕ) (scope : List ℕ) (o : Act) → IsLeaf o → ActPiece g rs width most first goal scope n o → (env : grin.Env) (e : low.Env) (w : grin.World) (frames : ℕ) → At top under scope env e w frames
       → Matches P goal.words (act_by g gcalls true env d o w) (lows top under e (end_code width rs goal n o) (world_image width frames w))
   unfolding act_code ActRanged
   plain_end P goal d top under s n scope (case v as') pl h env e w frames at = absurd pl

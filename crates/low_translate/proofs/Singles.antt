@@ -4,7 +4,6 @@ use Rattle.seq.proofs.Lists.{map_get, all_get}
 use Rattle.headline.specs.Carries.{IsBytes}
 use Rattle.grin_syntax.specs.declared.program.PrimOp as G
 use Rattle.grin_syntax.specs.declared.program.Word as W
-use Rattle.grin_syntax.specs.Binders.{times}
 use Rattle.grin_syntax.specs.Tree as grin_tree
 use Rattle.grin_syntax.specs.Tree.{Act, fetch_word, prim, read}
 use Rattle.grin_meaning.specs.Values as grin
@@ -24,6 +23,7 @@ use Rattle.low_translate.proofs.Operands.{bound, operand_is}
 use Rattle.low_translate.proofs.Pieces.{sets_run, loads_run}
 use Rattle.low_translate.proofs.Figures.{arithmetic_same, arithmetic_has}
 use Rattle.low_translate.proofs.Matches.{free, node_word_image, node_word_ranged, Match, missed, Goes, Skips, Wide, Here, finish, place_is}
+use Rattle.seq.specs.Lists.{times}
 
 module _ (g : grin_tree.Program) (p : low_tree.Program) (fw : ℕ → ℕ) (most : ℕ) (rs : List ℕ) (first : ℕ) (same_globals : length p.globals ≡ length g.globals) (width : ℕ) (wide : width ≡ 1 + most_fields g.tags) (gcalls : grin_run.Calls) (lcalls : Calls) (top : ℕ) (under : Option ℕ) where
   abbrev does : low.Env → low_tree.Code → low.World → low.Answer

@@ -1,10 +1,9 @@
 -- The translation is small beside the program.
-use Rattle.std.proofs.Common.{◌≡◌, ◌≤◌, ℕ, zero, suc, ◌+◌, ◌*◌, ◌-◌, min, Bool, true, false, List, [], ◌∷◌, ◌++◌, length, take, drop, refl, ap, arith, length-append}
+use Rattle.std.proofs.Common.{◌≡◌, ◌≤◌, ℕ, suc, ◌+◌, ◌*◌, ◌-◌, min, Bool, true, false, List, [], ◌∷◌, ◌++◌, length, take, drop, refl, ap, arith, length-append}
 use Rattle.grin_syntax.specs.declared.program.Target.{Target}
 use Rattle.grin_syntax.specs.declared.program.Target.TheVariants as to
-use Rattle.grin_syntax.specs.declared.program.VarId.{VarId}
 use Rattle.grin_syntax.specs.declared.program.Cell as C
-use Rattle.grin_syntax.specs.Binders.{numbers_of, target_vars, cell_vars}
+use Rattle.grin_syntax.specs.Binders.{target_vars, cell_vars}
 use Rattle.grin_syntax.specs.Formed.{AllOf}
 use Rattle.grin_syntax.specs.Tree as grin
 use Rattle.grin_syntax.specs.Tree.{Act, unit, fetch, fetch_word, update, eval, apply, call, prim, read, write, case, nested, fail, end, store, bind, no_arm, arm}
@@ -14,19 +13,14 @@ use Rattle.low_code.specs.declared.program.Operand.{Operand}
 use Rattle.low_code.specs.Tree as low
 use Rattle.low_code.specs.Size.{code_size, arms_size, sizes}
 use Rattle.low_translate.specs.declared.blocks.Goal.{Goal}
-use Rattle.low_translate.specs.Translation.{operand_of, operands_of, operands_of_words, operation_of, fitted, variables_of, numbers_from, sets, load_word, stores, results_of, to_join, end_words, act_numbers, code_numbers, plain_code, through, plain_end, act_code, end_code, code_code, arms_code, procedures_code, procedure_numbers}
+use Rattle.low_translate.specs.Translation.{operand_of, operands_of, operands_of_words, operation_of, fitted, variables_of, sets, load_word, stores, results_of, to_join, end_words, act_numbers, code_numbers, plain_code, through, plain_end, act_code, end_code, code_code, arms_code, procedures_code, procedure_numbers}
 use Rattle.low_translate.proofs.Numbered.{length_parts, length_past}
-use Rattle.low_translate.proofs.Operations.{length_numbers, IsPlain}
+use Rattle.low_translate.proofs.Operations.{length_fitted}
 use Rattle.low_translate.proofs.Parts.{words_many, sets_size, word_size, loads_size, first_size, saves_size, taken_size, stores_size}
-
-fitted_many : (k : ℕ) (as' : List Operand) → length (fitted k as') ≡ k
-fitted_many zero as' = refl
-fitted_many (suc k) [] = ap suc (fitted_many k [])
-fitted_many (suc k) (a ∷ as') = ap suc (fitted_many k as')
-
-numbers_many : (ys : List VarId) → length (numbers_of ys) ≡ length ys
-numbers_many [] = refl
-numbers_many (y ∷ ys) = ap suc (numbers_many ys)
+use Rattle.seq.specs.Lists.{numbers_from}
+use Rattle.seq.proofs.Counted.{length_numbers}
+use Rattle.grin_syntax.proofs.Counted.{length_numbers as numbers_many}
+use Rattle.grin_meaning.proofs.Plain.{IsLeaf}
 
 cells_many : (cs : List C.Cell) → length (cell_vars cs) ≡ length cs
 cells_many [] = refl
@@ -80,7 +74,7 @@ module _ (width : ℕ) (rs : List ℕ) (few_results : (f : ℕ) → results_of r
   plain_size xs n (update a v) c =
       let h = saves_size (operand_of a) 0 (fitted width (operands_of v)) (sets xs [] c) in
       let k = sets_size xs [] c in
-      let m = fitted_many width (operands_of v) in
+      let m = length_fitted width (operands_of v) in
       omega (arith, h, k, m, few_fields)
   plain_size xs n (call f ws) c =
       let h = call_size f.0 n (results_of rs f.0) (operands_of_words ws) xs c in
@@ -126,7 +120,7 @@ module _ (width : ℕ) (rs : List ℕ) (few_results : (f : ℕ) → results_of r
         let xs : List ℕ = numbers_from n e in
         let h = plain_size xs (n + e) o (low.give (fitted goal.words (variables_of xs))) in
         let m = length_numbers n e in
-        let k = fitted_many goal.words (variables_of xs) in
+        let k = length_fitted goal.words (variables_of xs) in
         let l = single_light goal.words o s in
         omega (arith, h, m, k, l, few_words)
 
@@ -136,12 +130,12 @@ module _ (width : ℕ) (rs : List ℕ) (few_results : (f : ℕ) → results_of r
     through_call_size n f as' r le =
         let h = call_size f (n + r) r as' (numbers_from n r) (low.give (fitted goal.words (variables_of (numbers_from n r)))) in
         let m = length_numbers n r in
-        let k = fitted_many goal.words (variables_of (numbers_from n r)) in
+        let k = length_fitted goal.words (variables_of (numbers_from n r)) in
         omega (arith, h, m, k, le, few_words)
 
-    end_size : (n : ℕ) (o : Act) → IsPlain o → code_size (plain_end width rs goal n o) ≤ 4 * act_weight o
+    end_size : (n : ℕ) (o : Act) → IsLeaf o → code_size (plain_end width rs goal n o) ≤ 4 * act_weight o
     unfolding act_weight
-    end_size n (unit v) s = let k = fitted_many goal.words (operands_of v) in omega (arith, k, few_words)
+    end_size n (unit v) s = let k = length_fitted goal.words (operands_of v) in omega (arith, k, few_words)
     end_size n fail s = omega arith
     end_size n (eval w) s = omega arith
     end_size n (apply v w) s = omega arith
@@ -159,7 +153,7 @@ module _ (width : ℕ) (rs : List ℕ) (few_results : (f : ℕ) → results_of r
     end_size n (case v as') s = absurd s
     end_size n (nested b) s = absurd s
 
-  own_light : (o : Act) → IsPlain o → own o ≤ 4 * act_weight o
+  own_light : (o : Act) → IsLeaf o → own o ≤ 4 * act_weight o
   unfolding act_weight
   own_light (unit v) s = omega arith
   own_light (fetch a) s = omega arith
@@ -175,7 +169,7 @@ module _ (width : ℕ) (rs : List ℕ) (few_results : (f : ℕ) → results_of r
   own_light (nested b) s = absurd s
   own_light fail s = omega arith
 
-  plain_act_size : (xs : List ℕ) (n : ℕ) (o : Act) (c : low.Code) → IsPlain o → code_size (plain_code width rs xs n o c) ≤ 4 * act_weight o + 3 * length xs + code_size c
+  plain_act_size : (xs : List ℕ) (n : ℕ) (o : Act) (c : low.Code) → IsLeaf o → code_size (plain_code width rs xs n o c) ≤ 4 * act_weight o + 3 * length xs + code_size c
   plain_act_size xs n o c s = let h = plain_size xs n o c in let k = own_light o s in omega (arith, h, k)
 
   -- ---- all pieces

@@ -6,7 +6,7 @@ use Rattle.std.proofs.lemmas.List.{length-take, length-replicate}
 use Rattle.seq.proofs.Truth.{and_left, and_right}
 use Rattle.grin_syntax.specs.declared.program.Cell as C
 use Rattle.grin_syntax.specs.declared.program.Val as V
-use Rattle.grin_syntax.specs.Binders.{times, cell_vars}
+use Rattle.grin_syntax.specs.Binders.{cell_vars}
 use Rattle.grin_syntax.specs.Formed.{AllOf}
 use Rattle.grin_syntax.specs.Tree as grin_tree
 use Rattle.grin_meaning.specs.Values as grin
@@ -27,6 +27,7 @@ use Rattle.low_translate.proofs.Images.{images, words_of_value, fit, length_fit,
 use Rattle.low_translate.proofs.Operands.{bound, with_vars_bound, Agrees, value_is, fitted_are}
 use Rattle.low_translate.proofs.Pieces.{over_zeros, over_all, saves_run, bound_other}
 use Rattle.low_translate.proofs.Deciding.{stands, stands_sound, same_cell, filled_value}
+use Rattle.seq.specs.Lists.{times}
 
 -- the first operands
 operands_front : (p : low_tree.Program) (fw : ℕ → ℕ) (env : Env) (k : ℕ) (as' : List Operand) (ws : List Word) → operands p fw env as' ≡ Some ws → operands p fw env (take k as') ≡ Some (take k ws)

@@ -23,6 +23,7 @@ use Rattle.low_code.specs.declared.program.LowTest.{LowTest}
 use Rattle.low_code.specs.Tree as low
 use Rattle.low_translate.specs.declared.blocks.Goal.{Goal}
 use Rattle.low_code.specs.Tree.{Code, Arms, set, load, save, take as take_cells, put, get, join, give, tail, choose, otherwise, arm}
+use Rattle.seq.specs.Lists.{numbers_from}
 
 -- ---- words and values
 
@@ -58,11 +59,6 @@ operation_of grin_op.Eq = op.Eq
 operation_of grin_op.Lt = op.Lt
 
 -- ---- variables and cells
-
--- k numbers from n on
-abbrev pub numbers_from : ℕ → ℕ → List ℕ
-numbers_from n zero = []
-numbers_from n (suc k) = n ∷ numbers_from (suc n) k
 
 abbrev pub variables_of : List ℕ → List Operand
 variables_of xs = map Var xs

@@ -1,7 +1,7 @@
 // Numbers for variables and sites of calls that no others have.
 
 ghost use Rattle.std.specs.Prelude.{◌≡◌, ◌+◌, suc, IfOk, OnOk};
-ghost use Rattle.low_translate.specs.Translation.{numbers_from};
+ghost use Rattle.seq.specs.Lists.{numbers_from};
 
 use seq::Seq;
 use std::alloc::{AllocError, Global};

@@ -3,7 +3,8 @@ use Rattle.std.specs.Prelude.{◌≡◌, ℕ, ◌≤◌, true, List, [], ◌∷�
 use Rattle.low_code.specs.declared.program.PrimOp.TheVariants.{Add}
 use Rattle.low_code.specs.declared.program.Operand.TheVariants.{Var, Num}
 use Rattle.low_code.specs.Tree.{Code, set, prim, take, call, join, give, tail, choose, otherwise, arm, Procedure, Program}
-use Rattle.low_code.specs.Formed.{Formed, is_among, all_variables, all_sites}
+use Rattle.low_code.specs.Formed.{Formed, all_variables, all_sites}
+use Rattle.seq.specs.Lists.{is_among}
 
 -- each procedure takes at most 16 words and gives at most 13
 abbrev pub AreFew : List Procedure → Type 0

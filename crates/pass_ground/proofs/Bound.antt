@@ -4,10 +4,11 @@ use Rattle.grin_syntax.specs.declared.program.VarId.{VarId}
 use Rattle.grin_syntax.specs.declared.program.Cell.{Cell}
 use Rattle.grin_syntax.specs.declared.program.Target.{Target}
 use Rattle.grin_syntax.specs.declared.program.Target.TheVariants as to
-use Rattle.grin_syntax.specs.Binders.{times, numbers_of, target_vars, cell_vars}
+use Rattle.grin_syntax.specs.Binders.{numbers_of, target_vars, cell_vars}
 use Rattle.grin_syntax.specs.Tree.{Program}
 use Rattle.grin_meaning.specs.Values.{Datum, tag, Node, Value, node, words, Env, and_then, padded, Binding, with_vars, one_each, as_node, bindings_of}
 use Rattle.grin_meaning.specs.Run.{places}
+use Rattle.seq.specs.Lists.{times}
 
 abbrev pub names_of : List Binding → List ℕ
 names_of bs = map {A = Binding} (λ b. b.0) bs

@@ -1,16 +1,14 @@
 -- Small facts of tests and lists.
-use Rattle.std.proofs.Common.{◌≡◌, ℕ, ◌+◌, Bool, true, false, List, [], ◌∷◌, ◌++◌, ap, arith}
+use Rattle.std.proofs.Common.{◌≡◌, ℕ, ◌+◌, Bool, true, false, List, [], ◌∷◌, ◌++◌, arith}
 use Rattle.grin_syntax.specs.declared.program.VarId.{VarId}
-use Rattle.grin_syntax.specs.Binders.{times, numbers_of}
+use Rattle.grin_syntax.specs.Binders.{numbers_of}
 use Rattle.grin_syntax.specs.Formed.{AllOf}
+use Rattle.seq.specs.Lists.{times}
 
 -- ---- tests
 
 pub never_both : {A : Type 0} {b : Bool} → b ≡ true → b ≡ false → A
 never_both h k = cc
-
-pub same_var : (x y : VarId) → x.0 ≡ y.0 → x ≡ y
-same_var x y e = ap (λ n. record { 0 = n }) e
 
 -- ---- lists
 

@@ -16,7 +16,6 @@ pub mod OnePart
 pub mod FromRuns
 pub mod TablesOfRuns
 pub mod ByParts
-pub mod Search
 pub mod Solved
 pub mod Read
 pub mod TagsInCells

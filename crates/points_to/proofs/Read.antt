@@ -7,7 +7,6 @@ use Rattle.std.specs.Ordering.{nat_cmp, match_ordering}
 use Rattle.std.specs.declared.cmp.Ordering.{Ordering}
 use Rattle.std.specs.declared.cmp.Ordering.TheVariants.{Less, Equal, Greater}
 use Rattle.std.specs.BTreeSet.{insert_key}
-use Rattle.std.proofs.lemmas.Bool.Decides.{nat_tests}
 use lib.Dec.{eqb}
 use Rattle.std.proofs.lemmas.List.Kept.{Contains-dedup_nat, Contains-from_dedup}
 use Rattle.std.proofs.lemmas.List.Sorted.{Contains-permutation, IsPermutation-sym}
@@ -28,9 +27,7 @@ use Rattle.points_to.specs.Joined.{Joined}
 use Rattle.seq.proofs.Member.{none_in, cons_in, one_in, when_in, in_flat, flat_in}
 use Rattle.seq.proofs.Truth.{or_cases, or_true, both_ways}
 use Rattle.seq.proofs.Order.{lt_or_le, eq_from, eq_self}
-
-nat_equal : (m n : ℕ) → nat_cmp m n ≡ Equal → m ≡ n
-nat_equal m n e = grind (arith, nat_tests)
+use Rattle.flow_system.proofs.Numbered.{nat_equal}
 
 -- a number is put into an ordered list
 number_kept : (ks : List ℕ) (k j : ℕ) → In j ks → In j (insert_key nat_cmp ks k)

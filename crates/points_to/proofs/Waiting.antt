@@ -10,12 +10,13 @@ use Rattle.std.specs.FinMap.{nat_cmp-IsAntisymmetric}
 use Rattle.flow_system.specs.declared.fact.Place.{Place}
 use Rattle.points_to.specs.Held.{In, here, there}
 use Rattle.points_to.specs.Rows.{Gets}
-use Rattle.points_to.specs.Waiting.{slot, numbers_in, numbers_at, Registers}
+use Rattle.points_to.specs.Waiting.{slot, numbers_at, Registers}
 use Rattle.seq.proofs.Member.{cons_in, one_in, in_left, in_right, in_split}
 use Rattle.seq.proofs.Order.{same_or_not}
+use Rattle.seq.specs.Lists.{or_empty}
 
 numbers_some : (xs : List (List ℕ)) (n : ℕ) (s : List ℕ) → n < length xs → s ≡ get_or xs n s → numbers_at xs n ≡ s
-numbers_some xs n s lt e = ap numbers_in (slice_get_read xs (length xs) n s refl lt e)
+numbers_some xs n s lt e = ap or_empty (slice_get_read xs (length xs) n s refl lt e)
 
 empty_more : (xs : List (List ℕ)) (s : List ℕ) → s ≡ [] → (n : ℕ) → numbers_at (xs ++ s ∷ []) n ≡ numbers_at xs n
 empty_more [] s e zero = e

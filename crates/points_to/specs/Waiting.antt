@@ -1,11 +1,12 @@
 -- The inclusions that wait, and those that are registered as readers of places.
-use Rattle.std.specs.Prelude.{◌≡◌, ◌+◌, ◌*◌, ◌<◌, ◌≤◌, ℕ, suc, ◌⊎◌, List, [], ◌∷◌, ◌++◌, length, get_or, Option, Some, None, slice_get}
+use Rattle.std.specs.Prelude.{◌≡◌, ◌+◌, ◌*◌, ◌<◌, ◌≤◌, ℕ, suc, ◌⊎◌, List, [], ◌∷◌, ◌++◌, length, get_or, slice_get}
 use Rattle.flow_system.specs.declared.fact.Place.{Place}
 use Rattle.flow_system.specs.declared.fact.Place.TheVariants.{Site, Var, Result}
 use Rattle.points_to.specs.declared.pending.Pending.{Pending}
 use Rattle.points_to.specs.declared.readers.Readers.{Readers}
 use Rattle.points_to.specs.Held.{In}
 use Rattle.points_to.specs.Bits.{block_numbers}
+use Rattle.seq.specs.Lists.{or_empty}
 
 -- the numbers in groups of 64, of which the first has this number
 abbrev pub numbers_from : ℕ → List ℕ → List ℕ
@@ -43,13 +44,9 @@ slot (Site n) = 3 * n
 slot (Var n) = 3 * n + 1
 slot (Result n) = 3 * n + 2
 
-abbrev pub numbers_in : Option (List ℕ) → List ℕ
-numbers_in None = []
-numbers_in (Some ns) = ns
-
 -- the numbers in the row with this number, none where there is no such row
 abbrev pub numbers_at : List (List ℕ) → ℕ → List ℕ
-numbers_at rows n = numbers_in (slice_get rows n)
+numbers_at rows n = or_empty (slice_get rows n)
 
 -- the inclusions that are registered at a place
 abbrev pub readers_of : Readers → Place → List ℕ

@@ -68,9 +68,6 @@ pub record Lists (w : Wanted) (X : List Item) (ns : List ℕ) : Type 0 where
   pub ascending : IsStrictlyIncreasing ns
   pub same : (n : ℕ) → is_in n ns ≡ is_in n (wanted w X)
 
-abbrev pub tag_id : ℕ → TagId
-tag_id t = record { 0 = t }
-
 abbrev pub site_id : ℕ → Site
 site_id s = record { 0 = s }
 

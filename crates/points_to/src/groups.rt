@@ -11,7 +11,8 @@ use std::alloc::{AllocError, Global};
 pub fn whole_groups(alloc: Global, count: u32) -> Result<Vec<u64>, AllocError>
     requires { count ≤ 2 ^ 26 }
     ensures small { IfOk result (λ groups. length groups.items ≤ 2 ^ 26) }
-    ensures all { IfOk result (λ groups. (n : ℕ) → n < 64 * count → In n (numbers_from 0 groups.items)) }
+    ensures all { IfOk result (λ groups. (n : ℕ) → n < 64 * count
+        → In n (numbers_from 0 groups.items)) }
 {
     let mut groups = Vec::new(alloc);
     for g in 0..count {
@@ -38,7 +39,8 @@ fn grow(groups: &mut Vec<u64>, k: usize) -> Result<(), AllocError>
 pub fn put_number(groups: &mut Vec<u64>, n: u32) -> Result<(), AllocError>
     requires { length groups.old.items ≤ 2 ^ 26 }
     ensures small { length groups.new.items ≤ 2 ^ 26 }
-    ensures waits { OnOk result (Waits (numbers_from 0 groups.old.items) (numbers_from 0 groups.new.items) n) }
+    ensures waits { OnOk result (Waits (numbers_from 0 groups.old.items)
+        (numbers_from 0 groups.new.items) n) }
 {
     let k = n as usize / 64;
     grow(groups, k)?;
@@ -51,7 +53,8 @@ pub fn take_lowest(groups: &mut Vec<u64>, k: usize) -> u32
     requires small { length groups.old.items ≤ 2 ^ 26 }
     requires some { HasSome groups.old.items k }
     ensures small { length groups.new.items ≤ 2 ^ 26 }
-    ensures takes { Takes (numbers_from 0 groups.old.items) (numbers_from 0 groups.new.items) result }
+    ensures takes { Takes (numbers_from 0 groups.old.items)
+        (numbers_from 0 groups.new.items) result }
 {
     let bits = groups[k];
     let lowest = bits.trailing_zeros();

@@ -1,4 +1,4 @@
-// The least solution of a flow system: which tags, cells and numbers may stand where in a program.
+//! The least solution of a flow system: which tags, cells and numbers may stand where in a program.
 #![tactic(auto)]
 
 ghost use Rattle.std.specs.Prelude.{IfOk};

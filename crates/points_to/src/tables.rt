@@ -6,7 +6,8 @@ ghost use Rattle.std.specs.List.Sorted.{IsStrictlyIncreasing};
 ghost use Rattle.points_to.specs.Bits.{block_words};
 ghost use Rattle.points_to.specs.Held.{picked};
 ghost use Rattle.points_to.specs.Known.{held};
-ghost use Rattle.points_to.specs.Wanted.{tag_in, site_in, by_parts, place_of, SameSet, Lists, tag_id, site_id, numbers_by, TagTable, SiteTable};
+ghost use Rattle.points_to.specs.Wanted.{tag_in, site_in, by_parts, place_of, SameSet, Lists, site_id, numbers_by, TagTable, SiteTable};
+ghost use Rattle.grin_syntax.specs.Tags.{tag_id};
 
 use crate::bits::{Block, word_of};
 use crate::facts::Facts;
@@ -75,38 +76,13 @@ fn put_all_sites(words: &WordRuns, out: &mut Seq<u32>) -> Result<(), AllocError>
     Ok(())
 }
 
-// The tags in one part of a place.
-fn put_tags_of(
-    alloc: Global,
-    facts: &Facts,
-    place: Place,
-    part: Part,
-    out: &mut Seq<u32>,
-) -> Result<(), AllocError>
-    ensures { OnOk result (out.new ≡ out.old
-        ++ flat_map tag_in (picked part (held facts.now place))) }
+// The words in one part of a place.
+fn words_in(alloc: Global, facts: &Facts, place: Place, part: Part) -> Result<WordRuns, AllocError>
+    ensures { IfOk result (λ words. words ≡ picked part (held facts.now place)) }
 {
     let mut words = WordRuns::new(alloc);
     facts.append_words(place, part, &mut words)?;
-    put_all_tags(&words, out)?;
-    Ok(())
-}
-
-// The sites in one part of a place.
-fn put_sites_of(
-    alloc: Global,
-    facts: &Facts,
-    place: Place,
-    part: Part,
-    out: &mut Seq<u32>,
-) -> Result<(), AllocError>
-    ensures { OnOk result (out.new ≡ out.old
-        ++ flat_map site_in (picked part (held facts.now place))) }
-{
-    let mut words = WordRuns::new(alloc);
-    facts.append_words(place, part, &mut words)?;
-    put_all_sites(&words, out)?;
-    Ok(())
+    Ok(words)
 }
 
 // What is wanted of the items at a place, part by part.
@@ -121,16 +97,16 @@ fn put_parts(
 {
     match w {
         Wanted::NodeTags => {
-            put_tags_of(alloc, facts, place, Part::Tags, out)?;
+            put_all_tags(&words_in(alloc, facts, place, Part::Tags)?, out)?;
             Ok(())
         }
         Wanted::Tags => {
-            put_tags_of(alloc, facts, place, Part::Tags, out)?;
-            put_tags_of(alloc, facts, place, Part::Word(0), out)?;
+            put_all_tags(&words_in(alloc, facts, place, Part::Tags)?, out)?;
+            put_all_tags(&words_in(alloc, facts, place, Part::Word(0))?, out)?;
             Ok(())
         }
         Wanted::Sites => {
-            put_sites_of(alloc, facts, place, Part::Word(0), out)?;
+            put_all_sites(&words_in(alloc, facts, place, Part::Word(0))?, out)?;
             Ok(())
         }
     }

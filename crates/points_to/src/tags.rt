@@ -1,13 +1,13 @@
 // What the tags of a program are.
 
-ghost use Rattle.std.specs.Prelude.{◌≡◌, ◌+◌, IfOk, drop};
-ghost use Rattle.grin_meaning.specs.Run.{is_part, part_from};
+ghost use Rattle.std.specs.Prelude.{◌≡◌, ◌+◌, IfOk};
 ghost use Rattle.flow_system.specs.Tables.{fields_of};
 ghost use Rattle.flow_system.specs.Shown.{tables_of};
 ghost use Rattle.points_to.specs.Held.{is_done, delayed, called, longer, when_one, when_more};
 
 use flow_system::inclusion::FlowSystem;
-use grin_syntax::program::{Tag, TagKind};
+use flow_system::reading::tag_lacking;
+use grin_syntax::program::{ProcId, TagKind};
 use std::alloc::AllocError;
 
 /// The number of fields of a tag.
@@ -74,41 +74,16 @@ pub fn called(system: &FlowSystem, t: u32) -> Option<u32>
     }
 }
 
-// Whether a tag is that of the function f with r arguments missing.
-fn is_part(f: u32, r: u32, tag: &Tag) -> bool
-    ensures { result ≡ is_part f r tag.now }
-{
-    match tag.kind {
-        TagKind::Con => false,
-        TagKind::Fun => false,
-        TagKind::Part => match tag.proc {
-            Some(g) => g.0 == f && tag.missing == r,
-            None => false,
-        },
-    }
-}
-
-// The first tag, from number i on, of the function f with r arguments missing.
-fn part_from(i: u32, tags: &[Tag], f: u32, r: u32) -> Result<Option<u32>, AllocError>
-    ensures { IfOk result (λ t. t ≡ part_from i tags.now f r) }
-{
-    let mut at = i;
-    for tag in tags {
-        if is_part(f, r, tag) {
-            return Ok(Some(at));
-        }
-        at = at.checked_add(1).ok_or(AllocError)?;
-    }
-    Ok(None)
-}
-
 fn when_more(system: &FlowSystem, f: u32, missing: u32) -> Result<Option<u32>, AllocError>
     ensures { IfOk result (λ t. t ≡ when_more (tables_of system.now) f missing) }
 {
     if missing < 2 {
         return Ok(None);
     }
-    part_from(0, system.tags.as_slice(), f, missing - 1)
+    match tag_lacking(system, ProcId(f), missing - 1)? {
+        Some(tag) => Ok(Some(tag.0)),
+        None => Ok(None),
+    }
 }
 
 /// The tag that a function with this tag becomes with one argument more, where it waits for at

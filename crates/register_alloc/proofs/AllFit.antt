@@ -9,7 +9,7 @@ use Rattle.seq.proofs.Truth.{two_ways}
 use Rattle.parallel_move.specs.declared.Spot.{Spot}
 use Rattle.parallel_move.specs.declared.Spot.TheVariants.{Reg, Slot, Scratch}
 use Rattle.low_code.specs.Tree.{Procedure, Program}
-use Rattle.low_code.specs.Formed.{is_among, Distinct, binds, variables, all_variables, calls_in, sites_of, all_sites, Site, Formed}
+use Rattle.low_code.specs.Formed.{Distinct, binds, variables, all_variables, calls_in, sites_of, all_sites, Site, Formed}
 use Rattle.register_alloc.specs.Assignment.{Assignment, place_of, mask_of, may_change, saves_at, words_at}
 use Rattle.register_alloc.specs.Live.{IsLive, EachBindingOf}
 use Rattle.register_alloc.specs.Written.{Assigned, variable, result, Written, assigned, called}
@@ -24,14 +24,16 @@ use Rattle.register_alloc.specs.Gathered.{HaveFewResults, HaveFewParameters, Gat
 use Rattle.register_alloc.specs.declared.registers.Given.{Given}
 use Rattle.register_alloc.specs.declared.registers.CallSite.{CallSite}
 use Rattle.register_alloc.specs.declared.registers.Registers.{Registers}
-use Rattle.register_alloc.proofs.Lists.{among_cases, among_first, among_more, among_left, among_either}
-use Rattle.register_alloc.proofs.Counted.{times_append, once}
+use Rattle.register_alloc.proofs.Lists.{among_first, among_either}
+use Rattle.register_alloc.proofs.Counted.{once}
 use Rattle.register_alloc.proofs.NotLater.{none_later, scoped_at}
 use Rattle.register_alloc.proofs.LiveCalls.{sites_of_points, points_calls, to_point, from_point, each_weaker}
 use Rattle.register_alloc.proofs.Tables.{given_among}
 use Rattle.register_alloc.proofs.ResultMask.{result_bit, bit_result}
 use Rattle.register_alloc.proofs.Pigeons.{no_more}
 use Rattle.register_alloc.proofs.Procedures.{numbered_place, registers_of, register_among, numbered_many, numbered_slots, given_place, calls_of, noted, note_at, call_at, sites_are, procs_are, longest_is, live_is_bound, At, gathered_at, procedure_of_own, procedure_of_called, walk_of_call, variables_gathered, sites_gathered, lengths_gathered}
+use Rattle.seq.specs.Lists.{numbers_from, is_among}
+use Rattle.seq.proofs.Counted.{among_later, among_cases, length_numbers, times_append, among_left}
 
 -- ---- lists
 
@@ -43,7 +45,7 @@ there_or_not (x ∷ xs) (suc i) d = there_or_not xs i d
 stands_among : (xs : List ℕ) (i x : ℕ) → slice_get xs i ≡ Some x → is_among x xs ≡ true
 stands_among [] i x e = cc
 stands_among (y ∷ xs) zero x e = among_first x y xs (sym (same_Some y x e))
-stands_among (y ∷ xs) (suc i) x e = among_more x y xs (stands_among xs i x e)
+stands_among (y ∷ xs) (suc i) x e = among_later x y xs (stands_among xs i x e)
 
 -- a number at two places of a list without repeats
 one_place : (xs : List ℕ) (i j x : ℕ) → Distinct xs → slice_get xs i ≡ Some x → slice_get xs j ≡ Some x → i ≡ j
@@ -57,7 +59,7 @@ one_place (y ∷ xs) (suc i) zero x d e f =
     let z : true ≡ false = sym m ∙ d.0 in cc
 one_place (y ∷ xs) (suc i) (suc j) x d e f = ap suc (one_place xs i j x d.1 e f)
 
-distinct_left : (xs ys : List ℕ) → Distinct (xs ++ ys) → Distinct xs
+pub distinct_left : (xs ys : List ℕ) → Distinct (xs ++ ys) → Distinct xs
 distinct_left [] ys d = tt
 distinct_left (x ∷ xs) ys d = (none, distinct_left xs ys d.1)
   where
@@ -67,7 +69,7 @@ distinct_left (x ∷ xs) ys d = (none, distinct_left xs ys d.1)
       | inl t ↦ let z : true ≡ false = sym (among_left x xs ys t) ∙ d.0 in cc
     ]
 
-distinct_right : (xs ys : List ℕ) → Distinct (xs ++ ys) → Distinct ys
+pub distinct_right : (xs ys : List ℕ) → Distinct (xs ++ ys) → Distinct ys
 distinct_right [] ys d = d
 distinct_right (x ∷ xs) ys d = distinct_right xs ys d.1
 
@@ -130,26 +132,17 @@ number_among : (place : ℕ → Spot) (xs : List ℕ) (y r : ℕ) → is_among y
 number_among place [] y r m e = cc
 number_among place (x ∷ xs) y r m e = elim (among_cases y x xs m) [
   | inl same ↦ among_first r (number_of (place x)) (numbers_of place xs) (sym (ap (λ z. number_of (place z)) (sym same) ∙ ap number_of e))
-  | inr there ↦ among_more r (number_of (place x)) (numbers_of place xs) (number_among place xs y r there e)
+  | inr there ↦ among_later r (number_of (place x)) (numbers_of place xs) (number_among place xs y r there e)
 ]
 
--- so many numbers from one on
-abbrev from_to : ℕ → ℕ → List ℕ
-from_to k zero = []
-from_to k (suc n) = k ∷ from_to (suc k) n
-
-from_to_many : (k n : ℕ) → length (from_to k n) ≡ n
-from_to_many k zero = refl
-from_to_many k (suc n) = ap suc (from_to_many (suc k) n)
-
-from_to_ascends : (k n : ℕ) → Ascending (from_to k n)
+from_to_ascends : (k n : ℕ) → Ascending (numbers_from k n)
 from_to_ascends k zero = tt
 from_to_ascends k (suc zero) = tt
 from_to_ascends k (suc (suc n)) = (omega arith, from_to_ascends (suc k) (suc n))
 
-from_to_within : (k n r : ℕ) → is_among r (from_to k n) ≡ true → (k ≤ r) × (r < k + n)
+from_to_within : (k n r : ℕ) → is_among r (numbers_from k n) ≡ true → (k ≤ r) × (r < k + n)
 from_to_within k zero r m = cc
-from_to_within k (suc n) r m = elim (among_cases r k (from_to (suc k) n) m) [
+from_to_within k (suc n) r m = elim (among_cases r k (numbers_from (suc k) n) m) [
   | inl e ↦ (omega (arith, e), omega (arith, e))
   | inr there ↦ let h = from_to_within (suc k) n r there in let lo = h.0 in let hi = h.1 in (omega (arith, lo), omega (arith, hi))
 ]
@@ -391,9 +384,9 @@ module _ (p : Program) (a : Assignment) (ws : List Registers) (gs : List Given) 
       full : IsSlot (place_of a x) → ⊥
       full spot =
           let few = few_parameters f q e in
-          let n = no_more (from_to 8 24) (numbers_of (place_of a) q.params) (from_to_ascends 8 24) (λ r h. one r (from_to_within 8 24 r h)) in
+          let n = no_more (numbers_from 8 24) (numbers_of (place_of a) q.params) (from_to_ascends 8 24) (λ r h. one r (from_to_within 8 24 r h)) in
           let c : length (numbers_of (place_of a) q.params) ≡ length q.params = length_map (λ y. number_of (place_of a y)) q.params in
-          let d : length (from_to 8 24) ≡ 24 = from_to_many 8 24 in
+          let d : length (numbers_from 8 24) ≡ 24 = length_numbers 8 24 in
           omega (arith, few, n, c, d)
         where
           one : (r : ℕ) → (8 ≤ r) × (r < 8 + 24) → is_among r (numbers_of (place_of a) q.params) ≡ true

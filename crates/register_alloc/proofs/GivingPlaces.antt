@@ -5,7 +5,6 @@ use Rattle.std.proofs.lemmas.Option.{slice_get_within}
 use Rattle.seq.proofs.Lists.{get_left}
 use Rattle.parallel_move.specs.declared.Spot.{Spot}
 use Rattle.parallel_move.specs.declared.Spot.TheVariants.{Reg, Slot}
-use Rattle.low_code.specs.Formed.{is_among}
 use Rattle.register_alloc.specs.Live.{IsLive}
 use Rattle.register_alloc.specs.Uses.{AreUses}
 use Rattle.register_alloc.specs.Holders.{Held, new_holder, AreStillUsed, AreRegisters, Step, register, slot, Extends, Numbered, in_register, in_slot, variables_of, Keeps}
@@ -15,10 +14,12 @@ use Rattle.register_alloc.specs.declared.registers.Given.{Given}
 use Rattle.register_alloc.specs.declared.registers.CallSite.{CallSite}
 use Rattle.register_alloc.specs.declared.registers.Registers.{Registers}
 use Rattle.register_alloc.specs.declared.registers.Text.{Text}
-use Rattle.register_alloc.proofs.Lists.{among_first, among_left, among_right, got_after}
+use Rattle.register_alloc.proofs.Lists.{among_first, got_after}
 use Rattle.register_alloc.proofs.Keeping.{give_step, none_given}
 use Rattle.register_alloc.proofs.Walking.{agrees_old, grows_on, grows_not, pruned, bound, before_same}
 use Rattle.register_alloc.proofs.Walked.{grouped, nothing_more}
+use Rattle.seq.specs.Lists.{is_among}
+use Rattle.seq.proofs.Counted.{among_left, among_right}
 
 numbered_step : (held held' : List (Option Holder)) (slots slots' x : ℕ) (spot : Spot) (gs : List Given) → Step held slots x spot held' slots' → Numbered gs slots
     → Numbered (gs ++ (record { variable = x; spot = spot } ∷ [])) slots'

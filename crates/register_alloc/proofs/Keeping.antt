@@ -7,15 +7,17 @@ use Rattle.seq.proofs.Lists.{some_at, length_set, get_set}
 use Rattle.parallel_move.specs.declared.Spot.{Spot}
 use Rattle.parallel_move.specs.declared.Spot.TheVariants.{Reg, Slot}
 use Rattle.low_code.specs.Tree.{Code}
-use Rattle.low_code.specs.Formed.{is_among, uses}
+use Rattle.low_code.specs.Formed.{uses}
 use Rattle.register_alloc.specs.Live.{IsLive}
 use Rattle.register_alloc.specs.Fits.{IsSlot, ClearOf, Apart, Holds, Full}
 use Rattle.register_alloc.specs.Inner.{Stands}
 use Rattle.register_alloc.specs.Holders.{Held, new_holder, IsWanted, IsStill, IsMarked, AreStillUsed, AreEntering, AllFree, Step, register, slot, Holding, IsKept, Keeps, Giving}
 use Rattle.register_alloc.specs.declared.holders.Holder.{Holder}
-use Rattle.register_alloc.proofs.Lists.{among_cases, among_more, among_first, among_left, among_right, among_either, set_cases, used_among, among_used}
+use Rattle.register_alloc.proofs.Lists.{among_first, among_either, set_cases, used_among, among_used}
+use Rattle.seq.specs.Lists.{is_among}
+use Rattle.seq.proofs.Counted.{among_later, among_cases, among_left, among_right}
 
-same_register : (r q : ℕ) → Reg r ≡ Reg q → r ≡ q
+pub same_register : (r q : ℕ) → Reg r ≡ Reg q → r ≡ q
 same_register r q e = cc
 
 no_slot : (r k : ℕ) → Reg r ≡ Slot k → ⊥
@@ -210,7 +212,7 @@ module _ (place : ℕ → Spot) (scope : List ℕ) where
     )
       where
         more : (y : ℕ) → Kept xs y → Kept (z ∷ xs) y
-        more y (inl m) = inl (among_more y z xs m)
+        more y (inl m) = inl (among_later y z xs m)
         more y (inr live) = inr live
 
     full_snoc : (xs : List ℕ) (x : ℕ) → Full place scope xs c later → (IsSlot (place x) → (r : ℕ) → 8 ≤ r → r < 32 → Holds place scope xs c later r) → Full place scope (xs ++ (x ∷ [])) c later

@@ -1,42 +1,18 @@
 -- Membership in lists, what stands at a place of a list, and lists in which a walk stands.
-use Rattle.std.proofs.Common.{◌≡◌, ◌⊎◌, ℕ, zero, suc, ◌+◌, ◌-◌, ◌<◌, ◌≤◌, Bool, true, false, ◌||◌, nat_eq, List, [], ◌∷◌, ◌++◌, drop, length, length-append, length-drop, Some, slice_get, slice_index_or, inl, inr, refl, sym, ap, ◌∙◌, arith}
+use Rattle.std.proofs.Common.{◌≡◌, ◌⊎◌, ℕ, zero, suc, ◌+◌, ◌-◌, ◌<◌, ◌≤◌, true, ◌||◌, List, [], ◌∷◌, ◌++◌, drop, length, length-append, length-drop, Some, slice_get, slice_index_or, inl, inr, refl, sym, ap, ◌∙◌, arith}
 use Rattle.std.specs.Prelude.{slice_set}
-use Rattle.std.proofs.lemmas.Bool.{eqb-true, eq-eqb}
+use Rattle.std.proofs.lemmas.Bool.{eq-eqb}
 use Rattle.std.proofs.Math.Seq.{drop-nil}
 use Rattle.seq.proofs.Lists.{drop_before, append_again}
-use Rattle.low_code.specs.Formed.{is_among}
 use Rattle.register_alloc.specs.Uses.{IsUsedWithin}
 use Rattle.register_alloc.specs.Inner.{Stands}
+use Rattle.seq.specs.Lists.{is_among}
+use Rattle.seq.proofs.Counted.{among_later, among_cases}
 
 -- ---- membership
 
-pub among_cases : (x y : ℕ) (ys : List ℕ) → is_among x (y ∷ ys) ≡ true → (x ≡ y) ⊎ (is_among x ys ≡ true)
-among_cases x y ys among = at (nat_eq x y) refl among
-  where
-    at : (b : Bool) → nat_eq x y ≡ b → (b || is_among x ys) ≡ true → (x ≡ y) ⊎ (is_among x ys ≡ true)
-    at true e h = inl (eqb-true x y e)
-    at false e h = inr h
-
-pub among_more : (x y : ℕ) (ys : List ℕ) → is_among x ys ≡ true → is_among x (y ∷ ys) ≡ true
-among_more x y ys among = at (nat_eq x y)
-  where
-    at : (b : Bool) → (b || is_among x ys) ≡ true
-    at true = refl
-    at false = among
-
 pub among_first : (x y : ℕ) (ys : List ℕ) → x ≡ y → is_among x (y ∷ ys) ≡ true
 among_first x y ys e = ap (λ b. b || is_among x ys) (eq-eqb x y e)
-
-pub among_left : (x : ℕ) (xs ys : List ℕ) → is_among x xs ≡ true → is_among x (xs ++ ys) ≡ true
-among_left x [] ys h = cc
-among_left x (z ∷ xs) ys h = elim (among_cases x z xs h) [
-  | inl e ↦ among_first x z (xs ++ ys) e
-  | inr m ↦ among_more x z (xs ++ ys) (among_left x xs ys m)
-]
-
-pub among_right : (x : ℕ) (xs ys : List ℕ) → is_among x ys ≡ true → is_among x (xs ++ ys) ≡ true
-among_right x [] ys h = h
-among_right x (z ∷ xs) ys h = among_more x z (xs ++ ys) (among_right x xs ys h)
 
 pub among_either : (x : ℕ) (xs ys : List ℕ) → is_among x (xs ++ ys) ≡ true → (is_among x xs ≡ true) ⊎ (is_among x ys ≡ true)
 among_either x [] ys h = inr h
@@ -44,7 +20,7 @@ among_either x (z ∷ xs) ys h = elim (among_cases x z (xs ++ ys) h) [
   | inl e ↦ inl (among_first x z xs e)
   | inr m ↦
       elim (among_either x xs ys m) [
-        | inl l ↦ inl (among_more x z xs l)
+        | inl l ↦ inl (among_later x z xs l)
         | inr r ↦ inr r
       ]
 ]
@@ -101,7 +77,7 @@ index_first (z ∷ xs) ys (suc j) h = index_first xs ys j (omega arith)
 among_at : (xs : List ℕ) (j y : ℕ) → j < length xs → slice_index_or xs j 0 ≡ y → is_among y xs ≡ true
 among_at [] j y h e = absurd (omega arith)
 among_at (x ∷ xs) zero y h e = among_first y x xs (sym e)
-among_at (x ∷ xs) (suc j) y h e = among_more y x xs (among_at xs j y (omega arith) e)
+among_at (x ∷ xs) (suc j) y h e = among_later y x xs (among_at xs j y (omega arith) e)
 
 at_among : (xs : List ℕ) (y : ℕ) → is_among y xs ≡ true → (j : ℕ) × ((j < length xs) × (slice_index_or xs j 0 ≡ y))
 at_among [] y h = cc

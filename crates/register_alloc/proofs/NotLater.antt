@@ -5,12 +5,14 @@ use Rattle.low_code.specs.declared.program.Operand.{Operand}
 use Rattle.low_code.specs.declared.program.Operand.TheVariants.{Var, Num, Cell}
 use Rattle.low_code.specs.declared.program.LowTest.{LowTest}
 use Rattle.low_code.specs.Tree.{Code, set, prim, load, save, take, put, get, call, join, give, tail, choose, fail, Arms, otherwise, arm, Procedure}
-use Rattle.low_code.specs.Formed.{is_among, uses, arms_uses, used_by, used_by_all, used_by_tests, binds, arms_binds, Known, AllKnown, TestsKnown, Scoped, ArmsScoped, AllScoped}
+use Rattle.low_code.specs.Formed.{uses, arms_uses, used_by, used_by_all, used_by_tests, binds, arms_binds, Known, AllKnown, TestsKnown, Scoped, ArmsScoped, AllScoped}
 use Rattle.register_alloc.specs.Live.{EachBindingOfArms}
 use Rattle.register_alloc.specs.Holders.{NoneOf}
 use Rattle.register_alloc.specs.Point.{NoneLater}
-use Rattle.register_alloc.proofs.Lists.{among_cases, among_left, among_right, among_either}
-use Rattle.register_alloc.proofs.Counted.{times, times_append, among_times}
+use Rattle.register_alloc.proofs.Lists.{among_either}
+use Rattle.register_alloc.proofs.Counted.{among_times}
+use Rattle.seq.specs.Lists.{times, is_among}
+use Rattle.seq.proofs.Counted.{among_cases, times_append, among_left, among_right}
 
 -- ---- what a block uses is bound before or in it
 

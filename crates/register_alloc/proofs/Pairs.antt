@@ -1,11 +1,12 @@
 -- Lists of holders that are made one after another.
 use Rattle.std.proofs.Common.{◌≡◌, ◌↔◌, ℕ, ◌+◌, ◌<◌, true, List, [], ◌∷◌, ◌++◌, length, Option, Some, None, slice_get, MatchOption, inl, inr, refl, sym, ap, ◌∙◌, subst, arith}
 use Rattle.std.proofs.lemmas.Bool.{cases_lt}
-use Rattle.low_code.specs.Formed.{is_among}
 use Rattle.register_alloc.specs.Fits.{Ascending}
 use Rattle.register_alloc.specs.Holders.{Held, Pairwise, AreRegisters}
 use Rattle.register_alloc.specs.declared.holders.Holder.{Holder}
-use Rattle.register_alloc.proofs.Lists.{among_cases, among_first, among_left, among_right, among_either}
+use Rattle.register_alloc.proofs.Lists.{among_first, among_either}
+use Rattle.seq.specs.Lists.{is_among}
+use Rattle.seq.proofs.Counted.{among_cases, among_left, among_right}
 
 pub record UpTo (R : Option Holder → Option Holder → Type 0) (k : ℕ) (old new : List (Option Holder)) : Type 0 where
   pub many : length new ≡ k
@@ -20,7 +21,7 @@ pub record RegistersUpTo (held : List (Option Holder)) (k : ℕ) (registers : Li
   pub ascending : Ascending registers
   pub each : (r : ℕ) → (is_among r registers ≡ true) ↔ ((q : ℕ) × ((r ≡ 8 + q) × ((q < k) × ((d : Holder) × Held held q d))))
 
-ascending_snoc : (rs : List ℕ) (v : ℕ) → Ascending rs → ((r : ℕ) → is_among r rs ≡ true → r < v) → Ascending (rs ++ (v ∷ []))
+pub ascending_snoc : (rs : List ℕ) (v : ℕ) → Ascending rs → ((r : ℕ) → is_among r rs ≡ true → r < v) → Ascending (rs ++ (v ∷ []))
 ascending_snoc [] v a b = tt
 ascending_snoc (r ∷ []) v a b = (b r (among_first r r [] refl), tt)
 ascending_snoc (r ∷ q ∷ rs) v a b = (a.0, ascending_snoc (q ∷ rs) v a.1 (λ z m. b z (among_right z (r ∷ []) (q ∷ rs) m)))

@@ -1,9 +1,10 @@
 -- Ascending numbers that are all in a list are no more than that list has.
 use Rattle.std.proofs.Common.{◌≡◌, ◌⊎◌, ℕ, suc, ◌≤◌, ◌<◌, Bool, true, false, nat_eq, List, [], ◌∷◌, length, inl, inr, refl, sym, ap, ◌∙◌, arith, cond}
 use Rattle.std.proofs.lemmas.Bool.{eqb-true, eq-eqb}
-use Rattle.low_code.specs.Formed.{is_among}
 use Rattle.register_alloc.specs.Fits.{Ascending}
-use Rattle.register_alloc.proofs.Lists.{among_cases, among_first, among_more}
+use Rattle.register_alloc.proofs.Lists.{among_first}
+use Rattle.seq.specs.Lists.{is_among}
+use Rattle.seq.proofs.Counted.{among_later, among_cases}
 
 abbrev without : ℕ → List ℕ → List ℕ
 without r [] = []
@@ -26,16 +27,16 @@ without_among r y (x ∷ xs) n m = go (nat_eq r x) refl (among_cases y x xs m) (
     go true e (inl h) more = absurd (n (h ∙ sym (eqb-true r x e)))
     go true e (inr h) more = ap (λ b. is_among y (cond b xs (x ∷ without r xs))) e ∙ h
     go false e (inl h) more = ap (λ b. is_among y (cond b xs (x ∷ without r xs))) e ∙ among_first y x (without r xs) h
-    go false e (inr h) more = ap (λ b. is_among y (cond b xs (x ∷ without r xs))) e ∙ among_more y x (without r xs) (more h)
+    go false e (inr h) more = ap (λ b. is_among y (cond b xs (x ∷ without r xs))) e ∙ among_later y x (without r xs) (more h)
 
-head_below : (r : ℕ) (rs : List ℕ) (y : ℕ) → Ascending (r ∷ rs) → is_among y rs ≡ true → r < y
+pub head_below : (r : ℕ) (rs : List ℕ) (y : ℕ) → Ascending (r ∷ rs) → is_among y rs ≡ true → r < y
 head_below r [] y a m = cc
 head_below r (q ∷ rs) y a m = elim (among_cases y q rs m) [
   | inl e ↦ let l = a.0 in omega (arith, l, e)
   | inr there ↦ let l = a.0 in let h = head_below q rs y a.1 there in omega (arith, l, h)
 ]
 
-rest_ascends : (r : ℕ) (rs : List ℕ) → Ascending (r ∷ rs) → Ascending rs
+pub rest_ascends : (r : ℕ) (rs : List ℕ) → Ascending (r ∷ rs) → Ascending rs
 rest_ascends r [] a = tt
 rest_ascends r (q ∷ rs) a = a.1
 
@@ -44,5 +45,5 @@ no_more [] xs a all = omega arith
 no_more (r ∷ rs) xs a all =
     let here : is_among r xs ≡ true = all r (among_first r r rs refl) in
     let n = without_length r xs here in
-    let h = no_more rs (without r xs) (rest_ascends r rs a) (λ y m. without_among r y xs (λ e. let l = head_below r rs y a m in omega (arith, l, e)) (all y (among_more y r rs m))) in
+    let h = no_more rs (without r xs) (rest_ascends r rs a) (λ y m. without_among r y xs (λ e. let l = head_below r rs y a m in omega (arith, l, e)) (all y (among_later y r rs m))) in
     omega (arith, n, h)

@@ -5,7 +5,7 @@ use Rattle.seq.proofs.Lists.{get_left, get_right}
 use Rattle.parallel_move.specs.declared.Spot.{Spot}
 use Rattle.parallel_move.specs.declared.Spot.TheVariants.{Reg, Slot, Scratch}
 use Rattle.low_code.specs.Tree.{Code, set, prim, load, save, take, put, get, call, join, give, tail, choose, fail, Arms, otherwise, arm, Procedure}
-use Rattle.low_code.specs.Formed.{is_among, uses, binds, arms_binds, variables, all_variables, calls_in, sites_of, all_sites, Site}
+use Rattle.low_code.specs.Formed.{uses, binds, arms_binds, variables, all_variables, calls_in, sites_of, all_sites, Site}
 use Rattle.register_alloc.specs.Live.{LiveAfter, ArmsLiveAfter}
 use Rattle.register_alloc.specs.Fits.{IsPlace, slot_end, slots_of, longest}
 use Rattle.register_alloc.specs.Uses.{AreUses}
@@ -19,7 +19,7 @@ use Rattle.register_alloc.specs.declared.registers.Given.{Given}
 use Rattle.register_alloc.specs.declared.registers.CallSite.{CallSite}
 use Rattle.register_alloc.specs.declared.registers.Registers.{Registers}
 use Rattle.register_alloc.specs.declared.registers.Text.{Text}
-use Rattle.register_alloc.proofs.Lists.{among_cases, among_first, among_more, among_left, among_right, among_either, stands_all, got_after}
+use Rattle.register_alloc.proofs.Lists.{among_first, among_either, stands_all, got_after}
 use Rattle.register_alloc.proofs.Keeping.{free_keeps, given_holds}
 use Rattle.register_alloc.proofs.Walking.{agrees_old}
 use Rattle.register_alloc.proofs.Walked.{nothing_more}
@@ -27,6 +27,8 @@ use Rattle.register_alloc.proofs.LiveCalls.{sites_of_points, got_split}
 use Rattle.register_alloc.specs.Results.{callees}
 use Rattle.register_alloc.proofs.GivingPlaces.{variables_more}
 use Rattle.register_alloc.proofs.Tables.{got_cases}
+use Rattle.seq.specs.Lists.{is_among}
+use Rattle.seq.proofs.Counted.{among_later, among_cases, among_left, among_right}
 
 -- ---- the walk over a whole procedure
 
@@ -98,7 +100,7 @@ registers_more (h ∷ gs) g = put_in_front h.spot (registers_of (gs ++ (g ∷ []
 
 in_registers : (s : Spot) (r : ℕ) (rs : List ℕ) → (s ≡ Reg r) ⊎ (is_among r rs ≡ true) → is_among r (register_in s rs) ≡ true
 in_registers (Reg q) r rs (inl e) = let same : q ≡ r = cc in among_first r q rs (sym same)
-in_registers (Reg q) r rs (inr m) = among_more r q rs m
+in_registers (Reg q) r rs (inr m) = among_later r q rs m
 in_registers (Slot k) r rs (inl e) = cc
 in_registers (Slot k) r rs (inr m) = m
 in_registers Scratch r rs (inl e) = cc

@@ -11,7 +11,7 @@ use Rattle.seq.proofs.Lists.{get_left, get_set}
 use Rattle.parallel_move.specs.declared.Spot.{Spot}
 use Rattle.parallel_move.specs.declared.Spot.TheVariants.{Reg, Slot, Scratch}
 use Rattle.low_code.specs.Tree.{Procedure}
-use Rattle.low_code.specs.Formed.{is_among, Distinct}
+use Rattle.low_code.specs.Formed.{Distinct}
 use Rattle.register_alloc.specs.Fits.{IsPlace, Ascending}
 use Rattle.register_alloc.specs.Rounds.{mask_at}
 use Rattle.register_alloc.specs.Holders.{variables_of}
@@ -20,9 +20,15 @@ use Rattle.register_alloc.specs.declared.registers.Given.{Given}
 use Rattle.register_alloc.specs.declared.registers.CallSite.{CallSite}
 use Rattle.register_alloc.specs.declared.registers.Registers.{Registers}
 use Rattle.register_alloc.specs.declared.assign.Gathered.{Gathered}
-use Rattle.register_alloc.proofs.Lists.{among_cases, among_first, among_more, among_left, among_right, among_either, got_after, set_cases}
+use Rattle.register_alloc.proofs.Lists.{among_first, among_either, got_after, set_cases}
 use Rattle.register_alloc.proofs.Masks.{or_bit, bit_left, bit_right}
 use Rattle.register_alloc.proofs.Walked.{grouped, nothing_more}
+use Rattle.seq.specs.Lists.{is_among}
+use Rattle.seq.proofs.Counted.{among_later, among_cases, among_left, among_right}
+use Rattle.register_alloc.proofs.Keeping.{same_register}
+use Rattle.register_alloc.proofs.GivingPlaces.{variables_more}
+use Rattle.register_alloc.proofs.Pairs.{ascending_snoc}
+use Rattle.register_alloc.proofs.Pigeons.{head_below}
 
 -- ---- lists that grow at the end
 
@@ -72,13 +78,10 @@ one_bit k n r is = (
           ]
     ]
 
-same_reg : (a b : ℕ) → Reg a ≡ Reg b → a ≡ b
-same_reg a b e = cc
-
 pub spot_mask : (a n : ℕ) (spot : Spot) → spot ≡ Reg a → (a < 32 → (r : ℕ) → (bit_at n r ≡ 1) ↔ (a ≡ r)) → (r : ℕ) → IsPlace spot → (bit_at n r ≡ 1) ↔ (spot ≡ Reg r)
 spot_mask a n spot is one r p =
     let b = one (subst IsPlace is p).1 r in
-    (λ e. is ∙ ap (λ m. Reg m) (b.0 e), λ e. b.1 (same_reg a r (sym is ∙ e)))
+    (λ e. is ∙ ap (λ m. Reg m) (b.0 e), λ e. b.1 (same_register a r (sym is ∙ e)))
 
 zero_bit : (r : ℕ) → bit_at 0 r ≡ 1 → ⊥
 zero_bit r e = let z = bit_at-zero r in omega (arith, e, z)
@@ -164,10 +167,6 @@ mapped_more f xs i x e = ap (map f) (take_more xs i x e) ∙ go (take i xs)
 
 -- ---- places
 
-variables_append : (gs : List Given) (g : Given) → variables_of (gs ++ (g ∷ [])) ≡ variables_of gs ++ (g.variable ∷ [])
-variables_append [] g = refl
-variables_append (h ∷ gs) g = ap (λ l. h.variable ∷ l) (variables_append gs g)
-
 pub distinct_first : (xs : List ℕ) (v : ℕ) → Distinct (xs ++ (v ∷ [])) → Distinct xs
 distinct_first [] v d = tt
 distinct_first (x ∷ xs) v d = (none_before, distinct_first xs v d.1)
@@ -190,7 +189,7 @@ distinct_last (x ∷ xs) v y d m e = elim (among_cases y x xs m) [
 pub given_among : (gs : List Given) (k : ℕ) (g : Given) → slice_get gs k ≡ Some g → is_among g.variable (variables_of gs) ≡ true
 given_among [] k g e = cc
 given_among (h ∷ gs) zero g e = let q : h ≡ g = same_Some h g e in among_first g.variable h.variable (variables_of gs) (ap (λ z. z.variable) (sym q))
-given_among (h ∷ gs) (suc k) g e = among_more g.variable h.variable (variables_of gs) (given_among gs k g e)
+given_among (h ∷ gs) (suc k) g e = among_later g.variable h.variable (variables_of gs) (given_among gs k g e)
 
 pub no_spots : (spots : List Spot) → AreSpots [] spots
 no_spots spots d k g e = cc
@@ -201,7 +200,7 @@ spots_next given i g old new there p before = subst (λ gs. AreSpots gs new) (sy
     step : AreSpots (take i given ++ (g ∷ [])) new
     step d k h e = elim (got_cases (take i given) g k h e) [
       | inl was ↦
-          let d' = subst Distinct (variables_append (take i given) g) d in
+          let d' = subst Distinct (variables_more (take i given) g) d in
           p.others h.variable h.spot (distinct_last (variables_of (take i given)) g.variable h.variable d' (given_among (take i given) k h was)) (before (distinct_first (variables_of (take i given)) g.variable d') k h was)
       | inr last ↦ subst (λ z. slice_get new z.variable ≡ Some z.spot) (sym last.1) p.put
     ]
@@ -212,13 +211,6 @@ ascending_first : (rs : List ℕ) (v : ℕ) → Ascending (rs ++ (v ∷ [])) →
 ascending_first [] v a = tt
 ascending_first (r ∷ []) v a = tt
 ascending_first (r ∷ q ∷ rs) v a = (a.0, ascending_first (q ∷ rs) v a.1)
-
-head_below : (r : ℕ) (rs : List ℕ) (y : ℕ) → Ascending (r ∷ rs) → is_among y rs ≡ true → r < y
-head_below r [] y a m = cc
-head_below r (q ∷ rs) y a m = elim (among_cases y q rs m) [
-  | inl e ↦ let l = a.0 in omega (arith, l, e)
-  | inr there ↦ let l = a.0 in let h = head_below q rs y a.1 there in omega (arith, l, h)
-]
 
 last_above : (rs : List ℕ) (v y : ℕ) → Ascending (rs ++ (v ∷ [])) → is_among y rs ≡ true → y < v
 last_above [] v y a m = cc
@@ -233,11 +225,6 @@ last_above (r ∷ rs) v y a m = elim (among_cases y r rs m) [
     rest : (zs : List ℕ) → Ascending (r ∷ (zs ++ (v ∷ []))) → Ascending (zs ++ (v ∷ []))
     rest [] a = tt
     rest (z ∷ zs) a = a.1
-
-ascending_more : (rs : List ℕ) (v : ℕ) → Ascending rs → ((r : ℕ) → is_among r rs ≡ true → r < v) → Ascending (rs ++ (v ∷ []))
-ascending_more [] v a b = tt
-ascending_more (r ∷ []) v a b = (b r (among_first r r [] refl), tt)
-ascending_more (r ∷ q ∷ rs) v a b = (a.0, ascending_more (q ∷ rs) v a.1 (λ z m. b z (among_right z (r ∷ []) (q ∷ rs) m)))
 
 pub none_saved : (mask : ℕ) → IsSavedOf [] mask []
 none_saved mask small a = (tt, λ r. (λ m. cc, λ m. let h : false ≡ true = m.0 in cc))
@@ -258,7 +245,7 @@ saved_next live mask i v old new there taken left before = subst (λ l. IsSavedO
         elim (bit_or_none (bit_at mask v)) [
           | inl bit ↦
               let is = taken lt bit in (
-                subst Ascending (sym is) (ascending_more old v b.0 (λ r m. last_above (take i live) v r a ((b.1 r).0 m).0)),
+                subst Ascending (sym is) (ascending_snoc old v b.0 (λ r m. last_above (take i live) v r a ((b.1 r).0 m).0)),
                 λ r. (
                   λ m. elim (among_either r old (v ∷ []) (subst (λ l. is_among r l ≡ true) is m)) [
                     | inl o ↦ (among_left r (take i live) (v ∷ []) ((b.1 r).0 o).0, ((b.1 r).0 o).1)
@@ -298,7 +285,7 @@ sites_append (j ∷ ks) k = ap (λ l. j.site ∷ l) (sites_append ks k)
 call_among : (ks : List CallSite) (i : ℕ) (k : CallSite) → slice_get ks i ≡ Some k → is_among k.site (sites_at ks) ≡ true
 call_among [] i k e = cc
 call_among (j ∷ ks) zero k e = let q : j ≡ k = same_Some j k e in among_first k.site j.site (sites_at ks) (ap (λ z. z.site) (sym q))
-call_among (j ∷ ks) (suc i) k e = among_more k.site j.site (sites_at ks) (call_among ks i k e)
+call_among (j ∷ ks) (suc i) k e = among_later k.site j.site (sites_at ks) (call_among ks i k e)
 
 pub nothing_saved : (masks : List ℕ) → SavesHold masks [] []
 nothing_saved masks = record { each = λ d i k e. cc; only = λ d s rs e. cc }

@@ -2,7 +2,7 @@
 use Rattle.std.proofs.Common.{◌≡◌, ℕ, suc, ◌+◌, ◌≤◌, true, List, [], ◌∷◌, ◌++◌, length, length-append, Option, Some, slice_get, slice_index_or, refl, sym, ap, ◌∙◌, subst, arith}
 use Rattle.parallel_move.specs.declared.Spot.{Spot}
 use Rattle.low_code.specs.Tree.{Code, call, join, give, tail, choose, fail, Arms, arm}
-use Rattle.low_code.specs.Formed.{is_among, uses, arms_uses, used_by_tests, used_by_all}
+use Rattle.low_code.specs.Formed.{uses, arms_uses, used_by_tests, used_by_all}
 use Rattle.low_code.specs.declared.program.LowTest.{LowTest}
 use Rattle.low_code.specs.declared.program.Operand.{Operand}
 use Rattle.register_alloc.specs.Live.{EachBinding}
@@ -15,9 +15,11 @@ use Rattle.register_alloc.specs.declared.holders.Holder.{Holder}
 use Rattle.register_alloc.specs.declared.registers.CallSite.{CallSite}
 use Rattle.register_alloc.specs.declared.registers.Registers.{Registers}
 use Rattle.register_alloc.specs.declared.registers.Text.{Text}
-use Rattle.register_alloc.proofs.Lists.{among_left, among_right, stands_first, stands_rest, stands_head}
+use Rattle.register_alloc.proofs.Lists.{stands_first, stands_rest, stands_head}
 use Rattle.register_alloc.proofs.Keeping.{still_keeps, entering_holds, holding_less, given_holds}
 use Rattle.register_alloc.proofs.Walked.{grouped, nothing_more}
+use Rattle.seq.specs.Lists.{is_among}
+use Rattle.seq.proofs.Counted.{among_left, among_right}
 
 -- ---- notes of calls
 

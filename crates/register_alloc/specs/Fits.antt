@@ -3,10 +3,11 @@ use Rattle.std.specs.Prelude.{◌⊎◌, ◌≡◌, ◌≢◌, ◌↔◌, ℕ, s
 use Rattle.parallel_move.specs.declared.Spot.{Spot}
 use Rattle.parallel_move.specs.declared.Spot.TheVariants.{Reg, Slot, Scratch}
 use Rattle.low_code.specs.Tree.{Code, Procedure, Program}
-use Rattle.low_code.specs.Formed.{is_among, variables, all_variables, calls_in, all_sites, Site}
+use Rattle.low_code.specs.Formed.{variables, all_variables, calls_in, all_sites, Site}
 use Rattle.register_alloc.specs.Live.{IsLive, EachBindingOf, LiveAfter}
 use Rattle.register_alloc.specs.Written.{Written}
 use Rattle.register_alloc.specs.Assignment.{Assignment, place_of, may_change, saves_at, words_at}
+use Rattle.seq.specs.Lists.{is_among}
 
 -- a register x8 to x31, or a slot
 abbrev pub IsPlace : Spot → Type 0

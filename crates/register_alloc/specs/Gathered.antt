@@ -4,7 +4,7 @@ use Rattle.std.specs.Int.{bit_at}
 use Rattle.parallel_move.specs.declared.Spot.{Spot}
 use Rattle.parallel_move.specs.declared.Spot.TheVariants.{Reg}
 use Rattle.low_code.specs.Tree.{Procedure}
-use Rattle.low_code.specs.Formed.{is_among, Distinct}
+use Rattle.low_code.specs.Formed.{Distinct}
 use Rattle.register_alloc.specs.Fits.{Ascending, IsPlace}
 use Rattle.register_alloc.specs.Rounds.{mask_at}
 use Rattle.register_alloc.specs.Results.{result_mask}
@@ -14,6 +14,7 @@ use Rattle.register_alloc.specs.declared.registers.Given.{Given}
 use Rattle.register_alloc.specs.declared.registers.CallSite.{CallSite}
 use Rattle.register_alloc.specs.declared.registers.Registers.{Registers}
 use Rattle.register_alloc.specs.declared.assign.Gathered.{Gathered}
+use Rattle.seq.specs.Lists.{is_among}
 
 -- no procedure gives more than 13 words
 abbrev pub HaveFewResults : List Procedure → Type 0

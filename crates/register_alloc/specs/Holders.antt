@@ -4,12 +4,12 @@ use Rattle.std.specs.Prelude.{◌⊎◌, ◌≡◌, ◌↔◌, ℕ, suc, ◌+◌
 use Rattle.parallel_move.specs.declared.Spot.{Spot}
 use Rattle.parallel_move.specs.declared.Spot.TheVariants.{Reg, Slot}
 use Rattle.low_code.specs.Tree.{Code}
-use Rattle.low_code.specs.Formed.{is_among}
 use Rattle.register_alloc.specs.Live.{IsLive}
 use Rattle.register_alloc.specs.Fits.{Apart, Full, Ascending}
 use Rattle.register_alloc.specs.Uses.{IsUsedWithin}
 use Rattle.register_alloc.specs.declared.holders.Holder.{Holder}
 use Rattle.register_alloc.specs.declared.registers.Given.{Given}
+use Rattle.seq.specs.Lists.{is_among}
 
 -- a register is held, by its number from x8 on
 abbrev pub Held : List (Option Holder) → (r : ℕ) → Holder → Type 0

@@ -1,7 +1,8 @@
 -- Variables that are live, and the points of a procedure at which variables are bound.
 use Rattle.std.specs.Prelude.{◌⊎◌, ◌≡◌, ℕ, true, List, [], ◌∷◌, ◌++◌}
 use Rattle.low_code.specs.Tree.{Code, set, prim, load, save, take, put, get, call, join, give, tail, choose, fail, Arms, otherwise, arm, Procedure}
-use Rattle.low_code.specs.Formed.{is_among, uses}
+use Rattle.low_code.specs.Formed.{uses}
+use Rattle.seq.specs.Lists.{is_among}
 
 -- bound before, and used in what follows: in a block, or later, by what follows the joins around it
 abbrev pub IsLive : (scope : List ℕ) → Code → (later : List ℕ) → ℕ → Type 0

@@ -4,7 +4,7 @@ use Rattle.parallel_move.specs.declared.Spot.{Spot}
 use Rattle.parallel_move.specs.declared.Spot.TheVariants.{Reg, Slot}
 use Rattle.low_code.specs.declared.program.LowTest.{LowTest}
 use Rattle.low_code.specs.Tree.{Code, set, prim, load, save, take, put, get, call, join, give, tail, choose, fail, Arms, otherwise, arm, Procedure}
-use Rattle.low_code.specs.Formed.{is_among, uses, binds, variables}
+use Rattle.low_code.specs.Formed.{uses, binds, variables}
 use Rattle.register_alloc.specs.Live.{IsLive, EachBinding, EachBindingOf}
 use Rattle.register_alloc.specs.Fits.{Ascending}
 use Rattle.register_alloc.specs.Uses.{AreUses}
@@ -14,6 +14,7 @@ use Rattle.register_alloc.specs.declared.holders.Holder.{Holder}
 use Rattle.register_alloc.specs.declared.registers.CallSite.{CallSite}
 use Rattle.register_alloc.specs.declared.registers.Registers.{Registers}
 use Rattle.register_alloc.specs.declared.registers.Text.{Text}
+use Rattle.seq.specs.Lists.{is_among}
 
 -- ---- what is live after the calls of a block
 

@@ -20,3 +20,7 @@ IsOffB i = (negsuc 4095 ≤ℤ i) × (i ≤ℤ pos 4094) × (unsigned_part 8192 
 
 abbrev pub IsOffJ : ℤ → Type 0
 IsOffJ i = (negsuc 1048575 ≤ℤ i) × (i ≤ℤ pos 1048574) × (unsigned_part 2097152 i % 2 ≡ 0)
+
+-- the signed number of the lower 12 bits
+abbrev pub lower : ℕ → ℤ
+lower n = signed_part 4096 (n % 4096)

@@ -7,3 +7,4 @@ pub mod Enters
 pub mod Reached
 pub mod Forward
 pub mod Pace
+pub mod Counted

@@ -1,7 +1,7 @@
 -- The machine does with the instructions of an item what the item does.
 use Rattle.std.proofs.Common.{◌≡◌, ◌≢◌, ℕ, ◌+◌, ◌*◌, ◌/◌, ◌%◌, ◌≤◌, Bool, true, false, not, nat_eq, List, [], ◌∷◌, Some, refl, sym, ap, ◌∙◌, subst, arith}
 use Rattle.std.specs.Prelude.{ℤ, pos, negsuc, ◌&&◌, if◌then◌else◌}
-use Rattle.std.proofs.lemmas.Bool.{eqb-true, eqb-false, eq-eqb, ne_eqb, and_parts, true≢false}
+use Rattle.std.proofs.lemmas.Bool.{eqb-true, eqb-false, ne_eqb, and_parts, true≢false}
 use Rattle.rv32_isa.specs.declared.instr.Instr.{Instr}
 use Rattle.rv32_isa.specs.declared.instr.Instr.TheVariants.{Lui, Auipc, Jal, Jalr, Branch as Branch', Load, Store, OpImm, Shift, Op, Fence, Ecall, Ebreak}
 use Rattle.rv32_machine.specs.declared.memory.Right.TheVariants.{Read, Write}
@@ -23,25 +23,15 @@ use Rattle.rv32_items.specs.Placed.{IsPlain, Climbs, Closes}
 use Rattle.rv32_items.specs.Told.{is_call, returns}
 use Rattle.rv32_layout.specs.declared.form.Way.{Way}
 use Rattle.rv32_layout.specs.declared.form.Way.TheVariants.{ByBranch, ByJump, ByAddress}
-use Rattle.rv32_layout.specs.Forms.{offset, distance, upper, lower, opposite, by_address, branch_code, jump_code, branch_width, jump_width}
+use Rattle.rv32_layout.specs.Forms.{offset, distance, upper, opposite, by_address, branch_code, jump_code, branch_width, jump_width}
 use Rattle.rv32_layout.proofs.Reach.{address, offset_lands, distance_lands}
 use Rattle.rv32_layout.proofs.Steps.{HasAll, jal, auipc, jalr, taken, not_taken}
+use Rattle.rv32_machine.proofs.Registers.{set_there as kept, set_again, set_here}
+use Rattle.rv32_isa.specs.Bits.{lower}
 
 -- ---- registers
 
-pub kept : (regs : ℕ → ℕ) (r v q : ℕ) → q ≢ r → set_reg regs r v q ≡ regs q
-kept regs r v q ne = ap (λ b. if b then v else regs q) (ne_eqb q r ne)
-
-set_there : (regs : ℕ → ℕ) (r v : ℕ) → set_reg regs r v r ≡ v
-set_there regs r v = ap (λ b. if b then v else regs r) (eq-eqb r r refl)
-
-twice_at : (b : Bool) (x y z : ℕ) → (if b then y else (if b then x else z)) ≡ (if b then y else z)
-twice_at true x y z = refl
-twice_at false x y z = refl
-
 -- a register that is set again
-set_twice : (regs : ℕ → ℕ) (r x y : ℕ) → set_reg (set_reg regs r x) r y ≡ set_reg regs r y
-set_twice regs r x y = λ i q. twice_at (nat_eq q r) x y (regs q) i
 
 swap_at : (b c : Bool) (x y z : ℕ) → (b ≡ true → c ≡ true → ⊥) → (if b then y else (if c then x else z)) ≡ (if c then x else (if b then y else z))
 swap_at true true x y z apart = absurd (apart refl refl)
@@ -129,7 +119,7 @@ module _ (c : Stretch) (rest : List Stretch) where
       let first : step (here regs pc) ≡ Next (here (set_reg regs through half) (pc + 4)) =
       auipc c pc regs rest through _ has.0.holds ∙ ap (λ p. Next (here (set_reg regs through (plus p (upper (distance from to) * 4096))) (pc + 4))) e in
       let read : value (set_reg regs through half) through ≡ half =
-      ap (λ b. if b then 0 else set_reg regs through half through) (ne_eqb through 0 ne) ∙ set_there regs through half in
+      ap (λ b. if b then 0 else set_reg regs through half through) (ne_eqb through 0 ne) ∙ set_here regs through half in
       let lands : plus (value (set_reg regs through half) through) (pattern low) / 2 * 2 ≡ address to =
       ap (λ v. plus v (pattern low) / 2 * 2) read ∙ distance_lands from to hf ht in
       let four : address to % 4 ≡ 0 = omega arith in
@@ -230,7 +220,7 @@ module _ (c : Stretch) (rest : List Stretch) where
       let behind : address at + 4 + 4 ≡ address next = omega arith in
       let more = by_address_goes (Jump link l) link link at to (address at) (address next) regs refl refl some (λ a b. some a) (omega arith) ht refl behind has in
       let same : set_reg (set_reg regs link (halfway at to)) link (address at + 4 + 4) ≡ set_reg regs link (address next) =
-      ap (λ v. set_reg (set_reg regs link (halfway at to)) link v) behind ∙ set_twice regs link (halfway at to) (address next) in
+      ap (λ v. set_reg (set_reg regs link (halfway at to)) link v) behind ∙ set_again regs link (halfway at to) (address next) in
       record { steps = 2; few = omega arith; climbs = subst (λ r. Climbs (Jump link l) 2 (address next) (here regs (address at)) (here r (address to))) same more }
 
   pub jump_goes : (w : Way) (at to next link l : ℕ) (regs : ℕ → ℕ) → at ≤ 268435456 → to ≤ 268435456 → next ≡ at + jump_width w → HasAll c (address at) (jump_code w at to link) → Goes (Jump link l) 3 (address next) (here regs (address at)) (here (jump_far w at to link (set_reg regs link (address next))) (address to))

@@ -3,7 +3,8 @@ use Rattle.std.proofs.Common.{◌≡◌, ℕ, suc, ◌+◌, ◌-◌, ◌*◌, �
 use Rattle.std.specs.Prelude.{pos, negsuc, nat_le, nat_lt, if◌then◌else◌}
 use Rattle.std.proofs.lemmas.Bool.{leb-true, leb-false, ltb-true, ltb-false}
 use Rattle.rv32_machine.specs.Arithmetic.{plus, pattern}
-use Rattle.rv32_layout.specs.Forms.{offset, distance, upper, lower}
+use Rattle.rv32_layout.specs.Forms.{offset, distance, upper}
+use Rattle.rv32_isa.specs.Bits.{lower}
 
 -- the address of a word of the code
 abbrev pub address : ℕ → ℕ

@@ -3,7 +3,6 @@
 use Rattle.std.proofs.Common.{◌≡◌, ℕ, ◌+◌, ◌-◌, ◌*◌, ◌/◌, ◌%◌, ◌^◌, ◌<◌, ◌≤◌, List, [], ◌∷◌, ◌++◌, length, take, drop, Some, true, false, refl, sym, ap, ◌∙◌, append_assoc, length-append, subst, arith}
 use Rattle.std.specs.Prelude.{ℤ, nat_eq, if◌then◌else◌}
 use Rattle.std.proofs.lemmas.Bool.Decides.{nat_tests}
-use Rattle.std.proofs.lemmas.Grind.{common_steps}
 use Rattle.elf32.specs.File.{words as words_bytes}
 use Rattle.rv32_isa.specs.declared.instr.Instr.{Instr}
 use Rattle.rv32_isa.specs.declared.instr.Instr.TheVariants.{Auipc, Jal, Jalr, Branch}
@@ -11,14 +10,14 @@ use Rattle.rv32_isa.specs.declared.instr.BranchKind.{BranchKind}
 use Rattle.rv32_isa.specs.Table.{instr_of}
 use Rattle.rv32_machine.specs.declared.memory.Right.TheVariants.{Execute}
 use Rattle.rv32_machine.specs.declared.machine.TrapKind.TheVariants.{MisalignedJump}
-use Rattle.rv32_machine.specs.Memory.{Stretch, end_of, access, read_at, bytes_of, number_of}
+use Rattle.rv32_machine.specs.Memory.{Stretch, end_of, access, read_at, bytes_of, little_endian}
 use Rattle.rv32_machine.specs.Arithmetic.{plus, pattern, is_taken}
 use Rattle.rv32_machine.specs.Steps.{Outcome, Next, Trapped, step, fetched, act_on, set_reg, jump}
 use Rattle.rv32_steps.specs.Leads.{at}
 use Rattle.rv32_steps.specs.Code.{Holds}
 use Rattle.rv32_steps.specs.Straight.{value}
 use Rattle.rv32_steps.specs.Trace.{decoded, instruction_at}
-use Rattle.rv32_steps.proofs.Fetch.{in_first, four_back}
+use Rattle.rv32_steps.proofs.Fetch.{in_first, four_back, cut}
 use Rattle.rv32_layout.specs.Places.{Encode}
 
 module _ (c : Stretch) (pc : ℕ) (regs : ℕ → ℕ) (rest : List Stretch) where
@@ -60,6 +59,10 @@ module _ (c : Stretch) (pc : ℕ) (regs : ℕ → ℕ) (rest : List Stretch) whe
 -- ---- words
 
 -- a word as bytes
+pub words_length : (ws : List ℕ) → length (words_bytes ws) ≡ 4 * length ws
+words_length [] = refl
+words_length (w ∷ ws) = let e = words_length ws in omega (arith, e)
+
 pub word_bytes : (w : ℕ) (ws : List ℕ) → words_bytes (w ∷ ws) ≡ bytes_of 4 w ++ words_bytes ws
 word_bytes w ws =
     let b2 : w / 65536 % 256 ≡ w / 256 / 256 % 256 = omega arith in
@@ -88,7 +91,7 @@ back c pc (i ∷ a) b h =
 has : (c : Stretch) (pc w : ℕ) (i : Instr) → c.exec ≡ true → pc % 4 ≡ 0 → c.first ≤ pc → pc + 4 ≤ end_of c → pc + 4 < 2 ^ 32 → instr_of w ≡ Some i → w < 2 ^ 32 → take 4 (drop (pc - c.first) c.bytes) ≡ bytes_of 4 w → Has c pc i
 unfolding step
 has c pc w i x four lo hi top is small bytes =
-    let word : number_of (take 4 (drop (pc - c.first) c.bytes)) ≡ w = ap number_of bytes ∙ four_back w small in
+    let word : little_endian (take 4 (drop (pc - c.first) c.bytes)) ≡ w = ap little_endian bytes ∙ four_back w small in
     let aligned : nat_eq (pc % 4) 0 ≡ true = grind (arith, nat_tests) in
     record {
       holds = record {
@@ -104,13 +107,6 @@ has c pc w i x four lo hi top is small bytes =
           ap (λ a. decoded (read_at (c ∷ rest) 4 a)) (in_first Execute c rest pc 4 x lo hi (omega arith))
           ∙ ap instr_of word ∙ is;
     }
-
-pub words_length : (ws : List ℕ) → length (words_bytes ws) ≡ 4 * length ws
-words_length [] = refl
-words_length (w ∷ ws) = let e = words_length ws in omega (arith, e)
-
-cut : (pre bs post : List ℕ) → take (length bs) (drop (length pre) (pre ++ (bs ++ post))) ≡ bs
-cut pre bs post = grind (arith, common_steps)
 
 -- where words that encode instructions are in the code, memory has these
 pub all_there : (c : Stretch) (pre : List ℕ) (pc : ℕ) (is : List Instr) (ws : List ℕ) → c.exec ≡ true → c.bytes ≡ pre ++ words_bytes ws → pc ≡ c.first + length pre → pc % 4 ≡ 0 → end_of c < 2 ^ 32 → Encode is ws → HasAll c pc is

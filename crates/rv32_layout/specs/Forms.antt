@@ -1,7 +1,7 @@
 -- By which instructions an item does what it says. Words are counted from the first one of the
 -- code, which stands at 65536.
 use Rattle.std.specs.Prelude.{ℕ, ℤ, pos, negsuc, ◌+◌, ◌-◌, ◌*◌, ◌/◌, ◌%◌, ◌^◌, ◌<◌, ◌≤◌, Bool, ◌&&◌, nat_eq, nat_lt, nat_le, if◌then◌else◌, List, [], ◌∷◌}
-use Rattle.rv32_isa.specs.Bits.{signed_part}
+use Rattle.rv32_isa.specs.Bits.{lower}
 use Rattle.rv32_isa.specs.declared.instr.Instr.{Instr}
 use Rattle.rv32_isa.specs.declared.instr.Instr.TheVariants.{Auipc, Jal, Jalr, Branch as Branch'}
 use Rattle.rv32_items.specs.declared.Cond.{Cond}
@@ -44,9 +44,6 @@ distance from to = (4 * to + (2 ^ 32 - 4 * from)) % 2 ^ 32
 
 abbrev pub upper : ℕ → ℕ
 upper u = (u + 2048) % 2 ^ 32 / 4096
-
-abbrev pub lower : ℕ → ℤ
-lower u = signed_part 4096 (u % 4096)
 
 abbrev pub opposite : Cond → Cond
 opposite Eq = Ne

@@ -1,9 +1,9 @@
 // The instructions of an item. Words are counted from the first one of the code.
 
 ghost use Rattle.std.specs.Prelude.{◌≡◌, ◌≤◌, ◌<◌, [], ◌∷◌, OnOk, nat_eq, if◌then◌else◌};
-ghost use Rattle.rv32_isa.specs.Bits.{IsOffB, IsOffJ};
+ghost use Rattle.rv32_isa.specs.Bits.{IsOffB, IsOffJ, lower};
 ghost use Rattle.rv32_items.specs.Course.{kind_of};
-ghost use Rattle.rv32_layout.specs.Forms.{Within, branch_range, jump_range, offset, distance, upper, lower, opposite, carrier, by_address, branch_code, jump_code, instructions, BranchGoes, JumpGoes, CanGo};
+ghost use Rattle.rv32_layout.specs.Forms.{Within, branch_range, jump_range, offset, distance, upper, opposite, carrier, by_address, branch_code, jump_code, instructions, BranchGoes, JumpGoes, CanGo};
 ghost use Rattle.rv32_layout.specs.Places.{Puts};
 
 use crate::form::Way;

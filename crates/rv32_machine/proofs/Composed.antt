@@ -50,7 +50,7 @@ end_stays m n input s h =
     let r = run m input s in
     runs_compose m n input s ∙ ended n r.out r.left r.end h
 
-end_append : (xs : List ℕ) → xs ≡ xs ++ []
+pub end_append : (xs : List ℕ) → xs ≡ xs ++ []
 end_append xs = grind (arith, common_steps)
 
 grows : (n : ℕ) (out left : List ℕ) (e : End) → (more : List ℕ) × ((continued n (record { out = out; left = left; end = e })).out ≡ out ++ more)

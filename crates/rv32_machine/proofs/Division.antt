@@ -4,10 +4,11 @@ use Rattle.std.proofs.lemmas.Int.{of_z-to_z, to_z-of_z, wrapping_add-bits, wrapp
 use Rattle.std.proofs.Math.Nat.{mod-le}
 use Rattle.std.proofs.lemmas.Bool.{ltb-true, ltb-false}
 use Rattle.std.proofs.lemmas.Bool.Decides.{nat_tests}
-use Rattle.std.specs.Prelude.{neg_ℤ, Bool, not, cond, nat_lt, nat_eq, int_lt, if◌then◌else◌}
+use Rattle.std.specs.Prelude.{neg_ℤ, Bool, not, cond, nat_lt, int_lt, if◌then◌else◌}
 use Rattle.std.specs.Int.{int_wrap, int_wrapping_div}
 use Rattle.numbers.specs.Numbers.{wrap, truth, quotient, remainder, signed, pattern, same_number}
 use Rattle.rv32_machine.specs.Arithmetic.{bit, OperationsAgree, is_negative, magnitude, just_one, with_sign, negated, divided, left_over}
+use Rattle.seq.proofs.Order.{no_zero}
 
 -- to wrap a number of few bits is to read it as a word
 wrap_is : (z : ℤ) → unsigned_abs z ≤ 2 ^ 31 → wrap z ≡ to_z w32 (of_z w32 z)
@@ -79,9 +80,6 @@ not_zero b some = by_sign (nat_lt b (2 ^ 31))
     by_sign : (below : Bool) → same_number (cond below (pos b) (negsuc (2 ^ 32 - suc b))) (pos 0) ≡ false
     by_sign true = grind (arith, nat_tests)
     by_sign false = refl
-
-no_zero : (b : ℕ) → nat_eq (suc b) 0 ≡ false
-no_zero b = grind (arith, nat_tests)
 
 pub quotient_agrees : (a b : ℕ) → a < 2 ^ 32 → b < 2 ^ 32 → divided a b ≡ pattern (quotient (signed a) (signed b))
 quotient_agrees a zero ha hb = refl

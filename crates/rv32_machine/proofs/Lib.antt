@@ -5,3 +5,4 @@ pub mod Advanced
 pub mod Division
 pub mod Stores
 pub mod Begun
+pub mod Registers

@@ -1,6 +1,5 @@
 -- One step of the machine as a run of one step.
-use Rattle.std.proofs.Common.{◌≡◌, ℕ, List, [], ◌∷◌, ◌++◌, drop, Option, Some, true, false, refl, sym, ap, ◌∙◌, subst, arith}
-use Rattle.std.proofs.lemmas.Grind.{common_steps}
+use Rattle.std.proofs.Common.{◌≡◌, ℕ, List, [], ◌∷◌, drop, Option, Some, true, false, refl, sym, ap, ◌∙◌, subst}
 use Rattle.std.specs.Prelude.{slice_get}
 use Rattle.rv32_machine.specs.declared.machine.TrapKind.{TrapKind}
 use Rattle.rv32_machine.specs.declared.machine.Stop.{Stop}
@@ -9,10 +8,7 @@ use Rattle.rv32_machine.specs.declared.machine.StepResult.TheVariants.{Next as N
 use Rattle.rv32_machine.specs.Memory.{range_bytes}
 use Rattle.rv32_machine.specs.Steps.{State, Stand, state_of, Outcome, Next, Written, Asked, Ended, Trapped, Does, IsAt, IsRunning, step, given}
 use Rattle.rv32_machine.specs.Runs.{Run, Going, Exited, Stopped, stands, after, onward, run, piece_of, Stays}
-use Rattle.rv32_machine.proofs.Composed.{run_none, run_more}
-
-pub end_append : (xs : List ℕ) → xs ≡ xs ++ []
-end_append xs = grind (arith, common_steps)
+use Rattle.rv32_machine.proofs.Composed.{run_none, run_more, end_append}
 
 -- ---- the outcome of a step, by the machine's answer
 

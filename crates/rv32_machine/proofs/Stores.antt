@@ -12,7 +12,7 @@ use Rattle.rv32_machine.specs.declared.memory.Right.{Right}
 use Rattle.rv32_machine.specs.declared.memory.Right.TheVariants.{Read, Write, Execute}
 use Rattle.rv32_machine.specs.declared.memory.Access.TheVariants.{At, Outside}
 use Rattle.rv32_machine.specs.declared.store.Decoded.{Decoded}
-use Rattle.rv32_machine.specs.Memory.{Stretch, no_stretch, allows, is_in, end_of, place_from, segment_at, within, at_place, access, put_over, with_bytes, stored_at, number_of, IsPlace, IsInside, IsAllowed}
+use Rattle.rv32_machine.specs.Memory.{Stretch, no_stretch, allows, is_in, end_of, place_from, segment_at, within, at_place, access, put_over, with_bytes, stored_at, little_endian, IsPlace, IsInside, IsAllowed}
 use Rattle.rv32_machine.specs.Decoded.{IsDecoded, AreApart, IsStore}
 
 over_length : (old : List ℕ) (offset : ℕ) (new : List ℕ) → length (put_over old offset new) ≡ length old
@@ -89,7 +89,7 @@ module _ (memory : List Stretch) (m offset : ℕ) (new : List ℕ) (there : m < 
       segment = h.segment;
       offset = h.offset;
       word = h.word;
-      stands = (access_kept Execute d.address 4 ∙ h.stands.0, ap (λ s. number_of (take 4 (drop h.offset s.bytes))) (other h.segment apart) ∙ h.stands.1);
+      stands = (access_kept Execute d.address 4 ∙ h.stands.0, ap (λ s. little_endian (take 4 (drop h.offset s.bytes))) (other h.segment apart) ∙ h.stands.1);
       decodes = h.decodes;
       fixed = write_kept h.segment ∙ h.fixed;
     }

@@ -6,13 +6,13 @@ use Rattle.rv32_machine.specs.declared.memory.Access.TheVariants.{At, Outside as
 use Rattle.rv32_machine.specs.declared.store.Decoded.{Decoded}
 use Rattle.rv32_machine.specs.declared.store.Fetched.{Fetched}
 use Rattle.rv32_machine.specs.declared.store.Fetched.TheVariants.{Instr, Illegal, Outside}
-use Rattle.rv32_machine.specs.Memory.{Stretch, access, segment_at, bytes_at, number_of, is_in}
+use Rattle.rv32_machine.specs.Memory.{Stretch, access, segment_at, bytes_at, little_endian, is_in}
 
 -- so many bytes at a place of memory are the word that an instruction is fetched from
 abbrev pub IsWordAt : List Stretch → (address word : ℕ) → (segment offset : ℕ) → Type 0
 IsWordAt memory address word segment offset =
     (access Execute memory address 4 ≡ At segment offset)
-    × (number_of (bytes_at memory segment offset 4) ≡ word)
+    × (little_endian (bytes_at memory segment offset 4) ≡ word)
 
 -- what stands at an address: an instruction, a word that is none, or nothing that may be executed
 abbrev pub Fetches : List Stretch → (address : ℕ) → Fetched → Type 0

@@ -13,7 +13,7 @@ use Rattle.rv32_machine.specs.declared.machine.StepResult.{StepResult}
 use Rattle.rv32_machine.specs.declared.machine.StepResult.TheVariants.{Next as Next', Read as Read', Write as Write', Exit, Trap}
 use Rattle.rv32_machine.specs.declared.machine.TrapKind.{TrapKind}
 use Rattle.rv32_machine.specs.declared.machine.TrapKind.TheVariants.{IllegalInstruction, MisalignedJump, MisalignedAccess, AccessOutside, UnknownCall, Breakpoint}
-use Rattle.rv32_machine.specs.Memory.{Stretch, stretch_of, range_bytes, access, bytes_of, number_of, bytes_at, stored_at, stored_to}
+use Rattle.rv32_machine.specs.Memory.{Stretch, stretch_of, range_bytes, access, bytes_of, little_endian, bytes_at, stored_at, stored_to}
 use Rattle.rv32_machine.specs.Arithmetic.{pattern, plus, op_value, imm_value, shift_value, is_taken, load_size, load_value, store_size}
 
 -- the registers, the address of the next instruction, and memory
@@ -61,7 +61,8 @@ jump target then_next = if nat_eq (target % 4) 0 then then_next else Trapped Mis
 
 abbrev pub loaded : State → (r : ℕ) → (ℕ → ℕ) → (len : ℕ) → Access → Outcome
 loaded s r value len (Outside a) = Trapped (AccessOutside a)
-loaded s r value len (At n offset) = put s r (value (number_of (bytes_at s.memory n offset len)))
+loaded s r value len (At n offset) =
+    put s r (value (little_endian (bytes_at s.memory n offset len)))
 
 abbrev pub load : State → (r : ℕ) → (ℕ → ℕ) → (len address : ℕ) → Outcome
 load s r value len address =
@@ -161,7 +162,7 @@ act_on s word (Some i) = act s i
 abbrev pub fetched : State → Access → Outcome
 fetched s (Outside a) = Trapped (AccessOutside a)
 fetched s (At n offset) =
-    let word = number_of (bytes_at s.memory n offset 4) in act_on s word (instr_of word)
+    let word = little_endian (bytes_at s.memory n offset 4) in act_on s word (instr_of word)
 
 -- the instruction at pc
 unfoldable pub step : State → Outcome

@@ -5,6 +5,7 @@ ghost use Rattle.rv32_machine.specs.Arithmetic.{op_value, divided, left_over, im
 
 use rv32_isa::{BranchKind, ImmKind, LoadKind, OpKind, ShiftKind, StoreKind};
 
+/// The sum of two words, modulo 2^32.
 #[inline(always)]
 pub fn plus(a: u32, b: u32) -> u32
     ensures { result ≡ plus a b }
@@ -78,6 +79,7 @@ fn mixed_product(a: u32, b: u32) -> i64
     a.cast_signed() as i64 * b as i64
 }
 
+/// What an operation on two registers gives.
 #[inline(always)]
 pub fn op_value(kind: OpKind, a: u32, b: u32) -> u32
     ensures { result ≡ op_value kind a b }
@@ -104,6 +106,7 @@ pub fn op_value(kind: OpKind, a: u32, b: u32) -> u32
     }
 }
 
+/// What an operation on a register and a number gives.
 #[inline(always)]
 pub fn imm_value(kind: ImmKind, a: u32, b: u32) -> u32
     ensures { result ≡ imm_value kind a b }
@@ -118,6 +121,7 @@ pub fn imm_value(kind: ImmKind, a: u32, b: u32) -> u32
     }
 }
 
+/// What a shift by a number below 32 gives.
 #[inline(always)]
 pub fn shift_value(kind: ShiftKind, a: u32, k: u32) -> u32
     requires { k < 32 }
@@ -130,6 +134,7 @@ pub fn shift_value(kind: ShiftKind, a: u32, k: u32) -> u32
     }
 }
 
+/// Whether a branch is taken.
 #[inline(always)]
 pub fn is_taken(kind: BranchKind, a: u32, b: u32) -> bool
     ensures { result ≡ is_taken kind a b }
@@ -144,6 +149,7 @@ pub fn is_taken(kind: BranchKind, a: u32, b: u32) -> bool
     }
 }
 
+/// How many bytes a load reads.
 pub fn load_size(kind: LoadKind) -> u32
     ensures { result ≡ load_size kind }
 {
@@ -167,6 +173,7 @@ pub fn load_value(kind: LoadKind, v: u32) -> u32
     }
 }
 
+/// How many bytes a store writes.
 pub fn store_size(kind: StoreKind) -> u32
     ensures { result ≡ store_size kind }
 {

@@ -2,7 +2,7 @@
 
 ghost use Rattle.std.specs.Prelude.{◌≡◌, ◌+◌, ◌*◌, ◌<◌, ◌^◌, false, true, Option, Some, IsSome, if◌then◌else◌, ◌⊎◌, IfOk};
 ghost use Rattle.rv32_machine.specs.Arithmetic.{plus, pattern, load_size, load_value, store_size};
-ghost use Rattle.rv32_machine.specs.Memory.{range_bytes, IsInside, IsAllowed, bytes_of, number_of};
+ghost use Rattle.rv32_machine.specs.Memory.{range_bytes, IsInside, IsAllowed, bytes_of, little_endian};
 ghost use Rattle.rv32_machine.specs.Steps.{start_of, stored, given, Next, Trapped, Ended, Does, IsAt, IsRunning, state_of, reg, with_reg, go_to, put, jump, load, store, write_call, read_call, call, act, step, next_pc};
 ghost use Rattle.rv32_machine.specs.declared.machine.TrapKind.{TrapKind};
 ghost use Rattle.rv32_machine.specs.declared.memory.Access.{Access};

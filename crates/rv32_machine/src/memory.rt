@@ -3,7 +3,7 @@
 ghost use Rattle.std.specs.Prelude.{◌≡◌, ◌&&◌, ◌^◌, ◌++◌, ◌-◌, replicate, IfOk, OnOk, ◌+◌, ◌<◌, ◌≤◌, length, take, drop, slice_index, ◌⊎◌};
 ghost use Rattle.elf32.specs.Image.{IsPart};
 ghost use Rattle.rv32_machine.specs.declared.memory.Access.{Access};
-ghost use Rattle.rv32_machine.specs.Memory.{allows, IsAllowed, IsPlace, is_in, within, access, number_of, bytes_of, with_bytes, put_over, IsInside, stretch_of, bytes_at, stored_at};
+ghost use Rattle.rv32_machine.specs.Memory.{allows, IsAllowed, IsPlace, is_in, within, access, little_endian, bytes_of, with_bytes, put_over, IsInside, stretch_of, bytes_at, stored_at};
 
 use elf32::Segment;
 use std::alloc::{AllocError, Global};
@@ -70,6 +70,7 @@ impl Region {
         self.allows(right) && self.is_in(address)
     }
 
+    /// Whether the segment may be written.
     pub fn can_write(&self) -> bool
         ensures { result ≡ self.now.write }
     {
@@ -107,6 +108,7 @@ impl Region {
         })
     }
 
+    /// So many bytes, from an offset in bytes on.
     pub fn slice(&self, offset: usize, len: usize) -> &[u8]
         requires { offset + len ≤ length self.now.bytes }
         ensures { result.now ≡ take len (drop offset self.now.bytes) }
@@ -125,7 +127,7 @@ impl Region {
     #[inline(always)]
     fn half(&self, offset: usize) -> u32
         requires { offset + 2 ≤ length self.now.bytes }
-        ensures value { result ≡ number_of (take 2 (drop offset self.now.bytes)) }
+        ensures value { result ≡ little_endian (take 2 (drop offset self.now.bytes)) }
         ensures small { result < 65536 }
     {
         let bytes = &self.bytes[offset..offset + 2];
@@ -135,7 +137,7 @@ impl Region {
     #[inline(always)]
     fn word(&self, offset: usize) -> u32
         requires { offset + 4 ≤ length self.now.bytes }
-        ensures { result ≡ number_of (take 4 (drop offset self.now.bytes)) }
+        ensures { result ≡ little_endian (take 4 (drop offset self.now.bytes)) }
     {
         let bytes = &self.bytes[offset..offset + 4];
         bytes[0] as u32 + 256 * (bytes[1] as u32 + 256 * (bytes[2] as u32 + 256 * bytes[3] as u32))
@@ -226,7 +228,7 @@ pub fn locate(regions: &[Region], right: Right, address: u32, len: u32) -> Acces
 pub fn read(regions: &[Region], number: usize, offset: usize, len: u32) -> u32
     requires len { (len ≡ 1) ⊎ (len ≡ 2) ⊎ (len ≡ 4) }
     requires inside { IsInside regions.now len (Access.At number offset) }
-    ensures value { result ≡ number_of (bytes_at regions.now number offset len) }
+    ensures value { result ≡ little_endian (bytes_at regions.now number offset len) }
     ensures small { result < 256 ^ len }
 {
     let region = &regions[number];

@@ -4,7 +4,7 @@ ghost use Rattle.std.specs.Prelude.{◌≡◌, ◌+◌, ◌%◌, ◌<◌, ◌≤
 ghost use Rattle.elf32.specs.Image.{IsPart};
 ghost use Rattle.rv32_machine.specs.declared.memory.Access.{Access};
 ghost use Rattle.rv32_machine.specs.declared.memory.Right.{Right};
-ghost use Rattle.rv32_machine.specs.Memory.{access, range_bytes, stretch_of, segment_at, IsInside, IsAllowed, IsPlace, bytes_of, number_of, bytes_at, stored_at};
+ghost use Rattle.rv32_machine.specs.Memory.{access, range_bytes, stretch_of, segment_at, IsInside, IsAllowed, IsPlace, bytes_of, little_endian, bytes_at, stored_at};
 ghost use Rattle.rv32_machine.specs.Decoded.{Fetches, IsDecoded};
 
 use crate::memory::{Access, Region, Right, access_at, locate, place, read, write};
@@ -189,7 +189,7 @@ impl Memory {
     pub fn read(&self, region: usize, offset: usize, len: u32) -> u32
         requires len { (len ≡ 1) ⊎ (len ≡ 2) ⊎ (len ≡ 4) }
         requires inside { IsInside self.now len (Access.At region offset) }
-        ensures value { result ≡ number_of (bytes_at self.now region offset len) }
+        ensures value { result ≡ little_endian (bytes_at self.now region offset len) }
         ensures small { result < 256 ^ len }
     {
         read(&self.regions, region, offset, len)

@@ -1,54 +1,20 @@
 -- Numbers that are in lists.
-use Rattle.std.proofs.Common.{◌≡◌, ℕ, zero, suc, true, List, [], ◌∷◌, ◌++◌, ◌⊎◌, inl, inr, Some, sym, ap, ◌∙◌, arith}
-use Rattle.std.specs.Prelude.{nat_eq, ◌||◌, slice_get}
-use Rattle.std.proofs.lemmas.Bool.Decides.{nat_tests}
-use Rattle.seq.proofs.Truth.{two_ways}
-use Rattle.low_code.specs.Formed.{is_among, Site, sites_of, calls_in, all_sites, variables, all_variables}
+use Rattle.std.proofs.Common.{◌≡◌, ℕ, zero, suc, true, List, [], ◌∷◌, ◌++◌, inl, inr, Some, ap, ◌∙◌}
+use Rattle.std.specs.Prelude.{slice_get}
+use Rattle.low_code.specs.Formed.{Site, sites_of, calls_in, all_sites, variables, all_variables}
 use Rattle.low_code.specs.Tree.{Procedure}
-
-pub among_first : (x : ℕ) (xs : List ℕ) → is_among x (x ∷ xs) ≡ true
-among_first x xs = let e : nat_eq x x ≡ true = grind (arith, nat_tests) in ap (λ b. b || is_among x xs) e
-
-pub among_later : (x y : ℕ) (xs : List ℕ) → is_among x xs ≡ true → is_among x (y ∷ xs) ≡ true
-among_later x y xs h = elim (two_ways (nat_eq x y)) [
-  | inl e ↦ ap (λ b. b || is_among x xs) e
-  | inr e ↦ ap (λ b. b || is_among x xs) e ∙ h
-]
+use Rattle.register_alloc.proofs.Lists.{among_either}
+use Rattle.seq.specs.Lists.{is_among}
+use Rattle.seq.proofs.Counted.{among_later, among_cases, among_first, among_left, among_right}
 
 -- the first, or among the others
-pub among_cons : (x y : ℕ) (xs : List ℕ) → is_among x (y ∷ xs) ≡ true → (x ≡ y) ⊎ (is_among x xs ≡ true)
-among_cons x y xs h = elim (two_ways (nat_eq x y)) [
-  | inl e ↦ inl (grind (arith, nat_tests))
-  | inr e ↦ inr (sym (ap (λ b. b || is_among x xs) e) ∙ h)
-]
-
-pub among_left : (x : ℕ) (a b : List ℕ) → is_among x a ≡ true → is_among x (a ++ b) ≡ true
-among_left x [] b h = cc
-among_left x (y ∷ a) b h = elim (two_ways (nat_eq x y)) [
-  | inl e ↦ ap (λ t. t || is_among x (a ++ b)) e
-  | inr e ↦ ap (λ t. t || is_among x (a ++ b)) e ∙ among_left x a b (sym (ap (λ t. t || is_among x a) e) ∙ h)
-]
-
-pub among_right : (x : ℕ) (a b : List ℕ) → is_among x b ≡ true → is_among x (a ++ b) ≡ true
-among_right x [] b h = h
-among_right x (y ∷ a) b h = among_later x y (a ++ b) (among_right x a b h)
-
-pub among_either : (x : ℕ) (a b : List ℕ) → is_among x (a ++ b) ≡ true → (is_among x a ≡ true) ⊎ (is_among x b ≡ true)
-among_either x [] b h = inr h
-among_either x (y ∷ a) b h = elim (two_ways (nat_eq x y)) [
-  | inl e ↦ inl (ap (λ t. t || is_among x a) e)
-  | inr e ↦ elim (among_either x a b (sym (ap (λ t. t || is_among x (a ++ b)) e) ∙ h)) [
-    | inl p ↦ inl (among_later x y a p)
-    | inr p ↦ inr p
-  ]
-]
 
 -- all of one list are in another
 abbrev pub Within : (xs ys : List ℕ) → Type 0
 Within xs ys = (x : ℕ) → is_among x xs ≡ true → is_among x ys ≡ true
 
 pub within_cons : (x : ℕ) (xs ys : List ℕ) → is_among x ys ≡ true → Within xs ys → Within (x ∷ xs) ys
-within_cons x xs ys h w y k = elim (among_cons y x xs k) [
+within_cons x xs ys h w y k = elim (among_cases y x xs k) [
   | inl e ↦ ap (λ z. is_among z ys) e ∙ h
   | inr m ↦ w y m
 ]

@@ -11,16 +11,19 @@ use Rattle.rv32_isa.specs.declared.instr.ImmKind.TheVariants.{Addi, Slti, Sltiu}
 use Rattle.rv32_isa.specs.declared.instr.OpKind.{OpKind}
 use Rattle.rv32_isa.specs.declared.instr.OpKind.TheVariants as op
 use Rattle.rv32_machine.specs.Memory.{Stretch}
-use Rattle.rv32_machine.specs.Arithmetic.{plus, minus, bit, less_signed, signed, pattern, op_value, is_negative, magnitude, just_one, with_sign, divided, left_over}
+use Rattle.rv32_machine.specs.Arithmetic.{plus, minus, bit, less_signed, signed, pattern, op_value, is_negative, magnitude, just_one, with_sign, divided, left_over, negated}
 use Rattle.rv32_machine.proofs.Division.{operations_agree}
 use Rattle.rv32_steps.specs.Data.{Bases}
 use Rattle.rv32_steps.specs.Straight.{value}
 use Rattle.low_code.specs.declared.program.PrimOp.{PrimOp}
 use Rattle.low_code.specs.declared.program.PrimOp.TheVariants.{Add, Sub, Mul, Quot, Rem, Eq, Lt}
 use Rattle.low_code.specs.Arithmetic.{arithmetic}
-use Rattle.rv32_select.specs.Emit.{is_short, lower, negated, operation, immediate, is_immediate, is_free}
+use Rattle.rv32_select.specs.Emit.{is_short, operation, immediate, is_immediate, is_free}
 use Rattle.rv32_select.proofs.Straight.{Data, with_reg, Good, Does, does_on, does_to, does_imm, does_op}
-use Rattle.rv32_select.proofs.NumberParts.{value_is, set_here, again, short_part}
+use Rattle.rv32_select.proofs.NumberParts.{value_is, again, short_part}
+use Rattle.rv32_machine.proofs.Registers.{set_here}
+use Rattle.numbers.proofs.Same.{same_itself}
+use Rattle.rv32_isa.specs.Bits.{lower}
 
 -- ---- bounds
 
@@ -59,10 +62,6 @@ left_over_small a b h = go (nat_eq b 0)
         sign_small (is_negative a) (magnitude a % magnitude b) (omega arith)
 
 -- ---- equal words
-
-same_itself : (z : ℤ) → same_number z z ≡ true
-same_itself (pos n) = grind (arith, nat_tests)
-same_itself (negsuc n) = grind (arith, nat_tests)
 
 same_turns : (y z : ℤ) → same_number y z ≡ same_number z y
 same_turns (pos m) (pos n) = equal_turns m n

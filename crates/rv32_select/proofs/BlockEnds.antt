@@ -8,7 +8,7 @@ use Rattle.parallel_move.specs.declared.Spot.TheVariants.{Reg, Slot, Scratch}
 use Rattle.parallel_move.specs.Moves.{Values}
 use Rattle.low_code.specs.declared.program.Operand.{Operand}
 use Rattle.low_code.specs.Tree.{Code, fail, Procedure, Program}
-use Rattle.low_code.specs.Formed.{is_among, uses, used_by, used_by_all, variables}
+use Rattle.low_code.specs.Formed.{uses, used_by, used_by_all, variables}
 use Rattle.low_code.specs.Values.{Word, Env, World, and_then}
 use Rattle.low_code.specs.Run.{Calls, code, operand, operands}
 use Rattle.register_alloc.specs.Fits.{slots_of}
@@ -23,16 +23,19 @@ use Rattle.rv32_select.specs.IsSelected.{sources}
 use Rattle.low_code.specs.Literals.{AreSmall}
 use Rattle.rv32_select.proofs.Courses.{Stands}
 use Rattle.rv32_select.proofs.Straight.{Data, with_reg, Good, good_reg, Does, does_on, does_load_stack}
-use Rattle.rv32_select.proofs.NumberParts.{set_there, does_add}
+use Rattle.rv32_select.proofs.NumberParts.{does_add}
 use Rattle.rv32_select.proofs.JumpStretches.{jumped, jumps, there_less, address_small}
 use Rattle.rv32_select.proofs.FrameViews.{spots, InFrame}
 use Rattle.rv32_select.proofs.OperandsRead.{read, IsPlace}
 use Rattle.rv32_select.proofs.Gathering.{IsPair, AllReadable}
 use Rattle.rv32_select.proofs.Relation.{bases, regs_of, word_of, AllHold, HoldsCells, HoldsWorld, Stood, ends_on, quiet, Needed}
 use Rattle.rv32_select.proofs.PlaceFacts.{IsOwn, ProcedureFine, Setting}
-use Rattle.rv32_select.proofs.BlockFacts.{Block, Simulates, among_left, among_right}
+use Rattle.rv32_select.proofs.BlockFacts.{Block, Simulates}
 use Rattle.rv32_select.proofs.OneBound.{operand_read}
 use Rattle.rv32_select.proofs.Stops.{good_far, no_alternative_stop}
+use Rattle.seq.specs.Lists.{is_among}
+use Rattle.rv32_machine.proofs.Registers.{set_there}
+use Rattle.seq.proofs.Counted.{among_left, among_right}
 
 -- each operand is read as its word
 abbrev pub EachIs : (width : ℕ) → (Source → ℕ) → List Source → List Word → Type 0

@@ -7,7 +7,7 @@ use Rattle.parallel_move.specs.declared.Spot.{Spot}
 use Rattle.parallel_move.specs.declared.Spot.TheVariants.{Reg, Slot, Scratch}
 use Rattle.parallel_move.specs.Moves.{Values}
 use Rattle.low_code.specs.Tree.{Code, Procedure, Program}
-use Rattle.low_code.specs.Formed.{is_among, uses, variables}
+use Rattle.low_code.specs.Formed.{uses, variables}
 use Rattle.low_code.specs.Values.{Word, Env, World, Room, with_var, with_vars}
 use Rattle.low_code.specs.Run.{Calls, code}
 use Rattle.register_alloc.specs.Live.{IsLive}
@@ -27,26 +27,12 @@ use Rattle.rv32_select.proofs.OperandsRead.{IsPlace}
 use Rattle.rv32_select.proofs.Gathering.{AllPlaces}
 use Rattle.rv32_select.proofs.Relation.{bases, regs_of, word_of, AllHold, HoldsCells, HoldsWorld, Keeps, Stood, Back, Does', Given, Needed}
 use Rattle.rv32_select.proofs.PlaceFacts.{NotAmong, Different, IsOwn, AllOwn, Binds, Fine}
+use Rattle.seq.specs.Lists.{is_among}
+use Rattle.seq.proofs.Counted.{among_left, among_right}
 
 pub or_true : (x y : Bool) → x || y ≡ true → (x ≡ true) ⊎ (y ≡ true)
 or_true true y e = inl refl
 or_true false y e = inr e
-
-pub among_left : (x : ℕ) (xs ys : List ℕ) → is_among x xs ≡ true → is_among x (xs ++ ys) ≡ true
-among_left x [] ys e = absurd (cc)
-among_left x (z ∷ xs) ys e = go (nat_eq x z) (is_among x xs) (is_among x (xs ++ ys)) e (among_left x xs ys)
-  where
-    go : (p q r : Bool) → p || q ≡ true → (q ≡ true → r ≡ true) → p || r ≡ true
-    go true q r e h = refl
-    go false q r e h = h e
-
-pub among_right : (x : ℕ) (xs ys : List ℕ) → is_among x ys ≡ true → is_among x (xs ++ ys) ≡ true
-among_right x [] ys e = e
-among_right x (z ∷ xs) ys e = go (nat_eq x z) (is_among x (xs ++ ys)) (among_right x xs ys e)
-  where
-    go : (p r : Bool) → r ≡ true → p || r ≡ true
-    go true r h = refl
-    go false r h = h
 
 -- a variable that is bound has its word at its place, and every other one the word that it had
 pub bound_word : (width : ℕ) (place : ℕ → Spot) (xs : List ℕ) (vs : List Word) (env env' : Env) (u : Values) (y : ℕ) (v : Word) → with_vars xs vs env ≡ Some env' → AllHold width (map place xs) vs u → env' y ≡ Some v → (u (place y) ≡ word_of width v) ⊎ (env y ≡ Some v)

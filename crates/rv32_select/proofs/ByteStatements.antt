@@ -29,20 +29,18 @@ use Rattle.rv32_select.specs.Emit.{plain, held, hold, aside, back, put_code, get
 use Rattle.rv32_select.specs.IsSelected.{heap_base, heap_end, source}
 use Rattle.rv32_select.proofs.Courses.{Stands, front, back as behind, Goes}
 use Rattle.rv32_select.proofs.Straight.{Data, with_reg, with_stack, Good, good_reg, good_stack, Does, does_on, does_imm, does_op, does_load_stack, does_store_stack, at}
-use Rattle.rv32_select.proofs.NumberParts.{set_here, set_there}
 use Rattle.rv32_select.proofs.FrameViews.{spots, InFrame, Outside, Kept, kept_reg, seen_reg, copied, stores}
 use Rattle.rv32_select.proofs.OperandsRead.{read, IsPlace, holds, held_not_seven, read_same, put_here, put_there}
 use Rattle.rv32_select.proofs.Relation.{bases, HoldsCells, HoldsWorld, Ran, ran_on, wrote, took, Does', does_after, Given, Needed}
 use Rattle.rv32_select.proofs.PlaceFacts.{IsOwn, ProcedureFine, Setting}
-use Rattle.rv32_select.proofs.BlockFacts.{room, Block, Simulates, Changed, among_left, among_right, own_place, stood_bound, still_scoped}
+use Rattle.rv32_select.proofs.BlockFacts.{room, Block, Simulates, Changed, own_place, stood_bound, still_scoped}
 use Rattle.rv32_select.proofs.OneBound.{Cut, cut, ready_at, plain_ran, operand_read}
 use Rattle.rv32_select.proofs.WordStatements.{stood_same, number_there}
 use Rattle.rv32_select.proofs.TakeStatement.{scope_owned}
 use Rattle.rv32_select.proofs.MachineCalls.{four, at_call, brought_back, aside_done, back_done, aside_other, all_back, word_back, write_call, read_call_ends, read_call_takes}
-
-plain_append : (xs ys : List Instr) → plain (xs ++ ys) ≡ plain xs ++ plain ys
-plain_append [] ys = refl
-plain_append (x ∷ xs) ys = ap (λ l. Plain x ∷ l) (plain_append xs ys)
+use Rattle.rv32_machine.proofs.Registers.{set_there, set_here}
+use Rattle.seq.proofs.Counted.{among_left, among_right}
+use Rattle.rv32_select.proofs.Plain.{plain_append}
 
 -- instructions before an ECALL, it, and those behind it
 record Called' (items : List Item) (p : ℕ) (before after : List Instr) : Type 0 where

@@ -9,7 +9,6 @@ use Rattle.parallel_move.specs.declared.Spot.TheVariants.{Reg, Slot, Scratch}
 use Rattle.parallel_move.specs.declared.Move.{Move}
 use Rattle.parallel_move.specs.Moves.{one_by_one}
 use Rattle.low_code.specs.Tree.{Program}
-use Rattle.low_code.specs.Formed.{is_among}
 use Rattle.low_code.specs.Values.{Word}
 use Rattle.register_alloc.specs.Fits.{Ascending}
 use Rattle.register_alloc.specs.Assignment.{Assignment, place_of}
@@ -26,6 +25,7 @@ use Rattle.rv32_select.proofs.Relation.{bases, regs_of, word_of, AllHold}
 use Rattle.rv32_select.proofs.PlaceFacts.{NotAmong, Different, IsOwn, AllOwn, AllFree}
 use Rattle.rv32_select.proofs.BlockFacts.{own_place, own_places}
 use Rattle.rv32_select.proofs.BlockEnds.{EachIs, all_hold}
+use Rattle.seq.specs.Lists.{is_among}
 
 nothing_behind : (xs : List Instr) → xs ++ [] ≡ xs
 nothing_behind xs = grind (arith, common_steps)

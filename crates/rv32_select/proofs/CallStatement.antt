@@ -10,7 +10,7 @@ use Rattle.parallel_move.specs.declared.Spot.TheVariants.{Reg, Slot, Scratch}
 use Rattle.parallel_move.specs.declared.Move.{Move}
 use Rattle.low_code.specs.declared.program.Operand.{Operand}
 use Rattle.low_code.specs.Tree.{Code, call, Procedure, Program}
-use Rattle.low_code.specs.Formed.{is_among, uses, used_by_all, variables}
+use Rattle.low_code.specs.Formed.{uses, used_by_all, variables}
 use Rattle.low_code.specs.Values.{Word, Env, World, need, then_do, with_vars}
 use Rattle.low_code.specs.Run.{Calls, code, operands}
 use Rattle.register_alloc.specs.Live.{IsLive}
@@ -26,19 +26,21 @@ use Rattle.rv32_select.specs.IsSelected.{sources, params_of, argument_spots_of, 
 use Rattle.rv32_select.proofs.Courses.{Stands, front, back}
 use Rattle.rv32_select.proofs.Straight.{Data, does_on, at}
 use Rattle.rv32_select.proofs.JumpStretches.{jumped, calls_to, comes_back, there_less}
-use Rattle.rv32_select.proofs.NumberParts.{set_here}
 use Rattle.rv32_select.proofs.FrameViews.{spots, InFrame, Outside, in_frame}
 use Rattle.rv32_select.proofs.OperandsRead.{read}
 use Rattle.rv32_select.proofs.Gathering.{gathered}
 use Rattle.rv32_select.proofs.SavedRegisters.{among_index, index_inside}
 use Rattle.rv32_select.proofs.Relation.{bases, regs_of, word_of, AllHold, HoldsWorld, Keeps, Stood, Back, Ran, ran_on, quiet, Does', does_after, does_then, Given, Needed}
 use Rattle.rv32_select.proofs.PlaceFacts.{NotAmong, IsOwn, Binds, CallFits, SavesFit, ProcedureFine, Setting}
-use Rattle.rv32_select.proofs.BlockFacts.{room, Block, Simulates, CallsSimulated, among_left, among_right, bound_word, still_scoped, own_places, kept_not_own, apart_not_among, apart_different, world_kept}
+use Rattle.rv32_select.proofs.BlockFacts.{room, Block, Simulates, CallsSimulated, bound_word, still_scoped, own_places, kept_not_own, apart_not_among, apart_different, world_kept}
 use Rattle.rv32_select.proofs.OneBound.{Cut, cut, ready_at, plain_ran}
 use Rattle.rv32_select.proofs.TakeStatement.{scope_owned}
 use Rattle.rv32_select.proofs.BlockEnds.{all_hold, world_same, good_jumped, jumped_reg, operands_read}
 use Rattle.rv32_select.proofs.TailStatement.{free_hold}
 use Rattle.rv32_select.proofs.CallParts.{slot_not_free, saved_all, own_same, Restored, restored_all}
+use Rattle.seq.specs.Lists.{is_among}
+use Rattle.rv32_machine.proofs.Registers.{set_here}
+use Rattle.seq.proofs.Counted.{among_left, among_right}
 
 module _ (l : Program) (a : Assignment) (cells stack : ℕ) (lay : Layout) (items : List Item) (begins : List ℕ) (s : Setting l a cells stack lay items begins) where
   -- an item stands behind a call

@@ -7,7 +7,7 @@ use Rattle.parallel_move.specs.declared.Spot.{Spot}
 use Rattle.parallel_move.specs.declared.Spot.TheVariants.{Reg, Slot, Scratch}
 use Rattle.low_code.specs.declared.program.LowTest.{LowTest}
 use Rattle.low_code.specs.Tree.{Code, choose, Arms, otherwise, arm, Procedure, Program}
-use Rattle.low_code.specs.Formed.{is_among, uses, arms_uses, used_by, used_by_tests, variables}
+use Rattle.low_code.specs.Formed.{uses, arms_uses, used_by, used_by_tests, variables}
 use Rattle.low_code.specs.Values.{Word, number, Env, World, need, and_then}
 use Rattle.low_code.specs.Run.{Calls, code, arms, operand, number_in, holds}
 use Rattle.register_alloc.specs.Fits.{slots_of}
@@ -30,13 +30,15 @@ use Rattle.rv32_select.proofs.OperandsRead.{IsPlace, holds as held_by, held_stay
 use Rattle.rv32_select.proofs.Computed.{hold_kept, hold_seen}
 use Rattle.rv32_select.proofs.Relation.{bases, Stood, Ran, ran_on, quiet, Does', does_after, does_map, Given, Needed}
 use Rattle.rv32_select.proofs.PlaceFacts.{IsOwn, ArmsFine, ProcedureFine, Setting}
-use Rattle.rv32_select.proofs.BlockFacts.{room, Entry, Block, Simulates, InRegisters, Ready, among_left, among_right, world_kept}
+use Rattle.rv32_select.proofs.BlockFacts.{room, Entry, Block, Simulates, InRegisters, Ready, world_kept}
 use Rattle.rv32_select.proofs.OneBound.{Cut, cut, ready_at, plain_ran, operand_read}
 use Rattle.rv32_select.proofs.WordStatements.{stood_same, number_there}
 use Rattle.rv32_select.proofs.Stops.{good_far, passes_label}
 use Rattle.rv32_select.proofs.BlockEnds.{world_same}
 use Rattle.rv32_select.proofs.EmittedLabels.{emits_up}
 use Rattle.rv32_select.proofs.JoinStatement.{stood_weaken}
+use Rattle.seq.specs.Lists.{is_among}
+use Rattle.seq.proofs.Counted.{among_left, among_right}
 
 module _ (l : Program) (a : Assignment) (cells stack : ℕ) (lay : Layout) (items : List Item) (begins : List ℕ) (s : Setting l a cells stack lay items begins) (calls_n : Calls) (n : ℕ)
     (f : ℕ) (q : Procedure) (pf : ProcedureFine l a f q) (j m : ℕ) (outer : List ℕ) (d0 : Data) (u : ℕ) where

@@ -17,10 +17,11 @@ use Rattle.rv32_select.specs.declared.source.Source.{Source}
 use Rattle.rv32_select.specs.declared.source.Source.TheVariants.{At, Number}
 use Rattle.rv32_select.specs.Emit.{target, keep, held, hold, load_code, save_code, word_offset, immediate, is_immediate, operands_held, operate_on, operate_in_order, is_free, prim_code}
 use Rattle.rv32_select.proofs.Straight.{Data, with_reg, with_heap, Good, Does, does_on, does_load_heap, does_store_heap, small_word}
-use Rattle.rv32_select.proofs.NumberParts.{value_is, set_here, set_there}
+use Rattle.rv32_select.proofs.NumberParts.{value_is}
 use Rattle.rv32_select.proofs.FrameViews.{spots, InFrame, Kept, kept_on, in_frame, kept_reg}
 use Rattle.rv32_select.proofs.OperandsRead.{read, Readable, IsPlace, Held, holds, held_not_seven, held_stays, read_same, seen_past, Sets, kept_to}
 use Rattle.rv32_select.proofs.Arithmetic.{operation_done, immediate_done, arithmetic_turns}
+use Rattle.rv32_machine.proofs.Registers.{set_there, set_here}
 
 module _ (c : Stretch) (b : Bases) (j slots : ℕ) where
   -- the data behind the code of an operand

@@ -9,7 +9,7 @@ use Rattle.seq.proofs.Truth.{not_both, two_ways}
 use Rattle.parallel_move.specs.declared.Spot.{Spot}
 use Rattle.parallel_move.specs.declared.Spot.TheVariants.{Reg, Slot, Scratch}
 use Rattle.low_code.specs.Tree.{Code, set, prim, load, save, take, put, get, call, join, give, tail, choose, fail, Arms, otherwise, arm, Procedure, Program}
-use Rattle.low_code.specs.Formed.{is_among, Distinct, uses, binds, arms_binds, variables, Site, calls_in, arms_calls, sites_of, all_sites, CallsInRange, AllCallsInRange, Formed}
+use Rattle.low_code.specs.Formed.{Distinct, uses, binds, arms_binds, variables, Site, calls_in, arms_calls, sites_of, all_sites, CallsInRange, AllCallsInRange, Formed}
 use Rattle.low_code.specs.Size.{code_size, arms_size, sizes, low_all}
 use Rattle.register_alloc.specs.Assignment.{Assignment, place_of, may_change, saves_at, words_at}
 use Rattle.register_alloc.specs.Live.{IsLive, EachBinding, EachBindingOfArms, LiveAfter, ArmsLiveAfter}
@@ -19,30 +19,15 @@ use Rattle.rv32_select.specs.Emit.{argument_spot, argument_spots, result_spots}
 use Rattle.low_code.specs.Literals.{Small, ArmsSmall}
 use Rattle.rv32_select.proofs.Relation.{Keeps}
 use Rattle.rv32_select.proofs.PlaceFacts.{NotAmong, Different, Free, IsOwn, AllOwn, AllFree, SavesFit, CallFits, Binds, Fine, ArmsFine, ProcedureFine}
-use Rattle.rv32_select.proofs.BlockFacts.{or_true, among_left, among_right}
-use Rattle.rv32_select.proofs.Among.{among_first, among_either, variables_within}
+use Rattle.rv32_select.proofs.BlockFacts.{or_true}
+use Rattle.rv32_select.proofs.Among.{variables_within}
+use Rattle.register_alloc.proofs.AllFit.{distinct_left, distinct_right}
+use Rattle.register_alloc.proofs.Lists.{among_either}
+use Rattle.seq.specs.Lists.{is_among}
+use Rattle.low_code.proofs.Sites.{sites_append}
+use Rattle.seq.proofs.Counted.{among_first, among_left, among_right}
 
 -- ---- lists
-
-none_left : (x : ℕ) (xs ys : List ℕ) → is_among x (xs ++ ys) ≡ false → is_among x xs ≡ false
-none_left x xs ys e = elim (two_ways (is_among x xs)) [
-  | inl h ↦ absurd (not_both (is_among x (xs ++ ys)) (among_left x xs ys h) e)
-  | inr h ↦ h
-]
-
-none_right : (x : ℕ) (xs ys : List ℕ) → is_among x (xs ++ ys) ≡ false → is_among x ys ≡ false
-none_right x xs ys e = elim (two_ways (is_among x ys)) [
-  | inl h ↦ absurd (not_both (is_among x (xs ++ ys)) (among_right x xs ys h) e)
-  | inr h ↦ h
-]
-
-once_left : (xs ys : List ℕ) → Distinct (xs ++ ys) → Distinct xs
-once_left [] ys d = tt
-once_left (x ∷ xs) ys d = (none_left x xs ys d.0, once_left xs ys d.1)
-
-once_right : (xs ys : List ℕ) → Distinct (xs ++ ys) → Distinct ys
-once_right [] ys d = d
-once_right (x ∷ xs) ys d = once_right xs ys d.1
 
 not_in_both : (xs ys : List ℕ) → Distinct (xs ++ ys) → (x : ℕ) → is_among x xs ≡ true → is_among x ys ≡ true → ⊥
 not_in_both [] ys d x h k = absurd (cc)
@@ -53,18 +38,14 @@ not_in_both (z ∷ xs) ys d x h k = elim (or_true (nat_eq x z) (is_among x xs) h
   | inr e ↦ not_in_both xs ys d.1 x e k
 ]
 
-sites_append : (xs ys : List Site) → sites_of (xs ++ ys) ≡ sites_of xs ++ sites_of ys
-sites_append [] ys = refl
-sites_append (x ∷ xs) ys = ap (λ l. x.0 ∷ l) (sites_append xs ys)
-
 -- ---- what holds of the whole program holds of one procedure
 
 sites_once : (qs : List Procedure) (f : ℕ) (q : Procedure) → slice_get qs f ≡ Some q → Distinct (all_sites qs) → Distinct (sites_of (calls_in q.body))
 sites_once [] f q e d = absurd (cc)
 sites_once (r ∷ qs) zero q e d =
     let same : r ≡ q = cc in
-    subst (λ z. Distinct (sites_of (calls_in z.body))) same (once_left (sites_of (calls_in r.body)) (all_sites qs) d)
-sites_once (r ∷ qs) (suc f) q e d = sites_once qs f q e (once_right (sites_of (calls_in r.body)) (all_sites qs) d)
+    subst (λ z. Distinct (sites_of (calls_in z.body))) same (distinct_left (sites_of (calls_in r.body)) (all_sites qs) d)
+sites_once (r ∷ qs) (suc f) q e d = sites_once qs f q e (distinct_right (sites_of (calls_in r.body)) (all_sites qs) d)
 
 calls_at : (n : ℕ) (qs : List Procedure) (f : ℕ) (q : Procedure) → slice_get qs f ≡ Some q → AllCallsInRange n qs → CallsInRange n (calls_in q.body)
 calls_at n [] f q e h = absurd (cc)
@@ -78,7 +59,7 @@ call_at n [] k s e h = absurd (cc)
 call_at n (z ∷ ss) zero s e h = let same : z ≡ s = cc in subst (λ (y : Site). y.1 < n) same h.0
 call_at n (z ∷ ss) (suc k) s e h = call_at n ss k s e h.1
 
-size_at : (qs : List Procedure) (f : ℕ) (q : Procedure) → slice_get qs f ≡ Some q → code_size q.body ≤ sizes qs
+pub size_at : (qs : List Procedure) (f : ℕ) (q : Procedure) → slice_get qs f ≡ Some q → code_size q.body ≤ sizes qs
 size_at [] f q e = absurd (cc)
 size_at (r ∷ qs) zero q e =
     let same : r ≡ q = cc in
@@ -233,7 +214,7 @@ module _ (q : Procedure) where
         own = λ x e. h.own x (among_left x bs cs e);
         few = let few = h.few in omega (arith, le, few);
         calls = λ k s e. h.calls k s (get_left ss ts k s e);
-        once = once_left (sites_of ss) (sites_of ts) once;
+        once = distinct_left (sites_of ss) (sites_of ts) once;
         up = λ s y live. h.up s y (inl live);
         down = λ s y e live. elim (h.down s y (ap (is_among s) (sites_append ss ts) ∙ among_left s (sites_of ss) (sites_of ts) e) live) [
           | inl i ↦ i
@@ -250,7 +231,7 @@ module _ (q : Procedure) where
         own = λ x e. h.own x (among_right x bs cs e);
         few = let few = h.few in omega (arith, le, few);
         calls = λ k s e. h.calls (length ss + k) s (get_right ss ts k s e);
-        once = once_right (sites_of ss) (sites_of ts) once;
+        once = distinct_right (sites_of ss) (sites_of ts) once;
         up = λ s y live. h.up s y (inr live);
         down = λ s y e live. elim (h.down s y (ap (is_among s) (sites_append ss ts) ∙ among_right s (sites_of ss) (sites_of ts) e) live) [
           | inl i ↦ absurd (not_in_both (sites_of ss) (sites_of ts) once s (other s y i) e)

@@ -9,6 +9,7 @@ use Rattle.rv32_items.specs.declared.Item.TheVariants.{Label, Plain, Branch, Jum
 use Rattle.rv32_items.specs.Placed.{is_instruction, size_of, IsPlain, times}
 use Rattle.rv32_select.specs.Emit.{plain}
 use Rattle.rv32_select.proofs.StaticPieces.{IsStraight, AllStraight}
+use Rattle.rv32_items.proofs.Counted.{times_append}
 
 -- ---- where items go; the labels below `procs` are those at which procedures begin
 
@@ -152,17 +153,6 @@ module _ (procs : ℕ) where
 
 -- ---- how often labels stand
 
-counted_one : (b : Bool) (n p q : ℕ) → n ≡ p + q → (if b then suc n else n) ≡ (if b then suc p else p) + q
-counted_one true n p q e = omega arith
-counted_one false n p q e = e
-
-pub times_append : (l : ℕ) (xs ys : List Item) → times l (xs ++ ys) ≡ times l xs + times l ys
-times_append l [] ys = omega arith
-times_append l (Label k ∷ xs) ys = counted_one (nat_eq k l) _ _ _ (times_append l xs ys)
-times_append l (Plain i ∷ xs) ys = times_append l xs ys
-times_append l (Branch c a b k ∷ xs) ys = times_append l xs ys
-times_append l (Jump r k ∷ xs) ys = times_append l xs ys
-
 pub times_plain : (l : ℕ) (code : List Instr) → times l (plain code) ≡ 0
 times_plain l [] = refl
 times_plain l (i ∷ code) = times_plain l code
@@ -182,10 +172,6 @@ pub counts_append : (n k m : ℕ) (xs ys : List Item) → Counts n k xs → Coun
 counts_append n k m xs ys g h l = let a = g l in let b = h l in let e = times_append l xs ys in omega arith
 
 -- ---- sizes
-
-pub size_append : (xs ys : List Item) → size_of (xs ++ ys) ≡ size_of xs + size_of ys
-size_append [] ys = omega arith
-size_append (i ∷ xs) ys = let e = size_append xs ys in omega arith
 
 pub size_plain : (code : List Instr) → size_of (plain code) ≡ length code
 size_plain [] = refl

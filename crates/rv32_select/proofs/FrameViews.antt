@@ -17,9 +17,11 @@ use Rattle.parallel_move.specs.declared.Spot.{Spot}
 use Rattle.parallel_move.specs.declared.Spot.TheVariants.{Reg, Slot, Scratch}
 use Rattle.parallel_move.specs.declared.Move.{Move}
 use Rattle.parallel_move.specs.Moves.{Values, same, moved, one_by_one}
-use Rattle.rv32_select.specs.Emit.{lower, upper, copy, slot_bytes, slot_base, reach, load_slot, store_slot, from_spot, slot_from, move_to, moves_code}
+use Rattle.rv32_select.specs.Emit.{upper, copy, slot_bytes, slot_base, reach, load_slot, store_slot, from_spot, slot_from, move_to, moves_code}
 use Rattle.rv32_select.proofs.Straight.{Data, with_reg, with_stack, Good, Does, does_nothing, does_to, does_on, does_lui, does_imm, does_op, does_load_stack, does_store_stack}
-use Rattle.rv32_select.proofs.NumberParts.{value_is, set_there, again, nothing_set, parts_sum}
+use Rattle.rv32_select.proofs.NumberParts.{value_is, again, nothing_set, parts_sum}
+use Rattle.rv32_machine.proofs.Registers.{set_there}
+use Rattle.rv32_isa.specs.Bits.{lower}
 
 abbrev pub put : Spot → ℕ → Values → Values
 put s v u t = cond (same t s) v (u t)

@@ -8,26 +8,16 @@ use Rattle.rv32_steps.specs.Data.{Bases}
 use Rattle.parallel_move.specs.declared.Spot.{Spot}
 use Rattle.parallel_move.specs.declared.Spot.TheVariants.{Reg, Slot, Scratch}
 use Rattle.parallel_move.specs.declared.Move.{Move}
-use Rattle.parallel_move.specs.Moves.{same, origin, at_once, AllEnds}
+use Rattle.parallel_move.specs.Moves.{origin, at_once, AllEnds}
 use Rattle.rv32_select.specs.declared.source.Source.{Source}
 use Rattle.rv32_select.specs.declared.source.Source.TheVariants.{At, Number}
 use Rattle.rv32_select.specs.Emit.{moves_code, move_from, spot_moves, number_moves}
 use Rattle.rv32_select.specs.IsSelected.{IsOrder, moves_between}
 use Rattle.rv32_select.proofs.Straight.{Data, Good, Does, does_nothing, does_on}
 use Rattle.rv32_select.proofs.FrameViews.{spots, InFrame, Ok, Kept, kept, kept_on, in_frame, AllOk, moves_made}
-use Rattle.rv32_select.proofs.OperandsRead.{read, Readable, IsPlace, itself', differ, sets_number}
+use Rattle.rv32_select.proofs.OperandsRead.{read, Readable, IsPlace, sets_number}
 use Rattle.rv32_select.proofs.PlaceFacts.{NotAmong, Different}
-
-pub same_spot : (s t : Spot) → same s t ≡ true → s ≡ t
-same_spot (Reg r) (Reg q) e = let is : r ≡ q = grind (arith, nat_tests) in ap Reg is
-same_spot (Slot r) (Slot q) e = let is : r ≡ q = grind (arith, nat_tests) in ap Slot is
-same_spot Scratch Scratch e = refl
-same_spot (Reg r) (Slot k) e = absurd (cc)
-same_spot (Reg r) Scratch e = absurd (cc)
-same_spot (Slot k) (Reg r) e = absurd (cc)
-same_spot (Slot k) Scratch e = absurd (cc)
-same_spot Scratch (Reg r) e = absurd (cc)
-same_spot Scratch (Slot k) e = absurd (cc)
+use Rattle.parallel_move.proofs.Origins.{differ, same_itself}
 
 -- s goes to t
 abbrev pub IsPair : Spot → Source → List Spot → List Source → Type 0
@@ -52,7 +42,7 @@ origin_pair t p [] ss d h = absurd h
 origin_pair t p (u ∷ to) [] d h = absurd h
 origin_pair t p (u ∷ to) (x ∷ ss) d h = elim h [
   | inl e ↦
-      let here : origin (move_from t (At p) ++ spot_moves to ss) t ≡ p = ap (λ b. cond b p (origin (spot_moves to ss) t)) (itself' t) in
+      let here : origin (move_from t (At p) ++ spot_moves to ss) t ≡ p = ap (λ b. cond b p (origin (spot_moves to ss) t)) (same_itself t) in
       subst (λ y. origin (move_from y x ++ spot_moves to ss) t ≡ p) e.0 (subst (λ y. origin (move_from t y ++ spot_moves to ss) t ≡ p) e.1 here)
   | inr r ↦
       let ne : t ≢ u = λ q. pair_is_no u t (At p) to ss d.0 r (sym q) in

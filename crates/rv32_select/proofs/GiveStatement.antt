@@ -21,7 +21,6 @@ use Rattle.rv32_select.specs.Emit.{plain, moves_code, number_moves, leave_code, 
 use Rattle.rv32_select.specs.IsSelected.{sources, way_out}
 use Rattle.rv32_select.proofs.Courses.{Stands, front, back, stays}
 use Rattle.rv32_select.proofs.Straight.{Data, good_reg, at}
-use Rattle.rv32_select.proofs.NumberParts.{set_there}
 use Rattle.rv32_select.proofs.JumpStretches.{with_regs, jumped, jumps, returns_to, there_less, address_small}
 use Rattle.rv32_select.proofs.FrameViews.{spots}
 use Rattle.rv32_select.proofs.OperandsRead.{read, IsPlace}
@@ -32,6 +31,7 @@ use Rattle.rv32_select.proofs.BlockFacts.{Block, Simulates, Changed, InRegisters
 use Rattle.rv32_select.proofs.OneBound.{cut, ready_at, plain_ran}
 use Rattle.rv32_select.proofs.WordStatements.{stood_same}
 use Rattle.rv32_select.proofs.BlockEnds.{all_hold, results_in_registers, same_registers, leaves, world_same, good_jumped, jumped_reg, jumped_spot, operands_read}
+use Rattle.rv32_machine.proofs.Registers.{set_there}
 
 pub all_same : (l : Program) (lay : Layout) (stack j slots : ℕ) (to : List Spot) (vs : List Word) (u u' : Values) → AllPlaces lay.code (bases stack) j slots to → ((t : Spot) → IsPlace lay.code (bases stack) j slots t → u' t ≡ u t) → AllHold l.width to vs u → AllHold l.width to vs u'
 all_same l lay stack j slots [] vs u u' o e h = tt

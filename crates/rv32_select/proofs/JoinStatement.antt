@@ -3,7 +3,7 @@ use Rattle.std.proofs.Common.{◌≡◌, ℕ, suc, ◌+◌, ◌≤◌, List, [],
 use Rattle.std.specs.Prelude.{Option, slice_get}
 use Rattle.parallel_move.specs.declared.Spot.{Spot}
 use Rattle.low_code.specs.Tree.{Code, join, Procedure, Program}
-use Rattle.low_code.specs.Formed.{is_among, uses, variables}
+use Rattle.low_code.specs.Formed.{uses, variables}
 use Rattle.low_code.specs.Values.{Word, Env, World, need, with_vars}
 use Rattle.low_code.specs.Run.{Calls, code}
 use Rattle.register_alloc.specs.Fits.{slots_of}
@@ -20,10 +20,12 @@ use Rattle.rv32_select.proofs.Straight.{Data, at}
 use Rattle.rv32_select.proofs.FrameViews.{spots}
 use Rattle.rv32_select.proofs.Relation.{bases, word_of, AllHold, Stood, Ran, Does', does_after, does_then, Given, Needed}
 use Rattle.rv32_select.proofs.PlaceFacts.{ProcedureFine, Setting}
-use Rattle.rv32_select.proofs.BlockFacts.{room, Block, Simulates, among_left, among_right, bound_word, still_scoped, apart_not_among, apart_different}
+use Rattle.rv32_select.proofs.BlockFacts.{room, Block, Simulates, bound_word, still_scoped, apart_not_among, apart_different}
 use Rattle.rv32_select.proofs.OneBound.{Cut, cut, ready_at}
 use Rattle.rv32_select.proofs.TakeStatement.{scope_owned}
 use Rattle.rv32_select.proofs.Stops.{passes_label}
+use Rattle.seq.specs.Lists.{is_among}
+use Rattle.seq.proofs.Counted.{among_left, among_right}
 
 -- less is needed
 pub stood_weaken : (l : Program) (a : Assignment) (cells stack : ℕ) (lay : Layout) (f j slots : ℕ) (d0 : Data) (link : ℕ) (Needs Needs' : ℕ → Word → Type 0) (d : Data) (w : World) → ((y : ℕ) (v : Word) → Needs' y v → Needs y v) → Stood l a cells stack lay f j slots d0 link Needs d w → Stood l a cells stack lay f j slots d0 link Needs' d w

@@ -20,7 +20,8 @@ use Rattle.rv32_items.specs.Course.{Layout, Written, Asked, turn, turn_of, behin
 use Rattle.rv32_select.specs.Emit.{aside, back}
 use Rattle.rv32_select.proofs.Courses.{Goes, one_written, one_asked}
 use Rattle.rv32_select.proofs.Straight.{Data, words, with_reg, with_stack, Good, Does, does_on, does_imm, at, standing, stack_read, stack_written}
-use Rattle.rv32_select.proofs.NumberParts.{value_is, set_there, does_number}
+use Rattle.rv32_select.proofs.NumberParts.{value_is, does_number}
+use Rattle.rv32_machine.proofs.Registers.{set_there}
 
 abbrev pub four : (file number : ℕ) → List Instr
 four file number = OpImm Addi 10 0 (pos file) ∷ OpImm Addi 11 2 (pos 0) ∷ OpImm Addi 12 0 (pos 1) ∷ OpImm Addi 17 0 (pos number) ∷ []

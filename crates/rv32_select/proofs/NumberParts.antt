@@ -2,7 +2,7 @@
 use Rattle.std.proofs.Common.{◌≡◌, ◌≢◌, ℕ, suc, ◌-◌, ◌*◌, ◌/◌, ◌%◌, ◌^◌, ◌<◌, ◌≤◌, [], ◌∷◌, ◌++◌, Bool, true, false, inl, inr, refl, sym, ap, ◌∙◌, subst, arith}
 use Rattle.std.specs.Prelude.{pos, negsuc, nat_eq, nat_lt, ◌||◌, if◌then◌else◌}
 use Rattle.std.proofs.lemmas.Bool.Decides.{nat_tests}
-use Rattle.seq.proofs.Order.{eq_self, eq_false}
+use Rattle.seq.proofs.Order.{eq_false}
 use Rattle.seq.proofs.Truth.{two_ways}
 use Rattle.rv32_isa.specs.declared.instr.Instr.TheVariants.{Lui, OpImm, Op}
 use Rattle.rv32_isa.specs.declared.instr.ImmKind.TheVariants.{Addi}
@@ -12,8 +12,10 @@ use Rattle.rv32_machine.specs.Arithmetic.{plus, pattern}
 use Rattle.rv32_machine.specs.Steps.{set_reg}
 use Rattle.rv32_steps.specs.Data.{Bases}
 use Rattle.rv32_steps.specs.Straight.{value}
-use Rattle.rv32_select.specs.Emit.{is_short, lower, upper, number_to, add_to}
+use Rattle.rv32_select.specs.Emit.{is_short, upper, number_to, add_to}
 use Rattle.rv32_select.proofs.Straight.{Data, with_reg, Good, Does, does_to, does_on, does_lui, does_imm, does_op}
+use Rattle.rv32_machine.proofs.Registers.{set_there, set_again, set_here}
+use Rattle.rv32_isa.specs.Bits.{lower}
 
 pub ext : {f g : ℕ → ℕ} → ((q : ℕ) → f q ≡ g q) → f ≡ g
 ext h = λ i. λ q. h q i
@@ -21,21 +23,6 @@ ext h = λ i. λ q. h q i
 -- what a register reads as
 pub value_is : (regs : ℕ → ℕ) (r : ℕ) → 1 ≤ r → value regs r ≡ regs r
 value_is regs r h = ap (λ b. if b then 0 else regs r) (eq_false r 0 (omega arith))
-
-pub set_here : (regs : ℕ → ℕ) (r v : ℕ) → set_reg regs r v r ≡ v
-set_here regs r v = ap (λ b. if b then v else regs r) (eq_self r)
-
-pub set_there : (regs : ℕ → ℕ) (r v q : ℕ) → q ≢ r → set_reg regs r v q ≡ regs q
-set_there regs r v q h = ap (λ b. if b then v else regs q) (eq_false q r h)
-
-pub set_again : (regs : ℕ → ℕ) (r a b : ℕ) → set_reg (set_reg regs r a) r b ≡ set_reg regs r b
-set_again regs r a b = ext (λ q. at_each q)
-  where
-    at_each : (q : ℕ) → set_reg (set_reg regs r a) r b q ≡ set_reg regs r b q
-    at_each q = elim (two_ways (nat_eq q r)) [
-      | inl e ↦ ap (λ t. if t then b else (if t then a else regs q)) e ∙ sym (ap (λ t. if t then b else regs q) e)
-      | inr e ↦ ap (λ t. if t then b else (if t then a else regs q)) e ∙ sym (ap (λ t. if t then b else regs q) e)
-    ]
 
 pub set_same : (regs : ℕ → ℕ) (r : ℕ) → set_reg regs r (regs r) ≡ regs
 set_same regs r = ext (λ q. at_each q)

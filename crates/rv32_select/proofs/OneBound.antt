@@ -8,7 +8,7 @@ use Rattle.parallel_move.specs.declared.Spot.{Spot}
 use Rattle.low_code.specs.declared.program.Operand.{Operand}
 use Rattle.low_code.specs.declared.program.Operand.TheVariants.{Var, Num, Cell}
 use Rattle.low_code.specs.Tree.{Code, set, Procedure, Program}
-use Rattle.low_code.specs.Formed.{is_among, uses, used_by, variables}
+use Rattle.low_code.specs.Formed.{uses, used_by, variables}
 use Rattle.low_code.specs.Values.{Word, number, cell, Env, World, with_var, need}
 use Rattle.low_code.specs.Run.{Calls, code, operand}
 use Rattle.register_alloc.specs.Fits.{slots_of}
@@ -24,7 +24,9 @@ use Rattle.rv32_select.proofs.Straight.{Data, Good, Does, plain_length, at, bloc
 use Rattle.rv32_select.proofs.OperandsRead.{read, Readable, Sets, sets_source}
 use Rattle.rv32_select.proofs.Relation.{bases, word_of, HoldsWorld, Stood, Ran, quiet, Does', does_after, Given, Needed}
 use Rattle.rv32_select.proofs.PlaceFacts.{IsOwn, Binds, Fine, ProcedureFine, Setting}
-use Rattle.rv32_select.proofs.BlockFacts.{room, Ready, Block, Simulates, Changed, among_left, among_right, own_place, world_kept, stood_bound, still_scoped}
+use Rattle.rv32_select.proofs.BlockFacts.{room, Ready, Block, Simulates, Changed, own_place, world_kept, stood_bound, still_scoped}
+use Rattle.seq.specs.Lists.{is_among}
+use Rattle.seq.proofs.Counted.{among_left, among_right}
 
 -- a piece of items, and what stands behind it
 pub record Cut (items : List Item) (pos : ℕ) (piece rest block : List Item) : Type 0 where

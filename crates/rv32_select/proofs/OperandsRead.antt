@@ -2,7 +2,6 @@
 use Rattle.std.proofs.Common.{◌≡◌, ◌≢◌, ℕ, ◌^◌, ◌<◌, ◌≤◌, List, [], ◌++◌, cond, Bool, true, false, ◌⊎◌, inl, inr, refl, sym, ap, ◌∙◌, subst, arith}
 use Rattle.std.specs.Prelude.{nat_eq, if◌then◌else◌}
 use Rattle.std.proofs.lemmas.Bool.Decides.{nat_tests}
-use Rattle.seq.proofs.Order.{eq_false}
 use Rattle.rv32_isa.specs.declared.instr.Instr.{Instr}
 use Rattle.rv32_machine.specs.Memory.{Stretch}
 use Rattle.rv32_machine.specs.Steps.{set_reg}
@@ -15,27 +14,13 @@ use Rattle.rv32_select.specs.Emit.{number_to, move_to, target, keep, held, hold,
 use Rattle.rv32_select.specs.declared.source.Source.{Source}
 use Rattle.rv32_select.specs.declared.source.Source.TheVariants.{At, Number}
 use Rattle.rv32_select.proofs.Straight.{Data, with_reg, Good, Does, does_nothing, does_to, does_on}
-use Rattle.rv32_select.proofs.NumberParts.{value_is, set_here, set_there, nothing_set, does_number}
+use Rattle.rv32_select.proofs.NumberParts.{value_is, nothing_set, does_number}
 use Rattle.rv32_select.proofs.FrameViews.{put, spots, InFrame, Ok, Kept, kept_on, in_frame, kept_reg, seen_reg, loaded, Makes, stores, move_made}
-
-pub differ : (s t : Spot) → s ≢ t → same s t ≡ false
-differ (Reg r) (Reg q) h = eq_false r q (λ e. h (ap Reg e))
-differ (Slot r) (Slot q) h = eq_false r q (λ e. h (ap Slot e))
-differ Scratch Scratch h = absurd (h refl)
-differ (Reg r) (Slot k) h = refl
-differ (Reg r) Scratch h = refl
-differ (Slot k) (Reg r) h = refl
-differ (Slot k) Scratch h = refl
-differ Scratch (Reg r) h = refl
-differ Scratch (Slot k) h = refl
-
-pub itself' : (s : Spot) → same s s ≡ true
-itself' (Reg r) = grind (arith, nat_tests)
-itself' (Slot k) = grind (arith, nat_tests)
-itself' Scratch = refl
+use Rattle.parallel_move.proofs.Origins.{differ, same_itself}
+use Rattle.rv32_machine.proofs.Registers.{set_there, set_here}
 
 pub put_here : (t : Spot) (v : ℕ) (u : Values) → put t v u t ≡ v
-put_here t v u = ap (λ x. cond x v (u t)) (itself' t)
+put_here t v u = ap (λ x. cond x v (u t)) (same_itself t)
 
 pub put_there : (t s : Spot) (v : ℕ) (u : Values) → s ≢ t → put t v u s ≡ u s
 put_there t s v u h = ap (λ x. cond x v (u s)) (differ s t h)

@@ -1,7 +1,6 @@
 -- What the courses of items are where the machine does what each run of a program does, however many units it has.
 use Rattle.std.proofs.Common.{◌≡◌, ℕ, suc, ◌+◌, ◌-◌, ◌≤◌, List, [], ◌∷◌, ◌++◌, length, Bool, true, false, Some, inl, inr, refl, sym, ap, ◌∙◌, subst, arith, append_assoc, length-append}
 use Rattle.std.specs.Prelude.{nat_eq, if◌then◌else◌, slice_get}
-use Rattle.std.proofs.lemmas.Grind.{common_steps}
 use Rattle.seq.proofs.Lists.{is_empty}
 use Rattle.seq.proofs.Order.{le_or_lt}
 use Rattle.low_code.specs.Values.{World, Answer, gives, stops, no_alternative, out_of_units, missing, heap_full, stack_full}
@@ -15,9 +14,7 @@ use Rattle.rv32_select.specs.Selects.{exit_of, SameEnd, Finishes, Follows, Match
 use Rattle.rv32_select.proofs.Courses.{course_more, course_none}
 use Rattle.rv32_select.proofs.Fronts.{IsFront, front_itself, passed_few, course_front, home_front}
 use Rattle.rv32_select.proofs.Relation.{Ran, Ends, Waits}
-
-nothing_more : (xs : List ℕ) → xs ≡ xs ++ []
-nothing_more xs = grind (arith, common_steps)
+use Rattle.rv32_machine.proofs.Composed.{end_append}
 
 one_at_most : (f : ℕ) (begins : List ℕ) (l : ℕ) → length (procedure_from f begins l) ≤ 1
 one_at_most f [] l = omega arith
@@ -76,7 +73,7 @@ module _ (lay : Layout) (items : List Item) (begins input : List ℕ) (p : Point
 
     same_end : (w : World) (code : ℕ) (e : Ends lay items begins p [] w0 w code) (x : Answer) → world_of x ≡ w → SameEnd input x (after e.bytes e.labels (stands w.input (Exited code)))
     same_end w code e x is =
-        (sym (nothing_more e.bytes) ∙ sym (out_bytes w e.bytes e.out) ∙ ap (λ y. y.out) (sym is), used_all w e.used ∙ ap (λ y. y.used) (sym is))
+        (sym (end_append e.bytes) ∙ sym (out_bytes w e.bytes e.out) ∙ ap (λ y. y.out) (sym is), used_all w e.used ∙ ap (λ y. y.used) (sym is))
 
     -- ---- arriving
 
@@ -84,7 +81,7 @@ module _ (lay : Layout) (items : List Item) (begins input : List ℕ) (p : Point
     arrives_exit w code e x is exit =
         subst (λ c. Arrives begins input x c) (sym (exit_course w code e 0))
         (record {
-          entered = ap (procedures_at begins) (sym (nothing_more e.labels)) ∙ sym (entered_labels w e.labels e.entered) ∙ ap (λ y. y.entered) (sym is);
+          entered = ap (procedures_at begins) (sym (end_append e.labels)) ∙ sym (entered_labels w e.labels e.entered) ∙ ap (λ y. y.entered) (sym is);
           output = ([], ap (λ y. y ++ []) (sym (out_bytes w e.bytes e.out) ∙ ap (λ y. y.out) (sym is)));
           ended = subst (λ o. Matches input x (after e.bytes e.labels (stands w.input (Exited code))) o) (sym exit) (refl, same_end w code e x is);
         })
@@ -101,7 +98,7 @@ module _ (lay : Layout) (items : List Item) (begins input : List ℕ) (p : Point
         let is : course lay items (r.count + 0) input p ≡ after r.bytes r.labels c = along ∙ ap (after r.bytes r.labels) (course_none lay items w.input h.0) in (
           r.count + 0,
           subst (λ c. Arrives begins input (stops out_of_units w) c) (sym is) (record {
-            entered = ap (procedures_at begins) (sym (nothing_more r.labels)) ∙ sym (entered_labels w r.labels r.entered);
+            entered = ap (procedures_at begins) (sym (end_append r.labels)) ∙ sym (entered_labels w r.labels r.entered);
             output = ([], ap (λ x. x ++ []) (sym (out_bytes w r.bytes r.out)));
             ended = tt;
           }),
@@ -118,7 +115,7 @@ module _ (lay : Layout) (items : List Item) (begins input : List ℕ) (p : Point
           let split : procedures_at begins labels ≡ procedures_at begins c.passed ++ procedures_at begins f.labels = ap (procedures_at begins) (sym whole_passed ∙ f.passed) ∙ procedures_split begins c.passed f.labels in
           let count = ap length (entered ∙ split) ∙ length-append (procedures_at begins c.passed) (procedures_at begins f.labels) in
           let none : procedures_at begins f.labels ≡ [] = is_empty (procedures_at begins f.labels) (omega arith) in
-          sym (entered ∙ split ∙ ap (λ l. procedures_at begins c.passed ++ l) none ∙ sym (nothing_more (procedures_at begins c.passed)));
+          sym (entered ∙ split ∙ ap (λ l. procedures_at begins c.passed ++ l) none ∙ sym (end_append (procedures_at begins c.passed)));
       output = (f.bytes, out ∙ sym whole_out ∙ f.out);
       used = let less = f.left in omega arith;
       finish = finish;
@@ -155,7 +152,7 @@ module _ (lay : Layout) (items : List Item) (begins input : List ℕ) (p : Point
               subst (λ c. IsFront c whole) (sym here) (front_itself whole)
         ] in
         follows_front x e.bytes e.labels (course lay items k input p) whole (ap (λ y. y.out) is ∙ out_bytes w e.bytes e.out) (ap (λ y. y.entered) is ∙ entered_labels w e.labels e.entered) (let y = ap (λ y. length y.entered) is in omega arith)
-        (sym (nothing_more e.bytes)) (sym (nothing_more e.labels)) (let u = used_all w e.used in let y = ap (λ y. y.used) is in omega arith) front
+        (sym (end_append e.bytes)) (sym (end_append e.labels)) (let u = used_all w e.used in let y = ap (λ y. y.used) is in omega arith) front
         (front_exit x code (course lay items k input p) whole exit refl (same_end w code e x is) front)
 
     -- a procedure's label is passed by the first item from it on
@@ -179,7 +176,7 @@ module _ (lay : Layout) (items : List Item) (begins input : List ℕ) (p : Point
           | inl le ↦
               let front = subst (λ c. IsFront (course lay items k input p) c) at_end (front_of k r.count le) in
               follows_front x r.bytes r.labels (course lay items k input p) (after r.bytes r.labels (stands w.input (Going q))) (out_bytes w r.bytes r.out) (entered_labels w r.labels r.entered) (omega arith)
-              (sym (nothing_more r.bytes)) (sym (nothing_more r.labels)) (let u = used_all w r.used in omega arith) front
+              (sym (end_append r.bytes)) (sym (end_append r.labels)) (let u = used_all w r.used in omega arith) front
               (front_going x q (course lay items k input p) (after r.bytes r.labels (stands w.input (Going q))) refl front)
           | inr lt ↦
               let d : r.count + suc (k - suc r.count) ≡ k = omega arith in

@@ -17,7 +17,8 @@ use Rattle.rv32_select.specs.declared.source.Source.TheVariants.{Number}
 use Rattle.rv32_select.specs.Emit.{plain, hold, held, add_to, moves_code, spot_moves, number_moves, cells_code, room_items, take_items, test_items}
 use Rattle.rv32_select.specs.IsSelected.{IsOrder, moves_between}
 use Rattle.rv32_select.proofs.StaticPieces.{Piece, piece_append, piece_more, piece_one, hold_piece, held_number_piece, add_piece, moves_piece, sent_piece, cells_piece}
-use Rattle.rv32_select.proofs.Flowing.{Inside, Ahead, Goes, ahead_behind, goes_both, goes_then, goes_plain, inside_of, times_append, times_plain, below_more, Counts, counts_append, size_append, size_plain}
+use Rattle.rv32_select.proofs.Flowing.{Inside, Ahead, Goes, ahead_behind, goes_both, goes_then, goes_plain, inside_of, times_plain, below_more, Counts, counts_append, size_plain}
+use Rattle.rv32_items.proofs.Counted.{size_append, times_append}
 
 -- ---- words that go to spots at once
 

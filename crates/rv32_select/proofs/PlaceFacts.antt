@@ -4,7 +4,7 @@ use Rattle.std.specs.Prelude.{slice_get}
 use Rattle.parallel_move.specs.declared.Spot.{Spot}
 use Rattle.parallel_move.specs.declared.Spot.TheVariants.{Reg, Slot, Scratch}
 use Rattle.low_code.specs.Tree.{Code, set, prim, load, save, take, put, get, call, join, give, tail, choose, fail, Arms, otherwise, arm, Procedure, Program}
-use Rattle.low_code.specs.Formed.{is_among, uses, variables}
+use Rattle.low_code.specs.Formed.{uses, variables}
 use Rattle.register_alloc.specs.Live.{IsLive}
 use Rattle.register_alloc.specs.Fits.{Apart, Ascending, slots_of}
 use Rattle.register_alloc.specs.Assignment.{Assignment, place_of, saves_at, words_at}
@@ -19,6 +19,7 @@ use Rattle.rv32_select.specs.IsSelected.{heap_base, EmitsProcedure, first_label}
 use Rattle.low_code.specs.Literals.{IsSmall, AreSmall, TestsSmall}
 use Rattle.rv32_select.proofs.Courses.{Stands}
 use Rattle.rv32_select.proofs.Relation.{Keeps}
+use Rattle.seq.specs.Lists.{is_among}
 
 -- no spot twice
 abbrev pub NotAmong : Spot → List Spot → Type 0

@@ -1,11 +1,10 @@
 -- A call of a procedure, from its label to its return.
-use Rattle.std.proofs.Common.{◌≡◌, ℕ, zero, suc, ◌+◌, ◌-◌, ◌*◌, ◌≤◌, List, [], ◌∷◌, ◌++◌, map, length, cond, Bool, true, false, Some, None, refl, sym, ◌∙◌, subst, arith}
+use Rattle.std.proofs.Common.{◌≡◌, ℕ, zero, suc, ◌+◌, ◌-◌, ◌*◌, ◌≤◌, List, [], ◌∷◌, map, length, cond, Bool, true, false, Some, None, refl, sym, ◌∙◌, subst, arith}
 use Rattle.std.specs.Prelude.{Option, nat_eq, nat_lt, slice_get}
 use Rattle.std.proofs.lemmas.Bool.Decides.{nat_tests}
-use Rattle.std.proofs.lemmas.Grind.{common_steps}
 use Rattle.std.proofs.lemmas.Option.{slice_get_within}
 use Rattle.low_code.specs.Tree.{Procedure, Program}
-use Rattle.low_code.specs.Formed.{is_among, variables}
+use Rattle.low_code.specs.Formed.{variables}
 use Rattle.low_code.specs.Values.{Word, Env, World, with_vars, no_vars, need, gives, stops, stack_full as stack_full', missing, out_of_units}
 use Rattle.low_code.specs.Run.{code, calls, spent, spend, as_many, body}
 use Rattle.register_alloc.specs.Fits.{slots_of}
@@ -21,12 +20,7 @@ use Rattle.rv32_select.proofs.Relation.{bases, regs_of, AllHold, HoldsWorld, Bac
 use Rattle.rv32_select.proofs.PlaceFacts.{ProcedureFine, Setting}
 use Rattle.rv32_select.proofs.BlockFacts.{room, Block, Simulates, still_scoped, own_at, free_own}
 use Rattle.rv32_select.proofs.ProcedureEntry.{NoMust, at_stands, entered, stack_is_full}
-
-among_all : (x : ℕ) (xs : List ℕ) → is_among x (xs ++ []) ≡ true → is_among x xs ≡ true
-among_all x xs h = subst (λ l. is_among x l ≡ true) (end xs) h
-  where
-    end : (xs : List ℕ) → xs ++ [] ≡ xs
-    end xs = grind (arith, common_steps)
+use Rattle.seq.proofs.Counted.{among_all}
 
 -- no unit is left, and the machine waits at the procedure's label
 pub waits_here : (l : Program) (a : Assignment) (cells stack : ℕ) (lay : Layout) (items : List Item) (begins : List ℕ) (s : Setting l a cells stack lay items begins) (f : ℕ) (q : Procedure) (t : ℕ) (open_calls : List ℕ) (d : Data) (w : World) (G : List Word → World → Point → List ℕ → Type 0)

@@ -2,19 +2,18 @@
 use Rattle.std.proofs.Common.{◌≡◌, ◌≢◌, ℕ, suc, ◌+◌, ◌-◌, ◌*◌, ◌<◌, ◌≤◌, List, [], ◌∷◌, ◌++◌, map, length, get_or, set, true, false, Some, inl, inr, refl, sym, ap, ◌∙◌, subst, arith, length-append, get_or-set_same, get_or-set_other}
 use Rattle.std.specs.Prelude.{pos, nat_lt, slice_get}
 use Rattle.std.proofs.lemmas.Bool.Decides.{nat_tests}
-use Rattle.std.proofs.lemmas.Grind.{common_steps}
 use Rattle.std.proofs.lemmas.Option.{slice_get_within}
 use Rattle.std.proofs.Math.ListN.{length-set}
 use Rattle.rv32_isa.specs.declared.instr.Instr.{Instr}
 use Rattle.rv32_isa.specs.declared.instr.Instr.TheVariants.{Store}
 use Rattle.rv32_isa.specs.declared.instr.StoreKind.TheVariants.{Sw}
-use Rattle.rv32_machine.specs.Arithmetic.{plus}
+use Rattle.rv32_machine.specs.Arithmetic.{plus, negated}
 use Rattle.rv32_machine.specs.Steps.{set_reg}
 use Rattle.rv32_steps.specs.Straight.{value}
 use Rattle.parallel_move.specs.declared.Spot.{Spot}
 use Rattle.parallel_move.specs.declared.Spot.TheVariants.{Reg, Slot, Scratch}
 use Rattle.low_code.specs.Tree.{Procedure, Program}
-use Rattle.low_code.specs.Formed.{is_among, variables}
+use Rattle.low_code.specs.Formed.{variables}
 use Rattle.low_code.specs.Values.{Word, Env, World, with_vars, no_vars, need}
 use Rattle.low_code.specs.Run.{calls, spent}
 use Rattle.register_alloc.specs.Fits.{slots_of}
@@ -23,11 +22,11 @@ use Rattle.rv32_items.specs.declared.Cond.TheVariants.{Ltu}
 use Rattle.rv32_items.specs.declared.Item.{Item}
 use Rattle.rv32_items.specs.declared.Item.TheVariants.{Branch}
 use Rattle.rv32_items.specs.Course.{Layout, label_from}
-use Rattle.rv32_select.specs.Emit.{plain, add_to, number_to, negated, argument_spots, parameters_code, entry_items}
+use Rattle.rv32_select.specs.Emit.{plain, add_to, number_to, argument_spots, parameters_code, entry_items}
 use Rattle.rv32_select.specs.IsSelected.{stack_end}
 use Rattle.rv32_select.proofs.Courses.{Stands, front, back}
 use Rattle.rv32_select.proofs.Straight.{Data, with_reg, with_stack, Good, Does, does_nothing, does_on, does_store_stack, at}
-use Rattle.rv32_select.proofs.NumberParts.{value_is, set_there, does_add, does_number}
+use Rattle.rv32_select.proofs.NumberParts.{value_is, does_add, does_number}
 use Rattle.rv32_select.proofs.JumpStretches.{with_regs, passes, branches, goes_on}
 use Rattle.rv32_select.proofs.FrameViews.{spots, InFrame, Kept, kept, kept_on, in_frame, stores}
 use Rattle.rv32_select.proofs.OperandsRead.{IsPlace, put_here, put_there}
@@ -37,6 +36,7 @@ use Rattle.rv32_select.proofs.BlockFacts.{bound_word, own_place, apart_different
 use Rattle.rv32_select.proofs.OneBound.{plain_ran}
 use Rattle.rv32_select.proofs.Stops.{good_far, stack_full_stop}
 use Rattle.rv32_select.proofs.BlockEnds.{world_same}
+use Rattle.rv32_machine.proofs.Registers.{set_there}
 
 -- ---- parameters go to their slots
 
@@ -96,15 +96,9 @@ vars_as_many [] (v ∷ vs) env env' e = absurd (cc)
 vars_as_many (x ∷ xs) [] env env' e = absurd (cc)
 vars_as_many (x ∷ xs) (v ∷ vs) env env' e = ap suc (vars_as_many xs vs _ env' e)
 
-places_many : (place : ℕ → Spot) (xs : List ℕ) → length (map place xs) ≡ length xs
+pub places_many : (place : ℕ → Spot) (xs : List ℕ) → length (map place xs) ≡ length xs
 places_many place [] = refl
 places_many place (x ∷ xs) = ap suc (places_many place xs)
-
-among_all : (x : ℕ) (xs : List ℕ) → is_among x (xs ++ []) ≡ true → is_among x xs ≡ true
-among_all x xs h = subst (λ l. is_among x l ≡ true) (end xs) h
-  where
-    end : (xs : List ℕ) → xs ++ [] ≡ xs
-    end xs = grind (arith, common_steps)
 
 module _ (l : Program) (a : Assignment) (cells stack : ℕ) (lay : Layout) (items : List Item) (begins : List ℕ) (s : Setting l a cells stack lay items begins) (f : ℕ) (q : Procedure) (pf : ProcedureFine l a f q) where
   -- the frame's test: x2 goes down, and x5 has the stack's base

@@ -7,7 +7,7 @@ use Rattle.parallel_move.specs.declared.Spot.{Spot}
 use Rattle.parallel_move.specs.declared.Spot.TheVariants.{Reg, Slot, Scratch}
 use Rattle.parallel_move.specs.Moves.{Values}
 use Rattle.low_code.specs.Tree.{Code, Program}
-use Rattle.low_code.specs.Formed.{is_among, uses, all_variables}
+use Rattle.low_code.specs.Formed.{uses, all_variables}
 use Rattle.low_code.specs.Values.{Word, number, cell, Env, World, no_alternative, out_of_units, missing, heap_full, stack_full, Answer, gives, stops, then_do}
 use Rattle.low_code.specs.Run.{spent, written, byte_taken}
 use Rattle.register_alloc.specs.Assignment.{Assignment, place_of, may_change}
@@ -22,6 +22,7 @@ use Rattle.rv32_select.specs.IsSelected.{heap_base, stack_end}
 use Rattle.rv32_select.proofs.Courses.{Goes, Exits, goes, exits}
 use Rattle.rv32_select.proofs.Straight.{Data, Good, at}
 use Rattle.rv32_select.proofs.FrameViews.{spots, InFrame}
+use Rattle.seq.specs.Lists.{is_among}
 
 abbrev pub bases : (stack : ℕ) → Bases
 bases stack = record { heap = heap_base; stack = stack_end - stack }

@@ -8,12 +8,13 @@ use Rattle.parallel_move.specs.declared.Spot.{Spot}
 use Rattle.parallel_move.specs.declared.Spot.TheVariants.{Reg, Slot}
 use Rattle.parallel_move.specs.declared.Move.{Move}
 use Rattle.parallel_move.specs.Moves.{Values, same, moved, one_by_one, is_target}
-use Rattle.low_code.specs.Formed.{is_among}
 use Rattle.register_alloc.specs.Fits.{Ascending}
 use Rattle.rv32_machine.specs.Memory.{Stretch}
 use Rattle.rv32_steps.specs.Data.{Bases}
 use Rattle.rv32_select.specs.Emit.{save_moves, restore_moves}
 use Rattle.rv32_select.proofs.FrameViews.{AllOk}
+use Rattle.register_alloc.proofs.Pigeons.{rest_ascends}
+use Rattle.seq.specs.Lists.{is_among}
 
 -- a spot that no move goes to
 not_moved : (ms : List Move) (v : Values) (s : Spot) → is_target s ms ≡ false → one_by_one ms v s ≡ v s
@@ -83,10 +84,6 @@ below_all q (p ∷ rs) h r e = elim (two_ways (nat_eq r p)) [
   | inr t ↦ let more = below_all p rs h.1 r (ap (λ b. b || is_among r rs) (sym t) ∙ e) in omega (arith, more, h.0)
 ]
 
-tail_ascends : (q : ℕ) (rs : List ℕ) → Ascending (q ∷ rs) → Ascending rs
-tail_ascends q [] h = tt
-tail_ascends q (p ∷ rs) h = h.1
-
 not_above : (q : ℕ) (rs : List ℕ) → Ascending (q ∷ rs) → is_among q rs ≡ false
 not_above q rs h = by_test (is_among q rs) refl
   where
@@ -107,7 +104,7 @@ restored first (q ∷ rs) v zero r a e =
 restored first (q ∷ rs) v (suc i) r a e =
     let n : suc first + i ≡ first + suc i = omega arith in
     let m : Move = record { to = Reg q; from = Slot first } in
-    restored (suc first) rs (moved m v) i r (tail_ascends q rs a) e ∙ ap (λ k. v (Slot k)) n
+    restored (suc first) rs (moved m v) i r (rest_ascends q rs a) e ∙ ap (λ k. v (Slot k)) n
 
 pub among_index : (r : ℕ) (rs : List ℕ) → is_among r rs ≡ true → (i : ℕ) × (slice_get rs i ≡ Some r)
 among_index r [] e = absurd (cc)

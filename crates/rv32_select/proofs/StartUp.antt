@@ -7,7 +7,6 @@ use Rattle.std.proofs.Math.ListN.{length-set}
 use Rattle.std.proofs.Math.Nat.{mul-le-mul_left}
 use Rattle.seq.proofs.Lists.{get_last}
 use Rattle.rv32_isa.specs.declared.instr.ImmKind.TheVariants.{Addi}
-use Rattle.rv32_machine.specs.Memory.{Stretch}
 use Rattle.rv32_machine.specs.Arithmetic.{plus}
 use Rattle.rv32_machine.specs.Steps.{set_reg}
 use Rattle.rv32_steps.specs.Data.{words_bytes}
@@ -23,9 +22,11 @@ use Rattle.rv32_select.specs.IsSelected.{heap_base, stack_end}
 use Rattle.rv32_select.specs.Selects.{start_at}
 use Rattle.low_code.specs.Literals.{TagsSmall}
 use Rattle.rv32_select.proofs.Straight.{Data, with_reg, with_heap, Good, Does, does_nothing, does_on, does_to, does_imm, does_store_heap, at}
-use Rattle.rv32_select.proofs.NumberParts.{value_is, set_here, nothing_set, does_number}
+use Rattle.rv32_select.proofs.NumberParts.{value_is, nothing_set, does_number}
 use Rattle.rv32_select.proofs.Relation.{bases, HoldsCells}
 use Rattle.rv32_select.proofs.CellWords.{cell_inside, cells_taken, cells_stored}
+use Rattle.rv32_machine.proofs.Registers.{set_here}
+use Rattle.rv32_steps.proofs.Access.{bytes_segment}
 
 -- ---- a number in a register, whatever the frame
 
@@ -146,9 +147,6 @@ module _ (l : Program) (lay : Layout) (cells stack : ℕ) (wide : 1 ≤ l.width)
 abbrev pub start_data : (width cells stack : ℕ) → Data
 start_data width cells stack = record { regs = λ r. 0; heap = replicate (width * cells) 0; stack = replicate (stack / 4) 0 }
 
-abbrev segment : ℕ → List ℕ → Stretch
-segment first bytes = record { first = first; write = true; exec = false; bytes = bytes }
-
 pub starts_at : (width cells stack : ℕ) (lay : Layout) (items : List Item) → stack % 4 ≡ 0 → at (bases stack) lay items 0 (start_data width cells stack) ≡ start_at width cells stack lay
 starts_at width cells stack lay items four =
     let heap_size : 4 * (width * cells) ≡ 4 * width * cells = omega arith in
@@ -158,5 +156,5 @@ starts_at width cells stack lay items four =
     λ i. record {
       regs = λ r. 0;
       item = 0;
-      memory = lay.code ∷ segment heap_base (heap i) ∷ segment (stack_end - stack) (stack_is i) ∷ [];
+      memory = lay.code ∷ bytes_segment heap_base (heap i) ∷ bytes_segment (stack_end - stack) (stack_is i) ∷ [];
     }

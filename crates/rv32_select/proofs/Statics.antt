@@ -20,8 +20,9 @@ use Rattle.rv32_items.proofs.Stands.{stands}
 use Rattle.rv32_select.specs.IsSelected.{IsSelected}
 use Rattle.rv32_select.specs.Selectable.{Selectable}
 use Rattle.rv32_select.proofs.Writes.{can_write}
-use Rattle.rv32_select.proofs.Flowing.{Inside, Ahead, GoesAt, Goes, times_append}
+use Rattle.rv32_select.proofs.Flowing.{Inside, Ahead, GoesAt, Goes}
 use Rattle.rv32_select.proofs.WholeParts.{Far, Whole, whole, stops, stops_counts}
+use Rattle.rv32_items.proofs.Counted.{times_append}
 
 -- ---- the labels of procedures
 

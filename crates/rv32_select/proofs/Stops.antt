@@ -22,11 +22,12 @@ use Rattle.rv32_select.specs.Emit.{plain, add_to, room_items, exit_with}
 use Rattle.rv32_select.proofs.Courses.{Stands, front, back, Goes, Exits, one_ended}
 use Rattle.rv32_select.proofs.Straight.{Data, with_reg, Good, does_on, does_imm, at}
 use Rattle.rv32_select.proofs.JumpStretches.{with_regs, passes, branches, goes_on}
-use Rattle.rv32_select.proofs.NumberParts.{set_there, does_add}
+use Rattle.rv32_select.proofs.NumberParts.{does_add}
 use Rattle.rv32_select.proofs.FrameViews.{Kept, kept_reg, kept_on}
 use Rattle.rv32_select.proofs.Relation.{bases, Ran, Ends, ran_on, ends_on, quiet, quiet_labels, ends_now}
 use Rattle.rv32_select.proofs.PlaceFacts.{Setting}
 use Rattle.rv32_select.proofs.OneBound.{plain_ran}
+use Rattle.rv32_machine.proofs.Registers.{set_there}
 
 -- what a taken branch or jump leaves of good data
 pub good_far : (items : List Item) (lay : Layout) (b : Bases) → Rises items lay → (n : ℕ) (d : Data) → Good lay.code b d → Good lay.code b (with_regs d (lay.far n d.regs))

@@ -21,6 +21,7 @@ use Rattle.rv32_items.specs.declared.Item.TheVariants.{Plain}
 use Rattle.rv32_items.specs.Course.{Layout, Point, Next, turn, turn_of, behind_plain, to_item, address_from, label_of, state_at}
 use Rattle.rv32_items.specs.Told.{is_call, returns}
 use Rattle.rv32_select.proofs.Courses.{Stands, Goes, stays, goes, one_on}
+use Rattle.rv32_select.specs.Emit.{plain}
 
 -- the registers, the words of the heap and those of the stack
 pub record Data : Type 0 where
@@ -39,9 +40,6 @@ with_heap d ws = record { regs = d.regs; heap = ws; stack = d.stack }
 
 abbrev pub with_stack : Data → List ℕ → Data
 with_stack d ws = record { regs = d.regs; heap = d.heap; stack = ws }
-
-abbrev pub plain_items : List Instr → List Item
-plain_items is = map Plain is
 
 pub plain_length : (is : List Instr) → length (map Plain is) ≡ length is
 plain_length [] = refl
@@ -252,7 +250,7 @@ module _ (b : Bases) (lay : Layout) (items : List Item) where
       subst (λ l. Goes lay items 1 input p calls [] l input q calls) (ap label_of here)
       (one_on lay items p q input calls does (ap is_call here) (ap returns here ∙ no_return b i regs w asks))
 
-  straight : (is : List Instr) (n m : ℕ) (regs : ℕ → ℕ) (w : Words) (input calls : List ℕ) → m ≡ n + length is → Stands items n (plain_items is) → LaidOut lay.code b w → AllAsk b is regs w → Goes lay items (length is) input (standing n regs w) calls [] [] input (standing m (straight_regs b is regs w) (straight_words b is regs w)) calls
+  straight : (is : List Instr) (n m : ℕ) (regs : ℕ → ℕ) (w : Words) (input calls : List ℕ) → m ≡ n + length is → Stands items n (plain is) → LaidOut lay.code b w → AllAsk b is regs w → Goes lay items (length is) input (standing n regs w) calls [] [] input (standing m (straight_regs b is regs w) (straight_words b is regs w)) calls
   straight [] n m regs w input calls e s ok asks =
       let same : n ≡ m = omega arith in
       subst (λ x. Goes lay items 0 input (standing n regs w) calls [] [] input (standing x regs w) calls) same (stays lay items input (standing n regs w) calls)
@@ -265,7 +263,7 @@ module _ (b : Bases) (lay : Layout) (items : List Item) where
       subst (λ k. Goes lay items k input (standing n regs w) calls [] [] input end calls) count (goes lay items first more)
 
   -- instructions that stand at an item are a stretch to the item behind them
-  pub block : {is : List Instr} {d d' : Data} (n : ℕ) (input calls : List ℕ) → Good lay.code b d → Does lay.code b is d d' → Stands items n (plain_items is) → Goes lay items (length is) input (at n d) calls [] [] input (at (n + length is) d') calls
+  pub block : {is : List Instr} {d d' : Data} (n : ℕ) (input calls : List ℕ) → Good lay.code b d → Does lay.code b is d d' → Stands items n (plain is) → Goes lay items (length is) input (at n d) calls [] [] input (at (n + length is) d') calls
   block {is} {d} {d'} n input calls g does s =
       let whole = straight is n (n + length is) d.regs (words d) input calls refl s g.laid does.asks in
       subst (λ r. Goes lay items (length is) input (at n d) calls [] [] input (standing (n + length is) r (words d')) calls) does.regs_are

@@ -12,7 +12,7 @@ use Rattle.parallel_move.specs.declared.Spot.{Spot}
 use Rattle.parallel_move.specs.declared.Spot.TheVariants.{Reg, Slot, Scratch}
 use Rattle.parallel_move.specs.Moves.{Values}
 use Rattle.low_code.specs.Tree.{Code, take, Procedure, Program}
-use Rattle.low_code.specs.Formed.{is_among, variables}
+use Rattle.low_code.specs.Formed.{variables}
 use Rattle.low_code.specs.Values.{Word, Env, World, with_vars, need, stops, heap_full as heap_full'}
 use Rattle.low_code.specs.Run.{Calls, code, places as cell_places, with_cells, empty_cell}
 use Rattle.register_alloc.specs.Fits.{slots_of}
@@ -24,7 +24,6 @@ use Rattle.rv32_select.specs.Emit.{plain, room_items, cells_code}
 use Rattle.rv32_select.specs.IsSelected.{heap_base}
 use Rattle.rv32_select.proofs.Courses.{Stands, stays}
 use Rattle.rv32_select.proofs.Straight.{Data, with_reg, does_on, does_imm, at}
-use Rattle.rv32_select.proofs.NumberParts.{set_there}
 use Rattle.rv32_select.proofs.FrameViews.{spots, in_frame}
 use Rattle.rv32_select.proofs.OperandsRead.{IsPlace}
 use Rattle.rv32_select.proofs.Gathering.{AllPlaces}
@@ -32,9 +31,13 @@ use Rattle.rv32_select.proofs.TakenCells.{AllAt, celled}
 use Rattle.rv32_select.proofs.Relation.{bases, AllHold, HoldsCells, HoldsWorld, Ran, ran_on, quiet, Does', does_after, Given}
 use Rattle.rv32_select.proofs.CellWords.{cells_taken}
 use Rattle.rv32_select.proofs.PlaceFacts.{IsOwn, AllOwn, ProcedureFine, Setting}
-use Rattle.rv32_select.proofs.BlockFacts.{room, Block, Simulates, Changed, among_right, or_true, own_places, apart_different, stood_bound, still_scoped}
+use Rattle.rv32_select.proofs.BlockFacts.{room, Block, Simulates, Changed, or_true, own_places, apart_different, stood_bound, still_scoped}
 use Rattle.rv32_select.proofs.OneBound.{Cut, cut, ready_at, plain_ran}
 use Rattle.rv32_select.proofs.Stops.{Tested, tested}
+use Rattle.seq.specs.Lists.{is_among}
+use Rattle.rv32_machine.proofs.Registers.{set_there}
+use Rattle.seq.proofs.Counted.{among_right}
+use Rattle.rv32_select.proofs.ProcedureEntry.{places_many}
 
 -- cells from the n-th on are at spots, as words
 at_are_words : (width : ℕ) (place : ℕ → Spot) (xs : List ℕ) (n : ℕ) (u : Values) → AllAt (4 * width) (map place xs) (heap_base + 4 * width * n) u → AllHold width (map place xs) (cell_places n xs) u
@@ -49,10 +52,6 @@ scope_owned l a f saved (x ∷ xs) scope own owned y h = elim (or_true (nat_eq y
   | inl e ↦ let same : x ≡ y = grind (arith, nat_tests) in subst (λ z. IsOwn l a f saved (place_of a z)) same own.0
   | inr e ↦ scope_owned l a f saved xs scope own.1 owned y e
 ]
-
-map_length : (place : ℕ → Spot) (xs : List ℕ) → length (map place xs) ≡ length xs
-map_length place [] = refl
-map_length place (x ∷ xs) = ap suc (map_length place xs)
 
 -- the parts of a take's items
 take_parts : (items : List Item) (p : ℕ) (first second : List Item) (block rest : List Item) → block ≡ (first ++ second) ++ rest → Stands items p block → Cut items p first second (first ++ second) × Cut items p (first ++ second) rest block
@@ -77,7 +76,7 @@ module _ (l : Program) (a : Assignment) (cells stack : ℕ) (lay : Layout) (item
       bytes = 4 * l.width * length (map (place_of a) xs)
 
       size_is : length (map (place_of a) xs) ≡ length xs
-      size_is = map_length (place_of a) xs
+      size_is = places_many (place_of a) xs
 
       product : 4 * l.width * length (map (place_of a) xs) ≡ 4 * l.width * length xs
       product = ap (λ y. 4 * l.width * y) size_is

@@ -11,11 +11,12 @@ use Rattle.parallel_move.specs.declared.Spot.TheVariants.{Reg, Slot, Scratch}
 use Rattle.parallel_move.specs.Moves.{Values}
 use Rattle.rv32_select.specs.Emit.{target, keep, is_offset, next_offset, go_on, cells_code}
 use Rattle.rv32_select.proofs.Straight.{Data, with_reg, Good, Does, does_nothing, does_to, does_on, does_imm}
-use Rattle.rv32_select.proofs.NumberParts.{set_here, set_there, again, nothing_set}
+use Rattle.rv32_select.proofs.NumberParts.{again, nothing_set}
 use Rattle.rv32_select.proofs.FrameViews.{spots, InFrame, Outside, Kept, in_frame, kept_reg, kept_on, seen_reg, stores}
 use Rattle.rv32_select.proofs.OperandsRead.{IsPlace, put_here, put_there, seen_past}
 use Rattle.rv32_select.proofs.Gathering.{AllPlaces}
 use Rattle.rv32_select.proofs.PlaceFacts.{NotAmong, Different}
+use Rattle.rv32_machine.proofs.Registers.{set_there, set_here}
 
 -- cells from an address on stand at spots, one for each
 abbrev pub AllAt : (step : ℕ) → List Spot → ℕ → Values → Type 0

@@ -17,14 +17,16 @@ use Rattle.rv32_items.specs.declared.Item.{Item}
 use Rattle.rv32_items.specs.declared.Item.TheVariants.{Branch, Jump}
 use Rattle.rv32_items.specs.Placed.{is_instruction, size_of, times}
 use Rattle.rv32_select.specs.declared.source.Way.TheVariants.{Returns}
-use Rattle.rv32_select.specs.Emit.{plain, is_short, negated, number_to, add_to, number_moves, result_spots, parameters_code, exit_with, room_items, globals_code, start_items, stop_items}
+use Rattle.rv32_select.specs.Emit.{plain, is_short, number_to, add_to, number_moves, result_spots, parameters_code, exit_with, room_items, globals_code, start_items, stop_items}
 use Rattle.rv32_select.specs.IsSelected.{heap_base, stack_end, heap_end, heap_full, step, stack_full, no_alternative, places, sources, argument_spots_of, EmitsProcedure, EmitsProcedures, start_argument, first_call, IsSelected}
 use Rattle.rv32_select.specs.Writable.{ProcedurePlaced, Writable}
 use Rattle.rv32_select.proofs.StaticPieces.{piece_append, piece_cons, number_piece, add_piece, parameters_piece, globals_piece, sent_piece}
-use Rattle.rv32_select.proofs.Flowing.{Goes, goes_both, times_append, below, below_more, Counts, size_append}
+use Rattle.rv32_select.proofs.Flowing.{Goes, goes_both, below, below_more, Counts}
 use Rattle.rv32_select.proofs.EmittedLabels.{procedure_up}
 use Rattle.rv32_select.proofs.Parts.{Part, code_part, part_append, part_more, jump_part, branch_part, room_part}
 use Rattle.rv32_select.proofs.EmittedParts.{Outer, block_part}
+use Rattle.rv32_machine.specs.Arithmetic.{negated}
+use Rattle.rv32_items.proofs.Counted.{size_append, times_append}
 
 -- ---- the first of some instructions
 

@@ -24,7 +24,7 @@ use Rattle.rv32_select.specs.IsSelected.{heap_base, stack_end, sources, start_ar
 use Rattle.low_code.specs.Literals.{TagsSmall}
 use Rattle.rv32_select.proofs.Courses.{Stands, front, back}
 use Rattle.rv32_select.proofs.Straight.{Data, words, with_reg, Good, Does, does_nothing, does_on, at}
-use Rattle.rv32_select.proofs.NumberParts.{set_here, set_there, does_number}
+use Rattle.rv32_select.proofs.NumberParts.{does_number}
 use Rattle.rv32_select.proofs.JumpStretches.{jumped, calls_to, comes_back}
 use Rattle.rv32_select.proofs.Relation.{bases, regs_of, AllHold, HoldsCells, HoldsWorld, Back, Ran, Ends, ran_on, ends_on, quiet, Does'}
 use Rattle.rv32_select.proofs.PlaceFacts.{AllFree, Setting}
@@ -36,6 +36,7 @@ use Rattle.rv32_select.proofs.CallStatement.{behind_call}
 use Rattle.rv32_select.proofs.Simulation.{calls_simulated}
 use Rattle.rv32_select.proofs.StartUp.{globals_done, start_data}
 use Rattle.rv32_select.proofs.Outcomes.{Outcome}
+use Rattle.rv32_machine.proofs.Registers.{set_there, set_here}
 
 -- what the start-up asks
 pub record Started (l : Program) (a : Assignment) (cells stack : ℕ) (items : List Item) : Type 0 where

@@ -27,8 +27,9 @@ use Rattle.rv32_select.proofs.Computed.{sets_load, sets_prim, stores_word}
 use Rattle.rv32_select.proofs.Relation.{bases, word_of, HoldsCells, HoldsWorld, Stood, quiet, Does', does_after, Given, Needed}
 use Rattle.rv32_select.proofs.CellWords.{cell_inside, cells_stored}
 use Rattle.rv32_select.proofs.PlaceFacts.{IsOwn, ProcedureFine, Setting}
-use Rattle.rv32_select.proofs.BlockFacts.{room, Block, Simulates, among_left, among_right, own_place}
+use Rattle.rv32_select.proofs.BlockFacts.{room, Block, Simulates, own_place}
 use Rattle.rv32_select.proofs.OneBound.{cut, ready_at, operand_read, one_bound}
+use Rattle.seq.proofs.Counted.{among_left, among_right}
 
 pub number_there : (r : Option Word) (k : ℕ) → and_then r number_of ≡ Some k → r ≡ Some (number k)
 number_there None k e = absurd (cc)

@@ -11,8 +11,8 @@ use Rattle.low_code.specs.declared.program.Operand.{Operand}
 use Rattle.low_code.specs.declared.program.Operand.TheVariants.{Var, Num, Cell}
 use Rattle.low_code.specs.declared.program.LowTest.{LowTest}
 use Rattle.low_code.specs.Tree.{Code, set, prim, load, save, take, put, get, call, join, give, tail, choose, fail, Arms, otherwise, arm, Procedure, Program}
-use Rattle.low_code.specs.Formed.{is_among, Known, AllKnown, TestsKnown, Scoped, ArmsScoped, AllScoped, Site, calls_in, arms_calls, binds, arms_binds, variables, all_variables, CallsInRange, AllCallsInRange, Starts}
-use Rattle.low_code.specs.Size.{code_size, arms_size, sizes}
+use Rattle.low_code.specs.Formed.{Known, AllKnown, TestsKnown, Scoped, ArmsScoped, Site, calls_in, arms_calls, binds, arms_binds, variables, all_variables, CallsInRange, AllCallsInRange, Starts}
+use Rattle.low_code.specs.Size.{code_size, arms_size}
 use Rattle.register_alloc.specs.Assignment.{Assignment, place_of, saves_at, words_at}
 use Rattle.register_alloc.specs.Live.{EachBinding, EachBindingOfArms}
 use Rattle.register_alloc.specs.Fits.{words_of_frame, IsPlace, IsSlot, IsRegister, Apart, ClearOf, Ascending}
@@ -20,7 +20,11 @@ use Rattle.rv32_select.specs.Emit.{argument_spot, argument_spots}
 use Rattle.rv32_select.specs.Ranges.{IsSpot, AreSpots, AreRegisters, is_spot_in, Different, AreTargets}
 use Rattle.rv32_select.specs.Writable.{HasPlace, HavePlaces, OperandPlaced, OperandsPlaced, TestsPlaced, Placed, ArmsPlaced, ProcedurePlaced, CanWrite}
 use Rattle.rv32_select.specs.Selectable.{Selectable}
-use Rattle.rv32_select.proofs.Among.{among_first, among_later, Within, within_cons, within_append, within_left, within_right, within_tail, within_head, variables_within, sites_within, site_among}
+use Rattle.rv32_select.proofs.Among.{Within, within_cons, within_append, within_left, within_right, within_tail, within_head, variables_within, sites_within, site_among}
+use Rattle.register_alloc.proofs.NotLater.{scoped_at}
+use Rattle.seq.specs.Lists.{is_among}
+use Rattle.seq.proofs.Counted.{among_later, among_first}
+use Rattle.rv32_select.proofs.FittingPlaces.{size_at}
 
 spot_of : (s : Spot) → IsPlace s → IsSpot s
 spot_of (Reg r) h = ((let lt = h.1 in grind (arith, nat_tests)), λ e. cc)
@@ -50,19 +54,6 @@ calls_at : (n : ℕ) (qs : List Procedure) (f : ℕ) (q : Procedure) → AllCall
 calls_at n [] f q h e = cc
 calls_at n (p ∷ qs) zero q h e = let is : p ≡ q = cc in subst (λ r. CallsInRange n (calls_in r.body)) is h.0
 calls_at n (p ∷ qs) (suc f) q h e = calls_at n qs f q h.1 e
-
-scoped_at : (n : ℕ) (qs : List Procedure) (f : ℕ) (q : Procedure) → AllScoped n qs → slice_get qs f ≡ Some q → Scoped n q.params q.body
-scoped_at n [] f q h e = cc
-scoped_at n (p ∷ qs) zero q h e = let is : p ≡ q = cc in subst (λ r. Scoped n r.params r.body) is h.0
-scoped_at n (p ∷ qs) (suc f) q h e = scoped_at n qs f q h.1 e
-
-size_at : (qs : List Procedure) (f : ℕ) (q : Procedure) → slice_get qs f ≡ Some q → code_size q.body ≤ sizes qs
-size_at [] f q e = cc
-size_at (p ∷ qs) zero q e =
-    let is : p ≡ q = cc in
-    let here : code_size p.body ≤ sizes (p ∷ qs) = omega arith in
-    subst (λ r. code_size r.body ≤ sizes (p ∷ qs)) is here
-size_at (p ∷ qs) (suc f) q e = let more = size_at qs f q e in omega (arith, more)
 
 -- ---- registers that are saved
 

@@ -1,8 +1,8 @@
 -- The instructions and items of each piece of low code, in their cheapest forms. x1 is a return
 -- address, x2 the address of the frame, x3 that of the next cell, x4 the heap's end and x5 the
 -- scratch spot; x6 and x7 are for one piece at a time, x7 for the address of a far slot.
-use Rattle.std.specs.Prelude.{ℕ, zero, suc, ◌+◌, ◌-◌, ◌*◌, ◌/◌, ◌%◌, ◌^◌, ℤ, pos, negsuc, Bool, true, false, ◌||◌, nat_eq, nat_lt, if◌then◌else◌, List, [], ◌∷◌, ◌++◌, map, length}
-use Rattle.rv32_isa.specs.Bits.{signed_part}
+use Rattle.std.specs.Prelude.{ℕ, zero, suc, ◌+◌, ◌*◌, ◌/◌, ◌%◌, ℤ, pos, negsuc, Bool, true, false, ◌||◌, nat_eq, nat_lt, if◌then◌else◌, List, [], ◌∷◌, ◌++◌, map, length}
+use Rattle.rv32_isa.specs.Bits.{lower}
 use Rattle.rv32_isa.specs.declared.instr.Instr.{Instr}
 use Rattle.rv32_isa.specs.declared.instr.Instr.TheVariants.{Lui, Load, Store, OpImm, Op, Jalr, Ecall}
 use Rattle.rv32_isa.specs.declared.instr.LoadKind.TheVariants.{Lw}
@@ -19,6 +19,7 @@ use Rattle.rv32_select.specs.declared.source.Source.TheVariants.{At, Number}
 use Rattle.rv32_items.specs.declared.Cond.TheVariants.{Ltu, Ne}
 use Rattle.rv32_items.specs.declared.Item.{Item}
 use Rattle.rv32_items.specs.declared.Item.TheVariants.{Label, Plain, Branch}
+use Rattle.rv32_machine.specs.Arithmetic.{negated}
 
 abbrev pub plain : List Instr → List Item
 plain is = map Plain is
@@ -29,15 +30,9 @@ plain is = map Plain is
 abbrev pub is_short : ℕ → Bool
 is_short n = nat_lt n 2048 || nat_lt 4294965247 n
 
--- the signed number of the lower 12 bits, and what the upper 20 bits are beside it
-abbrev pub lower : ℕ → ℤ
-lower n = signed_part 4096 (n % 4096)
-
+-- what the upper 20 bits are beside the signed number of the lower 12
 abbrev pub upper : ℕ → ℕ
 upper n = (n + 2048) / 4096 % 1048576
-
-abbrev pub negated : ℕ → ℕ
-negated n = (2 ^ 32 - n) % 2 ^ 32
 
 -- a register gets a number
 abbrev pub number_to : (r n : ℕ) → List Instr

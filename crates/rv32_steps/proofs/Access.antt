@@ -7,7 +7,7 @@ use Rattle.rv32_isa.specs.declared.instr.LoadKind.TheVariants.{Lw}
 use Rattle.rv32_isa.specs.declared.instr.StoreKind.TheVariants.{Sw}
 use Rattle.rv32_machine.specs.declared.memory.Right.TheVariants.{Read, Write}
 use Rattle.rv32_machine.specs.declared.machine.TrapKind.TheVariants.{MisalignedAccess}
-use Rattle.rv32_machine.specs.Memory.{Stretch, end_of, access, bytes_of, number_of, put_over}
+use Rattle.rv32_machine.specs.Memory.{Stretch, end_of, access, bytes_of, little_endian, put_over}
 use Rattle.rv32_machine.specs.Arithmetic.{plus, pattern, load_value}
 use Rattle.rv32_machine.specs.Steps.{State, Next, Trapped, act, stored, loaded, put}
 use Rattle.rv32_steps.specs.Leads.{at}
@@ -34,7 +34,7 @@ module _ (c : Stretch) (pc : ℕ) (regs : ℕ → ℕ) (first : ℕ) (ws : List 
       ap (λ x. if nat_eq (x % 4) 0 then loaded s rd (load_value Lw) 4 (access Read m x 4) else Trapped (MisalignedAccess x)) ea
       ∙ ap (λ t. if t then loaded s rd (load_value Lw) 4 (access Read m a 4) else Trapped (MisalignedAccess a)) (aligned first k four)
       ∙ ap (loaded s rd (load_value Lw) 4) (in_second Read c (word_segment first ws) rest a 4 (elsewhere Read c a (omega arith)) refl (omega arith) fits (omega arith))
-      ∙ ap (λ o. put s rd (number_of (take 4 (drop o (words_bytes ws))))) off
+      ∙ ap (λ o. put s rd (little_endian (take 4 (drop o (words_bytes ws))))) off
       ∙ ap (put s rd) (read_word ws k are lt)
 
   pub sw_second : (rs2 rs1 k : ℕ) (imm : ℤ) → c.write ≡ false → first % 4 ≡ 0 → k < length ws → plus (value regs rs1) (pattern imm) ≡ first + 4 * k → act (at regs pc (c ∷ word_segment first ws ∷ rest)) (Store Sw rs2 rs1 imm) ≡ Next (at regs (plus pc 4) (c ∷ word_segment first (set ws k (value regs rs2)) ∷ rest))
@@ -62,7 +62,7 @@ module _ (c h : Stretch) (pc : ℕ) (regs : ℕ → ℕ) (first : ℕ) (ws : Lis
       ap (λ x. if nat_eq (x % 4) 0 then loaded s rd (load_value Lw) 4 (access Read m x 4) else Trapped (MisalignedAccess x)) ea
       ∙ ap (λ t. if t then loaded s rd (load_value Lw) 4 (access Read m a 4) else Trapped (MisalignedAccess a)) (aligned first k four)
       ∙ ap (loaded s rd (load_value Lw) 4) (in_third Read c h (word_segment first ws) rest a 4 (elsewhere Read c a (omega arith)) (elsewhere Read h a (omega arith)) refl (omega arith) fits (omega arith))
-      ∙ ap (λ o. put s rd (number_of (take 4 (drop o (words_bytes ws))))) off
+      ∙ ap (λ o. put s rd (little_endian (take 4 (drop o (words_bytes ws))))) off
       ∙ ap (put s rd) (read_word ws k are lt)
 
   pub sw_third : (rs2 rs1 k : ℕ) (imm : ℤ) → c.write ≡ false → end_of h ≤ first → first % 4 ≡ 0 → k < length ws → plus (value regs rs1) (pattern imm) ≡ first + 4 * k → act (at regs pc (c ∷ h ∷ word_segment first ws ∷ rest)) (Store Sw rs2 rs1 imm) ≡ Next (at regs (plus pc 4) (c ∷ h ∷ word_segment first (set ws k (value regs rs2)) ∷ rest))

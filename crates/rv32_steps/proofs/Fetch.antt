@@ -9,7 +9,7 @@ use Rattle.rv32_isa.proofs.Decoded.{decoded, word_small}
 use Rattle.rv32_machine.specs.declared.memory.Right.{Right}
 use Rattle.rv32_machine.specs.declared.memory.Right.TheVariants.{Execute}
 use Rattle.rv32_machine.specs.declared.memory.Access.TheVariants.{At, Outside}
-use Rattle.rv32_machine.specs.Memory.{Stretch, allows, is_in, end_of, place_from, at_place, access, bytes_of, number_of}
+use Rattle.rv32_machine.specs.Memory.{Stretch, allows, is_in, end_of, place_from, at_place, access, bytes_of, little_endian}
 use Rattle.rv32_machine.specs.declared.machine.TrapKind.TheVariants.{MisalignedJump}
 use Rattle.rv32_machine.specs.Steps.{Trapped, step, fetched, act_on}
 use Rattle.rv32_steps.specs.Laws.{CodeStands}
@@ -69,7 +69,7 @@ elsewhere right s address h =
     and_false true y e = e
     and_false false y e = refl
 
-pub four_back : (w : ℕ) → w < 2 ^ 32 → number_of (bytes_of 4 w) ≡ w
+pub four_back : (w : ℕ) → w < 2 ^ 32 → little_endian (bytes_of 4 w) ≡ w
 four_back w h = omega arith
 
 pub holds : (c : Stretch) (pc : ℕ) (i : Instr) → c.exec ≡ true → pc % 4 ≡ 0 → c.first ≤ pc → pc + 4 ≤ end_of c → pc + 4 < 2 ^ 32 → InRange i → word_of i < 2 ^ 32 → take 4 (drop (pc - c.first) c.bytes) ≡ bytes_of 4 (word_of i) → Holds c pc i
@@ -77,7 +77,7 @@ unfolding step
 holds c pc i x al lo hi top range small is = record {
   steps = λ regs rest.
       let s = at regs pc (c ∷ rest) in
-      let word : number_of (take 4 (drop (pc - c.first) c.bytes)) ≡ word_of i = ap number_of is ∙ four_back (word_of i) small in
+      let word : little_endian (take 4 (drop (pc - c.first) c.bytes)) ≡ word_of i = ap little_endian is ∙ four_back (word_of i) small in
       let aligned : nat_eq (pc % 4) 0 ≡ true = grind (arith, nat_tests) in
       ap (λ b. if b then fetched s (access Execute (c ∷ rest) pc 4) else Trapped MisalignedJump) aligned
       ∙ ap (fetched s) (in_first Execute c rest pc 4 x lo hi (omega arith))
@@ -100,7 +100,7 @@ pub image_length : (is : List Instr) → length (code_bytes is) ≡ 4 * length i
 image_length [] = refl
 image_length (i ∷ is) = omega (arith, image_length is)
 
-cut : (pre bs post : List ℕ) → take (length bs) (drop (length pre) (pre ++ (bs ++ post))) ≡ bs
+pub cut : (pre bs post : List ℕ) → take (length bs) (drop (length pre) (pre ++ (bs ++ post))) ≡ bs
 cut pre bs post = grind (arith, common_steps)
 
 -- the code of an image stands where it was put

@@ -1,6 +1,6 @@
 -- Memory that is used by words.
 use Rattle.std.proofs.Common.{◌≡◌, ℕ, zero, suc, ◌+◌, ◌*◌, ◌/◌, ◌%◌, ◌^◌, ◌<◌, List, [], ◌∷◌, ◌++◌, length, take, drop, get_or, set, replicate, refl, sym, ap, ◌∙◌, arith}
-use Rattle.rv32_machine.specs.Memory.{bytes_of, number_of, put_over}
+use Rattle.rv32_machine.specs.Memory.{bytes_of, little_endian, put_over}
 use Rattle.rv32_steps.proofs.Fetch.{four_back}
 pub use Rattle.rv32_steps.specs.Data.{words_bytes, AreWords, word_segment}
 
@@ -11,10 +11,10 @@ words_length (w ∷ ws) = omega (arith, words_length ws)
 four_more : (k : ℕ) → 4 * suc k ≡ suc (suc (suc (suc (4 * k))))
 four_more k = omega arith
 
-pub read_word : (ws : List ℕ) (k : ℕ) → AreWords ws → k < length ws → number_of (take 4 (drop (4 * k) (words_bytes ws))) ≡ get_or ws k 0
+pub read_word : (ws : List ℕ) (k : ℕ) → AreWords ws → k < length ws → little_endian (take 4 (drop (4 * k) (words_bytes ws))) ≡ get_or ws k 0
 read_word [] k h lt = absurd (omega arith)
 read_word (w ∷ ws) zero h lt = four_back w h.0
-read_word (w ∷ ws) (suc k) h lt = ap (λ n. number_of (take 4 (drop n (words_bytes (w ∷ ws))))) (four_more k) ∙ read_word ws k h.1 (omega arith)
+read_word (w ∷ ws) (suc k) h lt = ap (λ n. little_endian (take 4 (drop n (words_bytes (w ∷ ws))))) (four_more k) ∙ read_word ws k h.1 (omega arith)
 
 over_later : (b : ℕ) (xs bs : List ℕ) (o : ℕ) → put_over (b ∷ xs) (suc o) bs ≡ b ∷ put_over xs o bs
 over_later b xs [] o = refl

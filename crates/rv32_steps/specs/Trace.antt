@@ -4,7 +4,7 @@ use Rattle.rv32_isa.specs.declared.instr.Instr.{Instr}
 use Rattle.rv32_isa.specs.declared.instr.Instr.TheVariants.{Jal, Jalr}
 use Rattle.rv32_isa.specs.Table.{instr_of}
 use Rattle.rv32_machine.specs.declared.memory.Right.TheVariants.{Execute}
-use Rattle.rv32_machine.specs.Memory.{access, read_at, number_of}
+use Rattle.rv32_machine.specs.Memory.{access, read_at, little_endian}
 use Rattle.rv32_machine.specs.Arithmetic.{plus}
 use Rattle.rv32_machine.specs.Steps.{State, Outcome, Next, Written, Asked, Ended, Trapped, step, given}
 
@@ -44,7 +44,7 @@ procedures_at begins (a ∷ way) = procedure_from 0 begins a ++ procedures_at be
 
 abbrev pub decoded : Option (List ℕ) → Option Instr
 decoded None = None
-decoded (Some bytes) = instr_of (number_of bytes)
+decoded (Some bytes) = instr_of (little_endian bytes)
 
 abbrev pub instruction_at : State → Option Instr
 instruction_at s = decoded (read_at s.memory 4 (access Execute s.memory s.pc 4))

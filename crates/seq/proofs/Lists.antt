@@ -1,5 +1,5 @@
 -- Lists: their items by number, parts of them, and what holds of all items.
-use Rattle.std.proofs.Common.{◌≡◌, ◌≢◌, ℕ, ◌+◌, ◌<◌, ◌≤◌, zero, suc, Bool, true, false, cond, List, [], ◌∷◌, ◌++◌, map, filter, take, drop, length, get_or, slice_set, refl, sym, ap, ◌∙◌, subst, arith, Option, Some, None}
+use Rattle.std.proofs.Common.{◌≡◌, ℕ, ◌+◌, ◌<◌, ◌≤◌, zero, suc, Bool, true, false, cond, List, [], ◌∷◌, ◌++◌, map, filter, take, drop, length, get_or, slice_set, refl, sym, ap, ◌∙◌, subst, arith, Option, Some, None}
 use Rattle.std.specs.Prelude.{slice_get}
 use Rattle.std.proofs.lemmas.List.{take_more}
 use Rattle.seq.specs.Lists.{AllOf}
@@ -68,6 +68,12 @@ length_set (y ∷ xs) (suc i) x = ap suc (length_set xs i x)
 
 -- ---- parts
 
+pub drop_again : {X : Type 0} (xs : List X) (i : ℕ) → drop 1 (drop i xs) ≡ drop (suc i) xs
+drop_again [] zero = refl
+drop_again [] (suc i) = refl
+drop_again (x ∷ xs) zero = refl
+drop_again (x ∷ xs) (suc i) = drop_again xs i
+
 pub drop_past : {X : Type 0} (xs : List X) (i : ℕ) → length xs ≤ i → drop i xs ≡ []
 drop_past [] zero le = refl
 drop_past [] (suc i) le = refl
@@ -135,3 +141,7 @@ all_filter P t (x ∷ xs) a = by_test (t x) (all_filter P t xs a.1)
     by_test : (b : Bool) → AllOf P (filter t xs) → AllOf P (cond b (x ∷ filter t xs) (filter t xs))
     by_test true r = (a.0, r)
     by_test false r = r
+
+pub map_same : {X : Type 0} (l : List X) → map (λ x. x) l ≡ l
+map_same [] = refl
+map_same (x ∷ l) = ap (λ k. x ∷ k) (map_same l)

@@ -60,3 +60,6 @@ pub more_times : (m n k : ℕ) → m ≤ n → m * k ≤ n * k
 more_times zero n k h = omega arith
 more_times (suc m) zero k h = absurd (omega (arith, h))
 more_times (suc m) (suc n) k h = omega (arith, more_times m n k (omega (arith, h)))
+
+pub no_zero : (b : ℕ) → nat_eq (suc b) 0 ≡ false
+no_zero b = grind (arith, nat_tests)

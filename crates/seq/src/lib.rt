@@ -1,4 +1,4 @@
-// Lists that contracts see as lists, so that a tree of them is plain data.
+//! Lists that contracts see as lists, so that a tree of them is plain data.
 #![tactic(auto)]
 
 pub mod list;

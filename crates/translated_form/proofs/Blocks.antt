@@ -11,14 +11,14 @@ use Rattle.arity_check.specs.Program.{Program, Term, App, Let, Case, Branches, N
 use Rattle.grin_syntax.specs.declared.program.VarId.{VarId}
 use Rattle.grin_syntax.specs.declared.program.Word.{Word}
 use Rattle.grin_syntax.specs.declared.program.Target.TheVariants as to
-use Rattle.grin_syntax.specs.Tree.{Code, end, store, bind}
+use Rattle.grin_syntax.specs.Tree.{Code, end, store, bind, as_act}
 use Rattle.grin_syntax.specs.Binders.{numbers_of, cell_vars}
 use Rattle.grin_syntax.specs.Formed.{AllOf, Scope, InScope, with_words, with_target, WordFormed, CellFormed, ActFormed, CodeFormed, ArmsFormed}
 use Rattle.grin_syntax.proofs.Scopes.{first_in, Within, within_chain, within_words, within_target, word_stays, words_stay}
 use Rattle.grin_translate.specs.declared.tags.Delay.{Delay}
 use Rattle.grin_translate.specs.declared.tags.Delay.TheVariants.{Calls}
 use Rattle.grin_translate.specs.Tags.{binds, delays_in, is_delayed}
-use Rattle.grin_translate.specs.Blocks.{local, temp, cell_of, as_act, temps, give_block, apply_block, on_number, prim_block, form_block, block, arms}
+use Rattle.grin_translate.specs.Blocks.{local, temp, cell_of, temps, give_block, apply_block, on_number, prim_block, form_block, block, arms}
 use Rattle.grin_translate.specs.Blocks as blocks
 use Rattle.grin_translate.specs.Pieces.{result_of, evaluated_of}
 use Rattle.grin_translate.specs.Translation.{tr}

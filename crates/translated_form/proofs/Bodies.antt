@@ -11,19 +11,21 @@ use Rattle.grin_syntax.specs.Tree.{Code}
 use Rattle.grin_syntax.specs.Formed.{AllOf, Scope, InScope, ActFormed, CodeFormed, ProcedureFormed}
 use Rattle.grin_translate.specs.declared.tags.Delay.{Delay}
 use Rattle.grin_translate.specs.declared.tags.Delay.TheVariants.{Calls, Applies, Operates, Reads}
-use Rattle.grin_translate.specs.Tags.{numbers_from, delays_in, is_delayed, takes_input, delays, delay_params}
+use Rattle.grin_translate.specs.Tags.{delays_in, is_delayed, takes_input, delays, delay_params}
 use Rattle.grin_translate.specs.Blocks.{local, temp}
 use Rattle.grin_translate.specs.Translation.{procedure, fun_body, delay_body, span, delayed_procs, rest, write_block, print_body, start_body, tr}
 use Rattle.grin_translate.specs.WellFormed.{FunOk, VarOk, WellFormed}
 use Rattle.grin_translate.proofs.Found.{has_calls, has_reads}
-use Rattle.grin_translate.proofs.Lookups.{length-numbers_from}
 use Rattle.grin_translate.proofs.Expressions.{any_has, Waits}
 use Rattle.grin_syntax.proofs.Scopes.{first_in}
-use Rattle.translated_form.proofs.Lists.{all_if, all_numbers, all_mapped, has_at}
+use Rattle.translated_form.proofs.Lists.{all_if, all_numbers, all_mapped}
 use Rattle.translated_form.proofs.Delays.{IsThere, all_there}
 use Rattle.translated_form.proofs.Scopes.{in_later, scoped_params}
 use Rattle.translated_form.proofs.Named.{number_known, constructor_known, waits_known, print_known}
 use Rattle.translated_form.proofs.Blocks.{on_number_formed, form_formed, block_formed}
+use Rattle.grin_translate.proofs.Entered.{has_at}
+use Rattle.seq.specs.Lists.{numbers_from}
+use Rattle.seq.proofs.Counted.{length_numbers}
 
 module _ (p : Program) where
   waits_all : (f : ℕ) (fun : Function) → slice_get p.funs f ≡ Some fun → Waits p fun.body
@@ -45,7 +47,7 @@ module _ (p : Program) where
         let S : ℕ → Type 0 = λ x. x < suc m in
         let many : length (map Local (numbers_from 1 m)) ≡ length (numbers_from 1 m) = length-map (numbers_from 1 m) Local in
         let all : AllOf (VarOk p S) (map Local (numbers_from 1 m)) = all_mapped (VarOk p S) Local (numbers_from 1 m) (all_numbers S m 1 (λ x le lt. omega (arith, lt))) in
-        form_formed p base (flat.Apply (Local 0) (map Local (numbers_from 1 m))) 0 S _ (scoped_params p base (suc m)) (omega (arith, many, length-numbers_from 1 m, few), omega arith, all)
+        form_formed p base (flat.Apply (Local 0) (map Local (numbers_from 1 m))) 0 S _ (scoped_params p base (suc m)) (omega (arith, many, length_numbers 1 m, few), omega arith, all)
 
     operate_formed : (op : _) (base : ℕ) → BodyFormed base 2 (delay_body p base (Operates op))
     operate_formed op base = form_formed p base (flat.Prim op (Local 0) (Local 1)) 0 (λ x. x < 2) _ (scoped_params p base 2) (omega arith, omega arith)

@@ -14,14 +14,15 @@ use Rattle.grin_translate.specs.declared.tags.Delay.{Delay}
 use Rattle.grin_translate.specs.declared.tags.Delay.TheVariants.{Calls, Applies, Operates, Reads}
 use Rattle.grin_translate.specs.declared.tags.Kind.{Kind}
 use Rattle.grin_translate.specs.declared.tags.Kind.TheVariants.{Constructor, Waits, Lacks}
-use Rattle.grin_translate.specs.Tags.{numbers_from, takes_input, delays, kinds, parts, function_parts, tag_of, con_tag, delay_name, delay_params}
+use Rattle.grin_translate.specs.Tags.{takes_input, delays, kinds, parts, function_parts, tag_of, con_tag, delay_name, delay_params}
 use Rattle.grin_translate.specs.Translation.{procedure, delay_body, span, delayed_procs, rest, print_body, start_body, tr}
 use Rattle.grin_translate.proofs.Places.{all_map}
-use Rattle.grin_translate.proofs.Lookups.{length-numbers_from}
 use Rattle.translated_form.specs.Laws.{HasFewWords}
 use Rattle.translated_form.proofs.Lists.{all_if, all_mapped, all_weaker}
 use Rattle.translated_form.proofs.Delays.{IsThere, all_there}
 use Rattle.translated_form.proofs.Limits.{Limited, valid_is_limited}
+use Rattle.seq.specs.Lists.{numbers_from}
+use Rattle.seq.proofs.Counted.{length_numbers}
 
 -- the fields of a tag, and those of a value
 pub record IsNarrow (t : Tag) : Type 0 where
@@ -95,7 +96,7 @@ module _ (p : Program) (limited : Limited p) where
   Short q = length q.params ≤ 13
 
   as_many_params : (base : ℕ) (name : List ℕ) (n : ℕ) (b : Code) → length (procedure p base name n b).params ≡ n
-  as_many_params base name n b = length-map (numbers_from 0 n) _ ∙ length-numbers_from 0 n
+  as_many_params base name n b = length-map (numbers_from 0 n) _ ∙ length_numbers 0 n
 
   short : (base : ℕ) (name : List ℕ) (n : ℕ) (b : Code) → n ≤ 13 → Short (procedure p base name n b)
   short base name n b le = let e = as_many_params base name n b in omega (arith, e, le)

@@ -5,9 +5,10 @@ use Rattle.arity_check.specs.Program.{Program, Function}
 use Rattle.grin_syntax.specs.Formed.{AllOf}
 use Rattle.grin_translate.specs.declared.tags.Delay.{Delay}
 use Rattle.grin_translate.specs.declared.tags.Delay.TheVariants.{Calls, Applies, Operates, Reads}
-use Rattle.grin_translate.specs.Tags.{operations, numbers_from, is_delayed, takes_input, delays}
+use Rattle.grin_translate.specs.Tags.{operations, is_delayed, takes_input, delays}
 use Rattle.grin_translate.proofs.Places.{all_map}
 use Rattle.translated_form.proofs.Lists.{all_if, all_numbers, all_mapped}
+use Rattle.seq.specs.Lists.{numbers_from}
 
 module _ (p : Program) where
   -- a call of a function, an application to at most 12 arguments, an operation, or the input where it is taken

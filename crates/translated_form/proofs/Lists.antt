@@ -1,10 +1,9 @@
 -- What holds of each item of a list.
-use Rattle.std.proofs.Common.{◌≡◌, ℕ, zero, suc, ◌+◌, ◌≤◌, ◌<◌, Bool, true, false, cond, List, [], ◌∷◌, map, Some, slice_get, refl, sym, arith}
-use Rattle.std.proofs.lemmas.Option.{same_Some, none-some}
+use Rattle.std.proofs.Common.{◌≡◌, ℕ, zero, suc, ◌+◌, ◌≤◌, ◌<◌, Bool, true, false, cond, List, [], ◌∷◌, map, refl, arith}
 use Rattle.grin_syntax.specs.Formed.{AllOf}
 use mathlib.Core.Logic.{inl, inr}
-use Rattle.grin_translate.specs.Tags.{numbers_from}
 use Rattle.grin_translate.proofs.Places.{Has}
+use Rattle.seq.specs.Lists.{numbers_from}
 
 pub all_weaker : {A : Type 0} (P Q : A → Type 0) (xs : List A) → ((x : A) → P x → Q x) → AllOf P xs → AllOf Q xs
 all_weaker P Q [] h a = tt
@@ -21,11 +20,6 @@ all_numbers P (suc n) k h = (h k (omega arith) (omega arith), all_numbers P n (s
 pub all_mapped : {A B : Type 0} (P : B → Type 0) (f : A → B) (xs : List A) → AllOf (λ x. P (f x)) xs → AllOf P (map f xs)
 all_mapped P f [] a = tt
 all_mapped P f (x ∷ xs) a = (a.0, all_mapped P f xs a.1)
-
-pub has_at : {A : Type 0} (xs : List A) (i : ℕ) (x : A) → slice_get xs i ≡ Some x → Has x xs
-has_at [] i x e = absurd (none-some x e)
-has_at (y ∷ xs) zero x e = inl (sym (same_Some y x e))
-has_at (y ∷ xs) (suc i) x e = inr (has_at xs i x e)
 
 pub all_of_has : {A : Type 0} (P : A → Type 0) (xs : List A) → ((x : A) → Has x xs → P x) → AllOf P xs
 all_of_has P [] h = tt

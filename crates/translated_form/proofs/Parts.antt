@@ -17,13 +17,14 @@ use Rattle.grin_syntax.specs.Formed.{AllOf, OnePart, HasNext, TagFormed}
 use Rattle.grin_translate.specs.declared.tags.Delay.TheVariants.{Calls}
 use Rattle.grin_translate.specs.declared.tags.Kind.{Kind}
 use Rattle.grin_translate.specs.declared.tags.Kind.TheVariants.{Constructor, Waits, Lacks}
-use Rattle.grin_translate.specs.Tags.{numbers_from, delays, kinds, parts, function_parts, tag_of, con_tag, proc}
+use Rattle.grin_translate.specs.Tags.{delays, kinds, parts, function_parts, tag_of, con_tag, proc}
 use Rattle.grin_translate.specs.Translation.{tr}
 use Rattle.grin_translate.proofs.Places.{all_map}
 use Rattle.grin_translate.proofs.Found.{has_calls}
 use Rattle.grin_translate.proofs.Lookups.{call_place}
 use Rattle.translated_form.proofs.Lists.{all_mapped, all_of_has}
 use Rattle.translated_form.proofs.Named.{proc_known}
+use Rattle.seq.specs.Lists.{numbers_from}
 
 -- ---- which items of a list pass a test
 

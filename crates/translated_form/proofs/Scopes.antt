@@ -6,10 +6,10 @@ use Rattle.arity_check.specs.Program.{Program}
 use Rattle.grin_syntax.specs.Binders.{numbers_of, cell_vars}
 use Rattle.grin_syntax.specs.Formed.{InScope}
 use Rattle.grin_syntax.proofs.Scopes.{first_in}
-use Rattle.grin_translate.specs.Tags.{numbers_from}
 use Rattle.grin_translate.specs.Blocks.{local, cell_of}
 use Rattle.grin_translate.specs.WellFormed.{InLocals, InGroup}
 use Rattle.grin_translate.proofs.Places.{Has, has_number_from}
+use Rattle.seq.specs.Lists.{numbers_from}
 
 pub in_this : (x y : ℕ) (scope : List ℕ) → x ≡ y → InScope (y ∷ scope) x
 in_this x y scope e = subst (InScope (y ∷ scope)) (sym e) (first_in y scope)

@@ -14,11 +14,12 @@ use Rattle.grin_syntax.specs.declared.program.Val.{Val}
 use Rattle.grin_syntax.specs.declared.program.Target.TheVariants as to
 use Rattle.grin_syntax.specs.declared.program.Shape.{Shape}
 use Rattle.grin_syntax.specs.declared.program.Shape.TheVariants as shape
-use Rattle.grin_syntax.specs.Tree.{Code, end, store, bind, case, Arms, arm, no_arm}
-use Rattle.grin_syntax.specs.Binders.{times, numbers_of, shape_vars, cell_vars, act_vars, code_vars, arms_vars}
-use Rattle.grin_translate.specs.Tags.{numbers_from}
-use Rattle.grin_translate.specs.Blocks.{local, temp, word, cell_of, as_act, else_fail, form_temps, give_block, form_block}
-use Rattle.translated_form.proofs.UniqueNumbers.{times_append, one_if, Placed, placed_none, placed_value, placed_local, placed_both, placed_within}
+use Rattle.grin_syntax.specs.Tree.{Code, end, store, bind, case, Arms, arm, no_arm, as_act}
+use Rattle.grin_syntax.specs.Binders.{numbers_of, shape_vars, cell_vars, act_vars, code_vars, arms_vars}
+use Rattle.grin_translate.specs.Blocks.{local, temp, word, cell_of, else_fail, form_temps, give_block, form_block}
+use Rattle.translated_form.proofs.UniqueNumbers.{one_if, Placed, placed_none, placed_value, placed_local, placed_both, placed_within}
+use Rattle.seq.specs.Lists.{numbers_from, times}
+use Rattle.seq.proofs.Counted.{times_append}
 
 pub store_times : (y : ℕ) (cs : List Cell) (b : Code) → times y (code_vars (store cs b)) ≡ times y (cell_vars cs) + times y (code_vars b)
 unfolding code_vars

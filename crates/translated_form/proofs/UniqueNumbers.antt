@@ -1,12 +1,7 @@
 -- Numbers that stand once at most, and lie in an interval.
-use Rattle.std.proofs.Common.{◌≡◌, ◌≢◌, ℕ, zero, suc, ◌+◌, ◌-◌, ◌*◌, ◌≤◌, ◌<◌, Bool, true, false, cond, nat_eq, nat_lt, List, [], ◌∷◌, ◌++◌, refl, sym, ◌∙◌, arith, eqb-true}
+use Rattle.std.proofs.Common.{◌≡◌, ◌≢◌, ℕ, zero, suc, ◌+◌, ◌-◌, ◌*◌, ◌≤◌, ◌<◌, Bool, true, false, cond, nat_eq, nat_lt, refl, sym, ◌∙◌, arith, eqb-true}
 use Rattle.std.proofs.lemmas.Bool.{eq-eqb, ltb-true, ltb-false}
 use mathlib.Core.Logic.{◌⊎◌, inl, inr}
-use Rattle.grin_syntax.specs.Binders.{times}
-
-pub times_append : (y : ℕ) (xs ys : List ℕ) → times y (xs ++ ys) ≡ times y xs + times y ys
-times_append y [] ys = omega arith
-times_append y (x ∷ xs) ys = omega (arith, times_append y xs ys)
 
 -- how often y stands where x does
 abbrev pub one_if : ℕ → ℕ → ℕ

@@ -12,17 +12,19 @@ use Rattle.arity_check.specs.declared.normal.Flat.TheVariants as flat
 use Rattle.arity_check.specs.declared.normal.Var.TheVariants as var
 use Rattle.core_meaning.specs.Evaluation.{params_of}
 use Rattle.grin_syntax.specs.Tree.{Code, Procedure}
-use Rattle.grin_syntax.specs.Binders.{times, numbers_of, act_vars, code_vars, arms_vars, act_sites, code_sites, arms_sites, procedure_vars, procs_vars, procs_sites, program_vars, program_sites}
+use Rattle.grin_syntax.specs.Binders.{numbers_of, act_vars, code_vars, arms_vars, act_sites, code_sites, arms_sites, procedure_vars, procs_vars, procs_sites, program_vars, program_sites}
 use Rattle.grin_translate.specs.declared.tags.Delay.{Delay}
 use Rattle.grin_translate.specs.declared.tags.Delay.TheVariants.{Calls, Applies, Operates, Reads}
 use Rattle.grin_translate.specs.declared.tags.Kind.TheVariants.{Waits}
-use Rattle.grin_translate.specs.Tags.{numbers_from, takes_input, delays, delay_name, delay_params, tag}
+use Rattle.grin_translate.specs.Tags.{takes_input, delays, delay_name, delay_params, tag}
 use Rattle.grin_translate.specs.Blocks.{local, temps}
 use Rattle.grin_translate.specs.Translation.{binders, procedure, fun_body, fun_span, delay_body, span, spans, delayed_procs, rest, print_body, start_body, print_procs, global_cells, tr}
-use Rattle.translated_form.proofs.UniqueNumbers.{times_append, one_if, Once, once_none, once_number, once_both, once_within, Placed, placed_none, placed_local, placed_both, placed_within, placed_once}
+use Rattle.translated_form.proofs.UniqueNumbers.{one_if, Once, once_none, once_number, once_both, once_within, Placed, placed_none, placed_local, placed_both, placed_within, placed_once}
 use Rattle.translated_form.proofs.UniqueBlocks.{params_placed, value_at, form_placed}
 use Rattle.translated_form.proofs.UniqueTerms.{normal_end, normal_placed}
 use Rattle.translated_form.proofs.UniqueSites.{form_sites, block_sites}
+use Rattle.seq.specs.Lists.{numbers_from, times}
+use Rattle.seq.proofs.Counted.{length_numbers, times_append}
 
 -- a function's body is in normal form, and its locals are numbered after its parameters
 record InNormalForm (t : tree.Program) (g : Function) : Type 0 where
@@ -40,10 +42,6 @@ all_normal t (f ∷ fs) [] w i g e = absurd w
 all_normal t (f ∷ fs) (h ∷ gs) w zero g e =
     subst (InNormalForm t) (same_Some h g e) (record { scope = _; first = length f.params; params = w.0.params; expr = f.body; after = w.0.after; body = w.0.body })
 all_normal t (f ∷ fs) (h ∷ gs) w (suc i) g e = all_normal t fs gs w.1 i g e
-
-length_from : (n c : ℕ) → length (numbers_from n c) ≡ c
-length_from n zero = refl
-length_from n (suc c) = ap suc (length_from (suc n) c)
 
 module _ (p : Program) (y : ℕ) where
   -- ---- one procedure
@@ -178,7 +176,7 @@ module _ (p : Program) (y : ℕ) where
     delay_once : (base : ℕ) (d : Delay) → Once y base (base + span p d) (times y (procedure_vars (procedure p base (delay_name p d) (delay_params p d) (delay_body p base d))))
     delay_once base (Calls f) = fun_once base f (slice_get p.funs f) (delay_name p (Calls f)) refl
     delay_once base (Applies m) =
-        let many : length (map var.Local (numbers_from 1 m)) ≡ m = length-map (numbers_from 1 m) var.Local ∙ length_from 1 m in
+        let many : length (map var.Local (numbers_from 1 m)) ≡ m = length-map (numbers_from 1 m) var.Local ∙ length_numbers 1 m in
         let body : Placed base y 0 m (suc m) (suc m) (times y (code_vars (delay_body p base (Applies m)))) =
         placed_within base 0 m (suc m) (suc m) _ (omega arith) (omega (arith, many)) (omega arith) (omega arith) (omega arith) (form_placed p base y 0 (suc m) (flat.Apply (var.Local 0) (map var.Local (numbers_from 1 m)))) in
         built_once base (suc m) m (suc m) (2 * suc m) (delay_name p (Applies m)) (delay_body p base (Applies m)) body (omega arith) (omega arith)

@@ -12,13 +12,14 @@ use Rattle.grin_syntax.specs.declared.program.Cell.{Cell}
 use Rattle.grin_syntax.specs.declared.program.Target.TheVariants as to
 use Rattle.grin_syntax.specs.declared.program.Shape.{Shape}
 use Rattle.grin_syntax.specs.declared.program.Shape.TheVariants as shape
-use Rattle.grin_syntax.specs.Tree.{Code, end, store, bind, case, Arms, arm, no_arm}
-use Rattle.grin_syntax.specs.Binders.{times, cell_vars, code_vars, arms_vars, act_sites, code_sites, arms_sites}
+use Rattle.grin_syntax.specs.Tree.{Code, end, store, bind, case, Arms, arm, no_arm, as_act}
+use Rattle.grin_syntax.specs.Binders.{cell_vars, code_vars, arms_vars, act_sites, code_sites, arms_sites}
 use Rattle.grin_translate.specs.declared.tags.Kind.TheVariants.{Constructor}
 use Rattle.grin_translate.specs.Tags.{tag}
-use Rattle.grin_translate.specs.Blocks.{local, temp, word, cell, cell_of, as_act, else_fail, temps, give_block, form_block, block, arms}
-use Rattle.translated_form.proofs.UniqueNumbers.{times_append}
+use Rattle.grin_translate.specs.Blocks.{local, temp, word, cell, cell_of, else_fail, temps, give_block, form_block, block, arms}
 use Rattle.translated_form.proofs.UniqueBlocks.{store_times, arm_times, case_times, last_times}
+use Rattle.seq.specs.Lists.{times}
+use Rattle.seq.proofs.Counted.{times_append}
 
 store_sites : (s : ℕ) (cs : List Cell) (b : Code) → times s (code_sites (store cs b)) ≡ times s (map (λ c. c.site.0) cs) + times s (code_sites b)
 unfolding code_sites

@@ -1,5 +1,5 @@
 -- The block of an expression in normal form binds its variables in order, each once.
-use Rattle.std.proofs.Common.{◌≡◌, ℕ, suc, ◌+◌, List, [], ◌∷◌, ◌++◌, map, length, refl, sym, ap, ◌∙◌, subst, arith}
+use Rattle.std.proofs.Common.{◌≡◌, ℕ, suc, ◌+◌, List, [], ◌∷◌, map, length, refl, sym, ap, ◌∙◌, subst, arith}
 use Rattle.std.specs.List.{range_with_len}
 use Rattle.std.proofs.lemmas.List.FromFn.{length-range_with_len}
 use Rattle.core_reader.specs.Tree as tree
@@ -13,19 +13,17 @@ use Rattle.grin_syntax.specs.declared.program.VarId.{VarId}
 use Rattle.grin_syntax.specs.declared.program.Val.TheVariants.{NodeVar}
 use Rattle.grin_syntax.specs.declared.program.Shape.TheVariants as shape
 use Rattle.grin_syntax.specs.Tree.{store}
-use Rattle.grin_syntax.specs.Binders.{times, numbers_of, code_vars, arms_vars}
+use Rattle.grin_syntax.specs.Binders.{numbers_of, code_vars, arms_vars}
 use Rattle.grin_translate.specs.declared.tags.Kind.TheVariants.{Constructor}
 use Rattle.grin_translate.specs.Tags.{tag}
 use Rattle.grin_translate.specs.Blocks.{local, temp, cell, cell_of, form_temps, temps, branch_temps, form_block, block, arms}
 use Rattle.grin_translate.specs.Translation.{binders, branch_binders}
 use Rattle.translated_form.proofs.UniqueNumbers.{Placed, placed_none, placed_value, placed_local, placed_both, placed_within}
 use Rattle.translated_form.proofs.UniqueBlocks.{store_times, arm_times, case_times, last_times, fail_times, group_placed, fields_placed, form_placed}
+use Rattle.arity_check.proofs.Numbers.{numbered_both}
+use Rattle.seq.specs.Lists.{times}
 
 -- ---- let groups are numbered in order
-
-numbered_both : (n m : ℕ) (xs ys : List Bound) → m ≡ n + length xs → Numbered n xs → Numbered m ys → Numbered n (xs ++ ys)
-numbered_both n m [] ys e a b = let e' : m ≡ n = omega (arith, e) in subst (λ k. Numbered k ys) e' b
-numbered_both n m (x ∷ xs) ys e a b = (a.0, numbered_both (n + 1) m xs ys (omega (arith, e)) a.1 b)
 
 module _ (numbered : NewBindingsAreNumbered) (p : tree.Program) where
   group_numbered : {s : Scope} {n : ℕ} {bs : List Bind} {group : List Bound} {xs : List ℕ} → IsGroup p s n bs group xs → Numbered n group

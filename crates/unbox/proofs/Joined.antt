@@ -1,7 +1,7 @@
 -- A set is closed exactly where it heeds the ties.
 use Rattle.std.proofs.Common.{◌≡◌, ℕ, suc, Bool, true, false, ◌&&◌, ◌||◌, List, [], ◌∷◌, ◌++◌, map, length, refl, sym, ap, ◌∙◌, subst}
 use Rattle.std.proofs.lemmas.List.{length-map}
-use Rattle.seq.proofs.Truth.{and_assoc, or_false, and_from, and_left, and_right}
+use Rattle.seq.proofs.Truth.{and_assoc, or_assoc, or_false, and_from, and_left, and_right}
 use Rattle.seq.proofs.Lists.{all_append as all_both}
 use Rattle.grin_syntax.specs.declared.program.ProcId.{ProcId}
 use Rattle.grin_syntax.specs.declared.program.Proc.{Proc}
@@ -15,17 +15,13 @@ use Rattle.unbox.specs.Ends.{Procedures, is_int, has_int, act_calls, code_calls,
 use Rattle.unbox.specs.Members.{ActClosed, CodeClosed, ArmsClosed, ProcedureClosed, ProceduresClosed, IsMembers}
 use Rattle.unbox.specs.Ties.{act_called, code_called, arms_called, act_ints, code_ints, arms_ints, act_ties, code_ties, arms_ties, body_tie, ties_from, any_in, all_in, Heeds, IsGreatest}
 
-or_assoc : (a b c : Bool) → ((a || b) || c) ≡ (a || (b || c))
-or_assoc true b c = refl
-or_assoc false b c = refl
-
 spread : (a b c d : Bool) → (a && c) ≡ true → (b && d) ≡ true → ((a && b) && (c && d)) ≡ true
 spread a b c d h k = and_from (a && b) (c && d) (and_from a b (and_left a c h) (and_left b d k)) (and_from c d (and_right a c h) (and_right b d k))
 
 module _ (A : Solution) (S : Procedures) where
   any_append : (xs ys : List ProcId) → any_in S (xs ++ ys) ≡ (any_in S xs || any_in S ys)
   any_append [] ys = refl
-  any_append (x ∷ xs) ys = ap (λ b. S x.0 || b) (any_append xs ys) ∙ sym (or_assoc (S x.0) (any_in S xs) (any_in S ys))
+  any_append (x ∷ xs) ys = ap (λ b. S x.0 || b) (any_append xs ys) ∙ or_assoc (S x.0) (any_in S xs) (any_in S ys)
 
   all_append : (xs ys : List ProcId) → all_in S (xs ++ ys) ≡ (all_in S xs && all_in S ys)
   all_append [] ys = refl

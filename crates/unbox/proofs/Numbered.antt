@@ -1,5 +1,5 @@
 -- What the loops over procedures have made so far.
-use Rattle.std.proofs.Common.{◌≡◌, ℕ, suc, ◌+◌, ◌<◌, ◌≤◌, Bool, List, [], ◌∷◌, ◌++◌, map, take, length, get_or, append_assoc, refl, sym, ap, ◌∙◌, subst, arith}
+use Rattle.std.proofs.Common.{◌≡◌, ℕ, suc, ◌+◌, ◌<◌, ◌≤◌, Bool, List, [], ◌∷◌, ◌++◌, map, take, length, get_or, append_assoc, sym, ap, ◌∙◌, subst, arith}
 use Rattle.std.proofs.lemmas.List.{take_all}
 use Rattle.seq.proofs.Lists.{take_next, append_nil}
 use Rattle.grin_syntax.specs.declared.program.Proc.{Proc}
@@ -11,14 +11,7 @@ use Rattle.unbox.specs.declared.ties.Tie.{Tie}
 use Rattle.unbox.specs.Ends.{Procedures}
 use Rattle.unbox.specs.Ties.{code_ties, body_tie, ties_from}
 use Rattle.unbox.specs.Unboxing.{unbox_code, unboxed_from, unboxed}
-
-pub map_same : {X : Type 0} (l : List X) → map (λ x. x) l ≡ l
-map_same [] = refl
-map_same (x ∷ l) = ap (λ k. x ∷ k) (map_same l)
-
-procs_snoc : (ps : List Proc) (q : Proc) (rest : List Procedure) → map procedure_of (ps ++ q ∷ []) ++ rest ≡ map procedure_of ps ++ (procedure_of q ∷ rest)
-procs_snoc [] q rest = refl
-procs_snoc (x ∷ ps) q rest = ap (λ l. procedure_of x ∷ l) (procs_snoc ps q rest)
+use Rattle.flow_system.proofs.SoFar.{procs_snoc}
 
 -- ---- ties
 

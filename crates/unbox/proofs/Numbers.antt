@@ -10,9 +10,7 @@ use Rattle.grin_syntax.specs.declared.program.Val as V
 use Rattle.grin_syntax.specs.declared.program.Val.TheVariants.{NodeVar, Node as Node', Vector, One}
 use Rattle.grin_syntax.specs.declared.program.Target.TheVariants as to
 use Rattle.grin_syntax.specs.Tree.{Program}
-use Rattle.grin_syntax.specs.Binders.{times}
 use Rattle.grin_syntax.specs.Formed.{AllOf}
-use Rattle.grin_syntax.proofs.Counted.{counts, one_at}
 use Rattle.grin_meaning.specs.Values.{Datum, number, tag, cell, Value, node, words, Env, State, and_then, Binding, with_vars, one_each, padded, only_word, made_node, fields_of, word_of, words_of, value_of, bindings_of}
 use Rattle.grin_meaning.specs.Run.{nth_or_zero}
 use Rattle.grin_meaning.specs.Checks.{is_none_or, all_zero, number_then_zeros, not_delayed, is_given, is_filled, fills}
@@ -29,6 +27,8 @@ use Rattle.flow_system.specs.Covers.{Lies, ValueIn}
 use Rattle.flow_system.proofs.Lying.{from_some}
 use Rattle.unbox.specs.Ends.{only_int, is_int_word, is_int}
 use Rattle.unbox.specs.Unboxing.{word_or_zero, number_word, zeros, tag_and_zeros}
+use Rattle.seq.specs.Lists.{times}
+use Rattle.seq.proofs.Counted.{counts, one_at}
 
 -- ---- tests
 

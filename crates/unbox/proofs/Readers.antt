@@ -4,7 +4,7 @@ use Rattle.std.specs.Prelude.{◌⊎◌, ◌↔◌, IsTrue}
 use Rattle.std.specs.List.Sorted.{IsStrictlyIncreasing}
 use Rattle.std.proofs.lemmas.Bool.Decides.{nat_tests}
 use Rattle.std.proofs.lemmas.List.{take_all, take_more}
-use Rattle.seq.proofs.Truth.{not_both, both_ways, and_assoc, not_true, or_left, or_right, and_from, and_left, and_right}
+use Rattle.seq.proofs.Truth.{not_both, both_ways, and_assoc, and_true, not_true, or_left, or_right, and_from, and_left, and_right}
 use Rattle.seq.proofs.Order.{eq_from, eq_true}
 use Rattle.seq.proofs.Member.{none_in, cons_in}
 use Rattle.grin_syntax.specs.declared.program.TagId.{TagId}
@@ -18,10 +18,6 @@ use Rattle.points_to.specs.Held.{In, here, there}
 use Rattle.unbox.specs.Ends.{only_int, has_int}
 
 -- ---- truth values
-
-and_true : (a : Bool) → a ≡ (a && true)
-and_true true = refl
-and_true false = refl
 
 zero_from : (n : ℕ) → eqb n 0 ≡ true → n ≡ 0
 zero_from n h = grind (arith, nat_tests)
@@ -71,7 +67,7 @@ no_others us [] = true
 no_others us (t ∷ ts) = (nat_eq t.0 0 || not (among (tag t.0) us)) && no_others us ts
 
 no_others_push : (us : List Element) (ts : List TagId) (t : TagId) → no_others us (ts ++ t ∷ []) ≡ (no_others us ts && (nat_eq t.0 0 || not (among (tag t.0) us)))
-no_others_push us [] t = sym (and_true (nat_eq t.0 0 || not (among (tag t.0) us)))
+no_others_push us [] t = and_true (nat_eq t.0 0 || not (among (tag t.0) us))
 no_others_push us (x ∷ ts) t = ap (λ b. (nat_eq x.0 0 || not (among (tag x.0) us)) && b) (no_others_push us ts t) ∙ sym (and_assoc (nat_eq x.0 0 || not (among (tag x.0) us)) (no_others us ts) (nat_eq t.0 0 || not (among (tag t.0) us)))
 
 -- the test of the first tags

@@ -10,6 +10,7 @@ use Rattle.unbox.specs.Ends.{Procedures, is_member}
 use Rattle.unbox.specs.Ties.{any_in, all_in, Heeds}
 use Rattle.unbox.specs.Rounds.{trues, is_among, Within, Fewer, Taken, Heeded}
 use Rattle.pass_ground.proofs.Tests.{all_front, all_back}
+use Rattle.seq.proofs.Order.{no_zero}
 
 next_eq : (g i : ℕ) → nat_eq (suc g) (suc i) ≡ nat_eq g i
 next_eq g i = go (nat_eq g i) refl
@@ -17,9 +18,6 @@ next_eq g i = go (nat_eq g i) refl
     go : (b : Bool) → nat_eq g i ≡ b → nat_eq (suc g) (suc i) ≡ nat_eq g i
     go true q = let e : g ≡ i = grind (arith, nat_tests) in grind (arith, nat_tests, e)
     go false q = grind (arith, nat_tests, q)
-
-not_first : (g : ℕ) → nat_eq (suc g) 0 ≡ false
-not_first g = grind (arith, nat_tests)
 
 first_not : (i : ℕ) → nat_eq 0 (suc i) ≡ false
 first_not i = grind (arith, nat_tests)
@@ -29,7 +27,7 @@ first_not i = grind (arith, nat_tests)
 set_member : (bs : List Bool) (i g : ℕ) → is_member (slice_set bs i false) g ≡ (is_member bs g && not (nat_eq g i || false))
 set_member [] i g = refl
 set_member (b ∷ bs) zero zero = sym (and_false b)
-set_member (b ∷ bs) zero (suc g) = sym (and_true (is_member bs g)) ∙ ap (λ t. is_member bs g && not (t || false)) (sym (not_first g))
+set_member (b ∷ bs) zero (suc g) = sym (and_true (is_member bs g)) ∙ ap (λ t. is_member bs g && not (t || false)) (sym (no_zero g))
 set_member (b ∷ bs) (suc i) zero = sym (and_true b) ∙ ap (λ t. b && not (t || false)) (sym (first_not i))
 set_member (b ∷ bs) (suc i) (suc g) = set_member bs i g ∙ ap (λ t. is_member bs g && not (t || false)) (sym (next_eq g i))
 

@@ -12,9 +12,8 @@ use Rattle.grin_syntax.specs.declared.program.Word.{Word}
 use Rattle.grin_syntax.specs.declared.program.Target.{Target}
 use Rattle.grin_syntax.specs.declared.program.Target.TheVariants as to
 use Rattle.grin_syntax.specs.Tree.{Code, end, store, bind, Act, unit, fetch, fetch_word, update, eval, apply, call, prim, read, write, case, nested, fail, Arms, no_arm, arm, Procedure, Program}
-use Rattle.grin_syntax.specs.Binders.{times, numbers_of, target_vars, shape_vars, cell_vars, act_vars, code_vars, arms_vars, procs_vars}
+use Rattle.grin_syntax.specs.Binders.{numbers_of, target_vars, shape_vars, cell_vars, act_vars, code_vars, arms_vars, procs_vars}
 use Rattle.grin_syntax.specs.Formed.{Formed}
-use Rattle.grin_syntax.proofs.Counted.{times_append}
 use Rattle.grin_meaning.specs.Values.{Datum, number, tag, Value, words, Env, HeapCell, World, missing, and_then, gives, stops, need, Binding, with_vars, one_each, fits, fit_of, word_of, bindings_of}
 use Rattle.grin_meaning.specs.Run.{Calls, act_by, places, cells_of, looking, nth_or_zero}
 use Rattle.grin_meaning.specs.Checks.{has_block, is_given, fills, all_fill, is_bound_well}
@@ -26,8 +25,8 @@ use Rattle.grin_meaning.proofs.Back.{CallsBack}
 use Rattle.grin_meaning.proofs.Names.{Any, any_act, any_val, any_cells}
 use Rattle.grin_meaning.proofs.Beside.{Beside, beside, Likewise, free, no_deeper}
 use Rattle.grin_meaning.proofs.Rules.{Relation, Plan, Here, CallsFollow, Setting, h, ActFollows, CodeFollows, ArmsFollow, Given, BindsToo, FitsToo, act_more, end_follows, nested_follows, bind_follows, store_follows, case_follows, no_arm_follows, arm_follows, unit_follows, call_follows, fail_follows}
-use Rattle.grin_meaning.proofs.Procedures.{nothing, BodiesFollow, no_more, one_more, side_by_side, run_follows}
-use Rattle.grin_meaning.proofs.Plain.{Has, vars_have, word_has, words_have, value_has, cells_have, all_fill_too, IsPlain, On, having, leaf_follows}
+use Rattle.grin_meaning.proofs.Procedures.{BodiesFollow, no_more, one_more, side_by_side, run_follows}
+use Rattle.grin_meaning.proofs.Plain.{Has, vars_have, word_has, words_have, value_has, cells_have, all_fill_too, IsPlain, On, having, leaf_follows, same_is}
 use Rattle.grin_meaning.proofs.OneSided.{Alone, right_follows}
 use Rattle.grin_meaning.proofs.KeptBy.{likewise_kept, looking_kept}
 use Rattle.grin_meaning.proofs.LooksBack.{look_agrees}
@@ -41,6 +40,9 @@ use Rattle.unbox.specs.Ends.{Procedures, is_int, act_calls, code_calls, arms_cal
 use Rattle.unbox.specs.Members.{ActClosed, CodeClosed, ArmsClosed, ProcedureClosed, ProceduresClosed, Closed}
 use Rattle.unbox.specs.Unboxing.{number_word, tag_and_zeros, boxed_vector, boxed, bound, unbox_act, unbox_code, unbox_arms, unboxed_procedure, unboxed_from, unboxed}
 use Rattle.unbox.proofs.Numbers.{Bare, Number, Gives, EndGives, number_bare, bare_number, given_too, IntValue, int_value, zero_data, zero_bindings, beside_number, value_stands, value_fills, beside_each, binds_number, nothing_binds, one_binds, none_binds, single_binds, swapped, apart_by}
+use Rattle.seq.specs.Lists.{times}
+use Rattle.seq.proofs.Counted.{times_append}
+use Rattle.grin_meaning.proofs.Paired.{nothing}
 
 -- ---- bound once
 
@@ -52,9 +54,6 @@ once_left xs ys h x = let e : times x (xs ++ ys) ≡ times x xs + times x ys = t
 
 pub once_right : (xs ys : List ℕ) → Once (xs ++ ys) → Once ys
 once_right xs ys h x = let e : times x (xs ++ ys) ≡ times x xs + times x ys = times_append x xs ys in let k : times x (xs ++ ys) ≤ 1 = h x in omega (arith, e, k)
-
-same_is : {A : Type 0} {a b : A} → Same a b → b ≡ a
-same_is same = refl
 
 module _ (g : Program) (A : Solution) (M : Procedures) where
   abbrev procs : List Procedure

@@ -2,7 +2,7 @@
 use Rattle.std.proofs.Common.{◌≡◌, ℕ, ◌+◌, ◌<◌, ◌≤◌, Bool, true, false, ◌&&◌, ◌||◌, List, [], ◌∷◌, ◌++◌, map, take, length, get_or, append_assoc, refl, sym, ap, ◌∙◌, subst}
 use Rattle.std.proofs.lemmas.List.{take_all}
 use Rattle.seq.proofs.Lists.{append_nil, take_next}
-use Rattle.seq.proofs.Truth.{or_false, and_assoc, and_true}
+use Rattle.seq.proofs.Truth.{or_false, or_assoc, and_assoc, and_true}
 use Rattle.grin_syntax.specs.declared.program.ProcId.{ProcId}
 use Rattle.grin_syntax.specs.declared.program.Target.{Target}
 use Rattle.grin_syntax.specs.declared.program.Shape.{Shape}
@@ -19,12 +19,9 @@ use Rattle.flow_system.specs.Solution.{Solution}
 use Rattle.unbox.specs.declared.ties.Tie.{Tie}
 use Rattle.unbox.specs.Ends.{Procedures, act_calls, code_calls, arms_calls}
 use Rattle.unbox.specs.Ties.{act_called, code_called, arms_called, act_ints, code_ints, arms_ints, tie_of, act_ties, code_ties, arms_ties}
+use Rattle.flow_system.proofs.SoFar.{arms_snoc}
 
 -- ---- alternatives
-
-arms_snoc : (as' : List Alt) (a : Alt) (rest : List (Shape × Code)) → map arm_of (as' ++ a ∷ []) ++ rest ≡ map arm_of as' ++ (arm_of a ∷ rest)
-arms_snoc [] a rest = refl
-arms_snoc (x ∷ as') a rest = ap (λ l. arm_of x ∷ l) (arms_snoc as' a rest)
 
 -- what is found in alternatives, by what is found in their blocks
 module _ {X : Type 0} (plus : X → X → X) (one : Code → X) (whole : Arms → X) where
@@ -44,10 +41,6 @@ module _ {X : Type 0} (plus : X → X → X) (one : Code → X) (whole : Arms �
       let g : Found old new as' = subst (Found old new) (take_all i as' le) f in
       sym (right new) ∙ sym (g.by []) ∙ ap (λ l. plus old (whole (arms_of l))) (append_nil (map arm_of as'))
 
-or_assoc : (a b c : Bool) → ((a || b) || c) ≡ (a || (b || c))
-or_assoc true b c = refl
-or_assoc false b c = refl
-
 -- calls of members
 module _ (S : Procedures) where
   abbrev pub CallsFound : Bool → Bool → List Alt → Type 0
@@ -55,7 +48,7 @@ module _ (S : Procedures) where
 
   pub calls_next : (found here both : Bool) (as' : List Alt) (i : ℕ) (a : Alt) → i < length as' → a ≡ get_or as' i a → here ≡ code_calls S (code_of a.body) → both ≡ (found || here) → CallsFound false found (take i as') → CallsFound false both (take (i + 1) as')
   unfolding act_calls
-  calls_next found here both as' i a lt e h k f = next ◌||◌ (code_calls S) (arms_calls S) or_assoc (λ s b as'. refl) false found both as' i a lt e (k ∙ ap (λ b. found || b) h) f
+  calls_next found here both as' i a lt e h k f = next ◌||◌ (code_calls S) (arms_calls S) (λ a b c. sym (or_assoc a b c)) (λ s b as'. refl) false found both as' i a lt e (k ∙ ap (λ b. found || b) h) f
 
   pub calls_done : (found : Bool) (as' : List Alt) (i : ℕ) → length as' ≤ i → CallsFound false found (take i as') → found ≡ arms_calls S (arms_of (map arm_of as'))
   unfolding act_calls

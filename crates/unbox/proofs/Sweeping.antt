@@ -1,7 +1,7 @@
 -- What the loops over ties and procedures have taken out so far.
 use Rattle.std.proofs.Common.{◌≡◌, ℕ, zero, suc, ◌+◌, ◌<◌, ◌≤◌, Bool, true, false, cond, ◌&&◌, ◌||◌, List, [], ◌∷◌, ◌++◌, take, length, get_or, slice_set, refl, sym, ap, ◌∙◌, subst, arith}
 use Rattle.std.proofs.lemmas.List.{take_all, take_more}
-use Rattle.seq.proofs.Truth.{and_assoc}
+use Rattle.seq.proofs.Truth.{and_assoc, and_true}
 use Rattle.seq.proofs.Lists.{take_next}
 use Rattle.grin_syntax.specs.declared.program.ProcId.{ProcId}
 use Rattle.grin_syntax.specs.Formed.{AllOf}
@@ -19,13 +19,9 @@ one_out old new f inside h e k = subst (Taken old new (f ∷ [])) (sym e) (one_t
 pub one_not_in : (old : List Bool) (f : ProcId) (inside : Bool) → inside ≡ is_member old f.0 → inside ≡ false → Taken old old (f ∷ []) inside
 one_not_in old f inside h e = subst (Taken old old (f ∷ [])) (sym e) (none_taken old f (sym h ∙ e))
 
-and_true : (a : Bool) → a ≡ (a && true)
-and_true true = refl
-and_true false = refl
-
 module _ (S : Procedures) where
   all_in_push : (fs : List ProcId) (f : ProcId) → all_in S (fs ++ f ∷ []) ≡ (all_in S fs && S f.0)
-  all_in_push [] f = sym (and_true (S f.0))
+  all_in_push [] f = and_true (S f.0)
   all_in_push (x ∷ fs) f = ap (λ b. S x.0 && b) (all_in_push fs f) ∙ sym (and_assoc (S x.0) (all_in S fs) (S f.0))
 
   pub all_in_next : (fs : List ProcId) (i : ℕ) (d : ProcId) (all here both : Bool) → i < length fs → here ≡ S (get_or fs i d).0 → both ≡ (all && here) → all ≡ all_in S (take i fs) → both ≡ all_in S (take (i + 1) fs)

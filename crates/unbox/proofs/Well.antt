@@ -8,14 +8,15 @@ use Rattle.grin_syntax.specs.declared.program.Word.{Word}
 use Rattle.grin_syntax.specs.declared.program.Target.{Target}
 use Rattle.grin_syntax.specs.declared.program.Target.TheVariants as to
 use Rattle.grin_syntax.specs.Tree.{Code, end, store, bind, Act, unit, fetch, fetch_word, update, eval, apply, call, prim, read, write, case, nested, fail, Arms, no_arm, arm, Procedure, Program}
-use Rattle.grin_syntax.specs.Binders.{times, numbers_of, target_vars, shape_vars, cell_vars, act_vars, code_vars, arms_vars, procs_vars, procs_sites}
+use Rattle.grin_syntax.specs.Binders.{numbers_of, target_vars, shape_vars, cell_vars, act_vars, code_vars, arms_vars, procs_vars, procs_sites}
 use Rattle.grin_syntax.specs.Formed.{AllOf, Scope, with_words, with_target, params_scope, WordFormed, ValFormed, Formed, ActFormed, CodeFormed, ArmsFormed, ProcedureFormed}
 use Rattle.grin_syntax.specs.SameOutside.{names_of, SameOutside}
-use Rattle.grin_syntax.proofs.Counted.{times_append}
 use Rattle.grin_syntax.proofs.Scopes.{Fewer, Within, within_self, words_within, target_within, word_stays, words_stay, val_stays, cells_stay, shape_stays, with_procs, known_again, same_sites, formed_with}
 use Rattle.unbox.specs.Ends.{Procedures, act_calls}
 use Rattle.unbox.proofs.Stays.{code_stays}
 use Rattle.unbox.specs.Unboxing.{word_or_zero, given, zeros, boxed, bound, unbox_act, unbox_code, unbox_arms, unboxed_procedure, unboxed_from, unboxed}
+use Rattle.seq.specs.Lists.{times}
+use Rattle.seq.proofs.Counted.{times_append}
 
 -- ---- variables stay, in another order
 

@@ -17,7 +17,7 @@ use Rattle.grin_meaning.proofs.Back.{CallsBack}
 use Rattle.grin_meaning.proofs.Names.{Any, any_act, any_val, any_cells}
 use Rattle.grin_meaning.proofs.Beside.{beside, Likewise, no_deeper, Seen, Sim, need_first}
 use Rattle.grin_meaning.proofs.Rules.{Relation, Plan, Here, CallsFollow, Setting, h, ActFollows, CodeFollows, ArmsFollow, Given, BindsToo, end_follows, nested_follows, bind_follows}
-use Rattle.grin_meaning.proofs.Procedures.{nothing, BodiesFollow, no_more, one_more, side_by_side, run_follows}
+use Rattle.grin_meaning.proofs.Procedures.{BodiesFollow, no_more, one_more, side_by_side, run_follows}
 use Rattle.grin_meaning.proofs.Plain.{Has, vars_have, node_has, IsLeaf, IsPlain, On, having, leaf_follows, case_same, store_same, no_arm_same, arm_same}
 use Rattle.grin_meaning.proofs.KeptBy.{likewise_kept, looking_kept}
 use Rattle.grin_meaning.proofs.LooksBack.{look_agrees}
@@ -29,8 +29,9 @@ use Rattle.flow_system.proofs.Covered.{covers}
 use Rattle.flow_system.proofs.Starting.{formed_is_started}
 use Rattle.pass_ground.specs.OpenUpdates.{tag_variable}
 use Rattle.update_special.specs.Updates.{most_tags, tags_of, update_arms, specialised, update_act, update_code, update_all, updated}
-use Rattle.update_special.proofs.Listed.{Among}
 use Rattle.update_special.proofs.Step.{tag_there, tag_listed, case_comes}
+use Rattle.seq.specs.Lists.{In}
+use Rattle.grin_meaning.proofs.Paired.{nothing}
 
 -- an update gives nothing
 abbrev GivesNothing : Answer → Type 0
@@ -98,7 +99,7 @@ module _ (g : Program) (A : Solution) where
             → Sim (Lies g A) no_deeper Same (act_by g c true x.env x.d (update a v) x.w) (act_by (h it) c' true x.env' x.d' (case v (update_arms a v (T z.0))) (beside x.b))
         go x None q = nothing_there x a v _ q
         go x (Some n) q =
-            let listed : Among n.tag (T z.0) = tag_listed g A (record { env = x.env; heap = x.w.cells }) x.known z n (tag_there g x.env v z n e q) in
+            let listed : In n.tag (T z.0) = tag_listed g A (record { env = x.env; heap = x.w.cells }) x.known z n (tag_there g x.env v z n e q) in
             let too : node_of g x.env' v ≡ Some n = node_has g Any x.env x.env' x.related v (any_val v) n q in
             subst (Sim (Lies g A) no_deeper Same (act_by g c true x.env x.d (update a v) x.w)) (sym (case_comes (h it) c' true x.env' x.d' a v z n (T z.0) (beside x.b) e too listed))
             ((leaf (update a v) tt).by (record {

@@ -19,7 +19,9 @@ use Rattle.flow_system.specs.Covers.{Lies, ValueIn}
 use Rattle.flow_system.proofs.Lying.{from_some}
 use Rattle.pass_ground.specs.OpenUpdates.{variable_of, tag_variable}
 use Rattle.update_special.specs.Updates.{stands_for, tags_of, tagged, update_arms}
-use Rattle.update_special.proofs.Listed.{Among, those_have}
+use Rattle.seq.proofs.Those.{those_have}
+use Rattle.seq.proofs.Member.{none_in, cons_in}
+use Rattle.seq.specs.Lists.{In}
 
 -- ---- values
 
@@ -102,7 +104,7 @@ module _ (p : Program) (env : Env) where
 
 -- ---- the tag is in the set of the variable
 
-pub tag_listed : (p : Program) (A : Solution) (s : State) → Lies p A s → (x : VarId) (n : Node) → TagThere p s.env x n → Among n.tag (tags_of (length p.tags) A x.0)
+pub tag_listed : (p : Program) (A : Solution) (s : State) → Lies p A s → (x : VarId) (n : Node) → TagThere p s.env x n → In n.tag (tags_of (length p.tags) A x.0)
 tag_listed p A s lies x n h = those_have (stands_for A x.0) n.tag (go (s.env x.0) refl h.there) 0 (length p.tags) (omega arith) (let k : n.tag < length p.tags = h.known in omega arith)
   where
     one : (ds : List Datum) → s.env x.0 ≡ Some (words ds) → only_word (words ds) ≡ Some (tag n.tag) → stands_for A x.0 n.tag ≡ true
@@ -129,13 +131,13 @@ module _ (p : Program) (c : Calls) (looks : Bool) (env : Env) (d : ℕ) where
       looking_if : Bool → Answer → World → Answer
       looking_if b x w = looking looks b w x
 
-  arms_come : (a : W.Word) (v : Val) (x : VarId) (y : Value) (n : Node) (ts : List ℕ) (w : World) → tag_variable v ≡ Some x → as_node p y ≡ Some n → word_of p env (Var x) ≡ Some (tag n.tag) → Among n.tag ts
+  arms_come : (a : W.Word) (v : Val) (x : VarId) (y : Value) (n : Node) (ts : List ℕ) (w : World) → tag_variable v ≡ Some x → as_node p y ≡ Some n → word_of p env (Var x) ≡ Some (tag n.tag) → In n.tag ts
       → arms_by p c looks env d y (update_arms a v ts) w ≡ act_by p c looks env d (update a v) (passing env w)
   unfolding act_by
-  arms_come a v x y n [] w e f q h = absurd h
-  arms_come a v x y n (t ∷ ts) w e f q h = ap (λ o. choose (node_fit t [] o) w (λ bs. code_by p c looks (with_vars bs env) d (end (update a (tagged t v))) (passing (with_vars bs env) w)) (arms_by p c looks env d y (update_arms a v ts) w)) f ∙ go (nat_eq n.tag t) refl h (λ m. arms_come a v x y n ts w e f q m)
+  arms_come a v x y n [] w e f q h = none_in h
+  arms_come a v x y n (t ∷ ts) w e f q h = ap (λ o. choose (node_fit t [] o) w (λ bs. code_by p c looks (with_vars bs env) d (end (update a (tagged t v))) (passing (with_vars bs env) w)) (arms_by p c looks env d y (update_arms a v ts) w)) f ∙ go (nat_eq n.tag t) refl (cons_in t ts h) (λ m. arms_come a v x y n ts w e f q m)
     where
-      go : (b : Bool) → nat_eq n.tag t ≡ b → (n.tag ≡ t) ⊎ Among n.tag ts → (Among n.tag ts → arms_by p c looks env d y (update_arms a v ts) w ≡ act_by p c looks env d (update a v) (passing env w))
+      go : (b : Bool) → nat_eq n.tag t ≡ b → (n.tag ≡ t) ⊎ In n.tag ts → (In n.tag ts → arms_by p c looks env d y (update_arms a v ts) w ≡ act_by p c looks env d (update a v) (passing env w))
           → choose (cond b (fits []) fits_not) w (λ bs. code_by p c looks (with_vars bs env) d (end (update a (tagged t v))) (passing (with_vars bs env) w)) (arms_by p c looks env d y (update_arms a v ts) w) ≡ act_by p c looks env d (update a v) (passing env w)
       go true r h later =
           let same : n.tag ≡ t = grind (arith, nat_tests) in
@@ -145,7 +147,7 @@ module _ (p : Program) (c : Calls) (looks : Bool) (env : Env) (d : ℕ) where
       go false r (inr m) later = later m
 
   -- where the value is a node of one of these tags
-  pub case_comes : (a : W.Word) (v : Val) (x : VarId) (n : Node) (ts : List ℕ) (w : World) → tag_variable v ≡ Some x → node_of p env v ≡ Some n → Among n.tag ts
+  pub case_comes : (a : W.Word) (v : Val) (x : VarId) (n : Node) (ts : List ℕ) (w : World) → tag_variable v ≡ Some x → node_of p env v ≡ Some n → In n.tag ts
       → act_by p c looks env d (case v (update_arms a v ts)) w ≡ act_by p c looks env d (update a v) (passing env w)
   unfolding act_by
   case_comes a v x n ts w e q h = go (value_of p env v) refl q

@@ -8,7 +8,7 @@ use Rattle.grin_syntax.specs.declared.program.Val.{Val}
 use Rattle.grin_syntax.specs.declared.program.Val.TheVariants.{NodeVar, Node, Vector, One}
 use Rattle.grin_syntax.specs.declared.program.Word.{Word}
 use Rattle.grin_syntax.specs.Tree.{Code, end, store, bind, Act, unit, fetch, fetch_word, update, eval, apply, call, prim, read, write, case, nested, fail, Arms, no_arm, arm, Procedure, Program}
-use Rattle.grin_syntax.specs.Binders.{times, numbers_of, target_vars, shape_vars, cell_vars, act_vars, code_vars, arms_vars, procs_vars, act_sites, code_sites, arms_sites, procs_sites}
+use Rattle.grin_syntax.specs.Binders.{numbers_of, target_vars, shape_vars, cell_vars, act_vars, code_vars, arms_vars, procs_vars, act_sites, code_sites, arms_sites, procs_sites}
 use Rattle.grin_syntax.specs.Formed.{AllOf, Scope, with_words, with_target, params_scope, WordFormed, ValFormed, Formed, ActFormed, CodeFormed, ArmsFormed, ProcedureFormed}
 use Rattle.grin_syntax.specs.SameOutside.{names_of, SameOutside}
 use Rattle.grin_syntax.proofs.Scopes.{with_procs, known_again, same_sites, formed_with}
@@ -16,7 +16,8 @@ use Rattle.grin_meaning.specs.Rewritten.{rewritten_procedure}
 use Rattle.flow_system.specs.Solution.{Solution}
 use Rattle.pass_ground.specs.OpenUpdates.{tag_variable}
 use Rattle.update_special.specs.Updates.{most_tags, stands_for, tags_of, tagged, update_arms, specialised, update_act, update_code, update_all, updated}
-use Rattle.update_special.proofs.Listed.{those_below}
+use Rattle.seq.specs.Lists.{times}
+use Rattle.seq.proofs.Those.{those_below}
 
 module _ (T : ℕ → List ℕ) where
   -- ---- no variable and no site is new

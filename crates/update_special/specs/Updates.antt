@@ -1,28 +1,23 @@
 -- Updates whose tag is a variable become cases over the tags that a solution has for the variable.
-use Rattle.std.specs.Prelude.{ℕ, zero, suc, Bool, cond, nat_le, List, [], ◌∷◌, length, Option, Some, None, slice_get, slice_set}
+use Rattle.std.specs.Prelude.{ℕ, Bool, cond, nat_le, List, [], ◌∷◌, length, Option, Some, None, slice_set}
 use Rattle.grin_syntax.specs.declared.program.VarId.{VarId}
 use Rattle.grin_syntax.specs.declared.program.Word as W
-use Rattle.grin_syntax.specs.declared.program.Word.TheVariants.{Lit, Var, Global, TagWord}
+use Rattle.grin_syntax.specs.declared.program.Word.TheVariants.{TagWord}
 use Rattle.grin_syntax.specs.declared.program.Val as V
 use Rattle.grin_syntax.specs.declared.program.Val.TheVariants.{NodeVar, Node, Vector, One}
 use Rattle.grin_syntax.specs.declared.program.Shape.{Shape}
 use Rattle.grin_syntax.specs.declared.program.Shape.TheVariants.{Node as NodeShape}
 use Rattle.grin_syntax.specs.Tags.{tag_id}
 use Rattle.grin_syntax.specs.Tree.{Code, end, store, bind, Act, unit, fetch, fetch_word, update, eval, apply, call, prim, read, write, case, nested, fail, Arms, no_arm, arm, Program}
-use Rattle.grin_meaning.specs.Values.{and_then}
 use Rattle.grin_meaning.specs.Rewritten.{rewritten}
 use Rattle.flow_system.specs.declared.fact.Element.TheVariants.{Tag as tag}
 use Rattle.flow_system.specs.declared.fact.Place.TheVariants.{Var as var}
 use Rattle.flow_system.specs.declared.fact.Part.TheVariants.{Word as word}
 use Rattle.flow_system.specs.Solution.{Solution, among}
 use Rattle.pass_ground.specs.OpenUpdates.{tag_variable}
+use Rattle.seq.specs.Lists.{those}
 
 -- ---- tags of variables
-
--- the numbers from i on, so many, for which the test holds
-abbrev pub those : (ℕ → Bool) → ℕ → ℕ → List ℕ
-those test i zero = []
-those test i (suc k) = cond (test i) (i ∷ those test (suc i) k) (those test (suc i) k)
 
 -- a solution has the tag in the set of a variable
 abbrev pub stands_for : Solution → ℕ → ℕ → Bool

@@ -15,23 +15,13 @@ use Rattle.grin_syntax.specs.declared.program.Op.TheVariants.{Case}
 use Rattle.grin_syntax.specs.Tree.{Code, end, Arms, no_arm, arm, case, Procedure, act_of, before_of, arm_of, code_of, all_before, arms_of, procedure_of}
 use Rattle.grin_syntax.proofs.TreeOf.{code_of-parts, act_of-Case}
 use Rattle.grin_syntax.proofs.Pieces.{all_arms, all_arms_none, all_arms_push, all_before_push}
-use Rattle.grin_meaning.specs.Ready.{value_fields, most_fields, most_value_fields}
+use Rattle.grin_meaning.specs.Ready.{value_fields, most_value_fields}
 use Rattle.vectorise.specs.declared.known.Known.{Known}
 use Rattle.vectorise.specs.declared.known.Known.TheVariants.{Field}
 use Rattle.vectorise.specs.Known.{Layout, Table, word_or_zero, noted_fields, noted_shape, noted_act, noted_code, noted_arms, noted_procs}
 use Rattle.vectorise.specs.Vectors.{wide_val, bare, wide_act, wide_code, wide_arms, wide_arm}
 
 -- ---- the longest node
-
-most_push : (ts : List Tag) (t : Tag) → most_fields (ts ++ t ∷ []) ≡ max t.fields (most_fields ts)
-most_push [] t = refl
-most_push (u ∷ ts) t = let h : most_fields (ts ++ t ∷ []) ≡ max t.fields (most_fields ts) = most_push ts t in omega arith
-
-pub most_next : (ts : List Tag) (i : ℕ) (t : Tag) (old new : ℕ) → i < length ts → t ≡ get_or ts i t → new ≡ max t.fields old → old ≡ most_fields (take i ts) → new ≡ most_fields (take (i + 1) ts)
-most_next ts i t old new lt at n o =
-    let h : most_fields (take i ts ++ t ∷ []) ≡ max t.fields (most_fields (take i ts)) = most_push (take i ts) t in
-    let e : new ≡ most_fields (take i ts ++ t ∷ []) = omega arith in
-    e ∙ ap most_fields (sym (take_next ts i t lt at))
 
 value_push : (ts : List Tag) (t : Tag) → most_value_fields (ts ++ t ∷ []) ≡ max (value_fields t.kind t.fields) (most_value_fields ts)
 value_push [] t = refl

@@ -12,16 +12,18 @@ use Rattle.grin_syntax.specs.declared.program.Word.TheVariants.{Lit, Var, Global
 use Rattle.grin_syntax.specs.declared.program.Val as V
 use Rattle.grin_syntax.specs.declared.program.Val.TheVariants.{NodeVar, Node, Vector, One}
 use Rattle.grin_syntax.specs.Tree.{Code, end, store, bind, Act, unit, fetch, fetch_word, update, eval, apply, call, prim, read, write, case, nested, fail, Arms, no_arm, arm, Procedure, Program}
-use Rattle.grin_syntax.specs.Binders.{times, numbers_of, target_vars, shape_vars, cell_vars, act_vars, code_vars, arms_vars, procs_vars}
+use Rattle.grin_syntax.specs.Binders.{numbers_of, target_vars, shape_vars, cell_vars, act_vars, code_vars, arms_vars, procs_vars}
 use Rattle.grin_syntax.specs.Formed.{AllOf, Scope, with_words, with_target, params_scope, WordFormed, ValFormed, ActFormed, CodeFormed, ArmsFormed, ProcedureFormed, Formed}
 use Rattle.grin_syntax.specs.Fresh.{variables, past_procs}
 use Rattle.grin_syntax.proofs.Scopes.{first_in}
-use Rattle.grin_syntax.proofs.Counted.{times_append, counts, one_at}
 use Rattle.grin_syntax.proofs.Unbound.{past_procs_none}
 use Rattle.grin_meaning.specs.Checks.{is_fetch}
 use Rattle.vectorise.specs.declared.known.Known.{Known}
 use Rattle.vectorise.specs.declared.known.Known.TheVariants.{Plain, Fetched, Field}
 use Rattle.vectorise.specs.Known.{Layout, layout_of, Table, table_of, word_or_zero, room, is_fetched, word_for, as_word, as_words, field_words, vector_start, noted_target, noted_fields, noted_shape, noted_act, noted_code, noted_arms, noted_procs}
+use Rattle.seq.specs.Lists.{times}
+use Rattle.seq.proofs.Counted.{counts, times_left, times_right, times_append, one_at}
+use Rattle.grin_meaning.proofs.Scopes.{Once, once_words, target_adds}
 
 -- ---- tables
 
@@ -49,17 +51,7 @@ not_first y x xs h e = let c : counts (nat_eq y y) ≡ 1 = one_at y in let f : c
 not_later : (y x : ℕ) (xs : List ℕ) → times y (x ∷ xs) ≡ 0 → times y xs ≡ 0
 not_later y x xs h = omega arith
 
-not_left : (y : ℕ) (xs ys : List ℕ) → times y (xs ++ ys) ≡ 0 → times y xs ≡ 0
-not_left y xs ys h = let e : times y (xs ++ ys) ≡ times y xs + times y ys = times_append y xs ys in omega arith
-
-not_right : (y : ℕ) (xs ys : List ℕ) → times y (xs ++ ys) ≡ 0 → times y ys ≡ 0
-not_right y xs ys h = let e : times y (xs ++ ys) ≡ times y xs + times y ys = times_append y xs ys in omega arith
-
 -- ---- where a variable stands once
-
--- no variable is bound twice, in scope and in a piece
-abbrev pub Once : Scope → List ℕ → Type 0
-Once scope xs = (y : ℕ) → times y scope.nodes + times y scope.words + times y xs ≤ 1
 
 pub in_left : (y : ℕ) (xs ys : List ℕ) → 0 < times y xs → 0 < times y (xs ++ ys)
 in_left y xs ys h = let e : times y (xs ++ ys) ≡ times y xs + times y ys = times_append y xs ys in omega arith
@@ -136,19 +128,7 @@ module _ (scope : Scope) (xs os bs : List ℕ) (once : Once scope (xs ++ (os ++ 
 apart_left : (scope : Scope) (xs bs : List ℕ) → Once scope (xs ++ bs) → (y : ℕ) → 0 < times y xs → times y bs ≡ 0
 apart_left scope xs bs once y i = let e : times y (xs ++ bs) ≡ times y xs + times y bs = times_append y xs bs in let o : times y scope.nodes + times y scope.words + times y (xs ++ bs) ≤ 1 = once y in omega arith
 
-pub once_words : (scope : Scope) (xs bs : List ℕ) → Once scope (xs ++ bs) → Once (with_words xs scope) bs
-once_words scope xs bs once y =
-    let e : times y (xs ++ bs) ≡ times y xs + times y bs = times_append y xs bs in
-    let f : times y (xs ++ scope.words) ≡ times y xs + times y scope.words = times_append y xs scope.words in
-    let o : times y scope.nodes + times y scope.words + times y (xs ++ bs) ≤ 1 = once y in
-    omega arith
-
 -- what a target puts into scope
-pub target_adds : (t : Target) (scope : Scope) (y : ℕ) → times y (with_target t scope).nodes + times y (with_target t scope).words ≡ times y (target_vars t) + (times y scope.nodes + times y scope.words)
-target_adds to.Nothing scope y = omega arith
-target_adds (to.Node x) scope y = omega arith
-target_adds (to.One x) scope y = let f : times y ((x.0 ∷ []) ++ scope.words) ≡ times y (x.0 ∷ []) + times y scope.words = times_append y (x.0 ∷ []) scope.words in omega arith
-target_adds (to.Vector xs) scope y = let f : times y (numbers_of xs ++ scope.words) ≡ times y (numbers_of xs) + times y scope.words = times_append y (numbers_of xs) scope.words in omega arith
 
 pub once_target : (t : Target) (scope : Scope) (os bs : List ℕ) → Once scope (target_vars t ++ (os ++ bs)) → Once (with_target t scope) bs
 once_target t scope os bs once y =
@@ -202,22 +182,22 @@ module _ (l : Layout) where
 
     code_leaves : (b : Code) (k : Table) (y : ℕ) → times y (code_vars b) ≡ 0 → slice_get (noted_code l b k) y ≡ slice_get k y
     code_leaves (end o) k y h = act_leaves o k y h
-    code_leaves (store cs b) k y h = code_leaves b k y (not_right y (cell_vars cs) (code_vars b) h)
+    code_leaves (store cs b) k y h = code_leaves b k y (times_right y (cell_vars cs) (code_vars b) h)
     code_leaves (bind t o b) k y h =
-        let r : times y (act_vars o ++ code_vars b) ≡ 0 = not_right y (target_vars t) (act_vars o ++ code_vars b) h in
-        code_leaves b _ y (not_right y (act_vars o) (code_vars b) r) ∙ target_leaves (is_fetch o) t _ y (not_left y (target_vars t) (act_vars o ++ code_vars b) h) ∙ act_leaves o k y (not_left y (act_vars o) (code_vars b) r)
+        let r : times y (act_vars o ++ code_vars b) ≡ 0 = times_right y (target_vars t) (act_vars o ++ code_vars b) h in
+        code_leaves b _ y (times_right y (act_vars o) (code_vars b) r) ∙ target_leaves (is_fetch o) t _ y (times_left y (target_vars t) (act_vars o ++ code_vars b) h) ∙ act_leaves o k y (times_left y (act_vars o) (code_vars b) r)
 
     arms_leave : (ws : List W.Word) (as' : Arms) (k : Table) (y : ℕ) → times y (arms_vars as') ≡ 0 → slice_get (noted_arms l ws as' k) y ≡ slice_get k y
     arms_leave ws no_arm k y h = refl
     arms_leave ws (arm s b as') k y h =
-        let r : times y (code_vars b ++ arms_vars as') ≡ 0 = not_right y (shape_vars s) (code_vars b ++ arms_vars as') h in
-        arms_leave ws as' _ y (not_right y (code_vars b) (arms_vars as') r) ∙ code_leaves b _ y (not_left y (code_vars b) (arms_vars as') r) ∙ shape_leaves ws s k y (not_left y (shape_vars s) (code_vars b ++ arms_vars as') h)
+        let r : times y (code_vars b ++ arms_vars as') ≡ 0 = times_right y (shape_vars s) (code_vars b ++ arms_vars as') h in
+        arms_leave ws as' _ y (times_right y (code_vars b) (arms_vars as') r) ∙ code_leaves b _ y (times_left y (code_vars b) (arms_vars as') r) ∙ shape_leaves ws s k y (times_left y (shape_vars s) (code_vars b ++ arms_vars as') h)
 
   procs_leave : (qs : List Procedure) (k : Table) (y : ℕ) → times y (procs_vars qs) ≡ 0 → slice_get (noted_procs l qs k) y ≡ slice_get k y
   procs_leave [] k y h = refl
   procs_leave (q ∷ qs) k y h =
-      procs_leave qs _ y (not_right y (numbers_of q.params ++ code_vars q.body) (procs_vars qs) h)
-      ∙ code_leaves q.body k y (not_right y (numbers_of q.params) (code_vars q.body) (not_left y (numbers_of q.params ++ code_vars q.body) (procs_vars qs) h))
+      procs_leave qs _ y (times_right y (numbers_of q.params ++ code_vars q.body) (procs_vars qs) h)
+      ∙ code_leaves q.body k y (times_right y (numbers_of q.params) (code_vars q.body) (times_left y (numbers_of q.params ++ code_vars q.body) (procs_vars qs) h))
 
   -- ---- what is known in the end
 

@@ -4,10 +4,9 @@ use Rattle.std.proofs.lemmas.List.{length-map}
 use Rattle.std.proofs.lemmas.Option.{slice_get-map}
 use Rattle.std.specs.Option.{option_map}
 use Rattle.grin_syntax.specs.Tree.{Procedure, Program}
-use Rattle.grin_syntax.specs.Binders.{times, numbers_of, code_vars, procs_vars}
+use Rattle.grin_syntax.specs.Binders.{numbers_of, code_vars, procs_vars}
 use Rattle.grin_syntax.specs.Formed.{AllOf, ProcedureFormed, params_scope, Formed}
 use Rattle.grin_syntax.specs.Fresh.{past_procs}
-use Rattle.grin_syntax.proofs.Counted.{times_append}
 use Rattle.grin_syntax.proofs.Scopes.{with_procs, same_sites, formed_with}
 use Rattle.grin_meaning.specs.Ready.{Ready}
 use Rattle.grin_meaning.specs.Rewritten.{rewritten_procedure}
@@ -22,6 +21,8 @@ use Rattle.vectorise.proofs.Noted.{ProcedureKnown, all_known}
 use Rattle.vectorise.proofs.Scoped.{Origin, origin_of, most_value_most, all_counts, code_counts, code_formed, params_carry}
 use Rattle.vectorise.proofs.Shape.{procs_gone, procs_inlined, procs_narrow, procs_params, sites_stay, names_stay, procs_widths, procs_light, procs_calls_stay, procs_few_words}
 use Rattle.vectorise.proofs.Simulated.{vectorised_kept}
+use Rattle.seq.specs.Lists.{times}
+use Rattle.seq.proofs.Counted.{times_append}
 
 module _ (g : Program) (formed : Formed g) where
   abbrev l : Layout

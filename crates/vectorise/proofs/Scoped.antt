@@ -15,17 +15,20 @@ use Rattle.grin_syntax.specs.declared.program.Word.TheVariants.{Lit, Var, Global
 use Rattle.grin_syntax.specs.declared.program.Val as V
 use Rattle.grin_syntax.specs.declared.program.Val.TheVariants.{NodeVar, Node, Vector, One}
 use Rattle.grin_syntax.specs.Tree.{Code, end, store, bind, Act, unit, fetch, fetch_word, update, eval, apply, call, prim, read, write, case, nested, fail, Arms, no_arm, arm, Procedure, Program}
-use Rattle.grin_syntax.specs.Binders.{times, numbers_of, target_vars, shape_vars, cell_vars, act_vars, code_vars, arms_vars}
+use Rattle.grin_syntax.specs.Binders.{numbers_of, target_vars, shape_vars, cell_vars, act_vars, code_vars, arms_vars}
 use Rattle.grin_syntax.specs.Formed.{AllOf, Scope, InScope, with_words, with_target, params_scope, WordFormed, ValFormed, CellFormed, ShapeFormed, ActFormed, CodeFormed, ArmsFormed}
 use Rattle.grin_syntax.specs.Fresh.{variables, past_vars, past_target, past_cells, past_act, past_code, past_arms}
-use Rattle.grin_syntax.proofs.Counted.{times_append, counts, none_at, one_at, fresh, fresh_below, fresh_once}
+use Rattle.grin_syntax.proofs.Counted.{fresh, fresh_below, fresh_once, fresh_past}
 use Rattle.grin_syntax.proofs.Scopes.{first_in, with_procs, known_again}
 use Rattle.grin_meaning.specs.Checks.{is_fetch}
 use Rattle.grin_meaning.specs.Ready.{value_fields, most_fields, most_value_fields}
 use Rattle.vectorise.specs.declared.known.Known.TheVariants.{Field}
 use Rattle.vectorise.specs.Known.{Layout, Table, vector_start, room, is_fetched, room_of, word_or_zero, word_for, as_word, as_words, field_words}
 use Rattle.vectorise.specs.Vectors.{wide_val, given_val, wide_target, bare, wide_cells, wide_act, wide_code, wide_arms}
-use Rattle.vectorise.proofs.Noted.{in_left, in_right, in_later, target_adds, IsPlain, TargetKnown, FieldsKnown, ShapeKnown, ActKnown, CodeKnown, ArmsKnown}
+use Rattle.vectorise.proofs.Noted.{in_left, in_right, in_later, IsPlain, TargetKnown, FieldsKnown, ShapeKnown, ActKnown, CodeKnown, ArmsKnown}
+use Rattle.seq.specs.Lists.{times}
+use Rattle.seq.proofs.Counted.{counts, none_at, times_append, one_at}
+use Rattle.grin_meaning.proofs.Scopes.{target_adds}
 
 -- ---- of how a vector lies
 
@@ -37,16 +40,6 @@ most_value_most (t ∷ ts) = let h : most_value_fields ts ≤ most_fields ts = m
     few kind.Con n = omega arith
     few kind.Fun n = omega arith
     few kind.Part n = omega arith
-
-pub fresh_past : (u y k : ℕ) → y + k ≤ u → fresh u y k ≡ 0
-fresh_past u y zero h = refl
-fresh_past u y (suc k) h =
-    let e : counts (nat_eq u y) ≡ 0 = none_at u y (differ h) in
-    let r : fresh u (suc y) k ≡ 0 = fresh_past u (suc y) k (omega arith) in
-    omega arith
-  where
-    differ : y + suc k ≤ u → u ≢ y
-    differ h e = absurd (omega (arith, e, h))
 
 -- the place of a number among runs of the same length
 place : (m n : ℕ) → (q : ℕ) × (q * suc m ≤ n) × (n < q * suc m + suc m)

@@ -1,5 +1,5 @@
 -- The text of a vectorised program.
-use Rattle.std.proofs.Common.{◌≡◌, ℕ, zero, suc, ◌+◌, ◌≤◌, Bool, true, false, List, [], ◌∷◌, ◌++◌, map, length, refl, ap, ◌∙◌, arith}
+use Rattle.std.proofs.Common.{◌≡◌, ℕ, suc, ◌+◌, ◌≤◌, Bool, true, false, List, [], ◌∷◌, ◌++◌, map, length, refl, ap, ◌∙◌, arith}
 use Rattle.seq.proofs.Lists.{length_map}
 use Rattle.grin_syntax.specs.declared.program.Cell.{Cell}
 use Rattle.grin_syntax.specs.declared.program.Target.{Target}
@@ -21,10 +21,7 @@ use Rattle.grin_meaning.specs.Slim.{val_weight, target_weight, cells_weight, act
 use Rattle.vectorise.specs.Known.{Layout, Table, vector_start, room, room_of, as_words, vector_words}
 use Rattle.vectorise.specs.Vectors.{wide_val, given_val, wide_target, bare, wide_cells, wide_act, wide_code, wide_arms}
 use Rattle.vectorise.specs.Widened.{Width, ActWidths, CodeWidths, ArmsWidths, Widths, FewWords}
-
-run_length : (s k : ℕ) → length (variables s k) ≡ k
-run_length s zero = refl
-run_length s (suc k) = let h : length (variables (suc s) k) ≡ k = run_length (suc s) k in omega (arith, h)
+use Rattle.grin_syntax.proofs.Counted.{length_variables}
 
 module _ (l : Layout) (k : Table) where
   -- ---- nothing but vectors
@@ -130,7 +127,7 @@ module _ (l : Layout) (k : Table) where
   -- ---- few results
 
   given_narrow : (v : V.Val) → val_width (1 + l.most_value) (given_val l k v) ≤ val_width (1 + l.most_value) v
-  given_narrow (NodeVar x) = let h : length (vector_words l x (suc l.most_value)) ≡ suc l.most_value = length_map Var (variables (vector_start l x.0) (suc l.most_value)) ∙ run_length (vector_start l x.0) (suc l.most_value) in omega (arith, h)
+  given_narrow (NodeVar x) = let h : length (vector_words l x (suc l.most_value)) ≡ suc l.most_value = length_map Var (variables (vector_start l x.0) (suc l.most_value)) ∙ length_variables (vector_start l x.0) (suc l.most_value) in omega (arith, h)
   given_narrow (Node t ws) = omega arith
   given_narrow (Vector ws) = let h : length (as_words k ws) ≡ length ws = length_map _ ws in omega (arith, h)
   given_narrow (One w) = omega arith
@@ -215,8 +212,8 @@ module _ (l : Layout) (k : Table) where
 
   target_width : (f : Bool) (t : Target) → Width l.most l.most_value f t (wide_target l f t)
   target_width f to.Nothing = refl
-  target_width true (to.Node x) = (variables (vector_start l x.0) (suc l.most), refl, run_length (vector_start l x.0) (suc l.most))
-  target_width false (to.Node x) = (variables (vector_start l x.0) (suc l.most_value), refl, run_length (vector_start l x.0) (suc l.most_value))
+  target_width true (to.Node x) = (variables (vector_start l x.0) (suc l.most), refl, length_variables (vector_start l x.0) (suc l.most))
+  target_width false (to.Node x) = (variables (vector_start l x.0) (suc l.most_value), refl, length_variables (vector_start l x.0) (suc l.most_value))
   target_width f (to.One x) = refl
   target_width f (to.Vector xs) = refl
 
@@ -260,7 +257,7 @@ module _ (l : Layout) (k : Table) where
 
     val_light : (v : V.Val) → val_weight (wide_val l k v) ≤ val_weight v
     val_light (NodeVar x) =
-        let h : length (vector_words l x (suc (room_of l k x))) ≡ suc (room_of l k x) = length_map Var (variables (vector_start l x.0) (suc (room_of l k x))) ∙ run_length (vector_start l x.0) (suc (room_of l k x)) in
+        let h : length (vector_words l x (suc (room_of l k x))) ≡ suc (room_of l k x) = length_map Var (variables (vector_start l x.0) (suc (room_of l k x))) ∙ length_variables (vector_start l x.0) (suc (room_of l k x)) in
         let r : suc (room_of l k x) ≤ 14 = room_short _ in
         omega (arith, h, r)
     val_light (Node t ws) = omega arith
@@ -268,14 +265,14 @@ module _ (l : Layout) (k : Table) where
     val_light (One w) = omega arith
 
     given_light : (v : V.Val) → val_weight (given_val l k v) ≤ val_weight v
-    given_light (NodeVar x) = let h : length (vector_words l x (suc l.most_value)) ≡ suc l.most_value = length_map Var (variables (vector_start l x.0) (suc l.most_value)) ∙ run_length (vector_start l x.0) (suc l.most_value) in omega (arith, h, few, short)
+    given_light (NodeVar x) = let h : length (vector_words l x (suc l.most_value)) ≡ suc l.most_value = length_map Var (variables (vector_start l x.0) (suc l.most_value)) ∙ length_variables (vector_start l x.0) (suc l.most_value) in omega (arith, h, few, short)
     given_light (Node t ws) = val_light (Node t ws)
     given_light (Vector ws) = val_light (Vector ws)
     given_light (One w) = val_light (One w)
 
     target_light : (f : Bool) (t : Target) → target_weight (wide_target l f t) ≤ target_weight t
     target_light f to.Nothing = omega arith
-    target_light f (to.Node x) = let h : length (variables (vector_start l x.0) (suc (room l f))) ≡ suc (room l f) = run_length (vector_start l x.0) (suc (room l f)) in let r : suc (room l f) ≤ 14 = room_short f in omega (arith, h, r)
+    target_light f (to.Node x) = let h : length (variables (vector_start l x.0) (suc (room l f))) ≡ suc (room l f) = length_variables (vector_start l x.0) (suc (room l f)) in let r : suc (room l f) ≤ 14 = room_short f in omega (arith, h, r)
     target_light f (to.One x) = omega arith
     target_light f (to.Vector xs) = omega arith
 

@@ -11,14 +11,13 @@ use Rattle.grin_syntax.specs.declared.program.Target.{Target}
 use Rattle.grin_syntax.specs.declared.program.Target.TheVariants as to
 use Rattle.grin_syntax.specs.declared.program.Word as W
 use Rattle.grin_syntax.specs.Tree.{Code, end, store, bind, Act, unit, fetch, fetch_word, update, eval, apply, call, prim, read, write, case, nested, fail, Arms, no_arm, arm, Procedure, Program}
-use Rattle.grin_syntax.specs.Binders.{times, numbers_of, target_vars, shape_vars, cell_vars, act_vars, code_vars, arms_vars, procs_vars}
+use Rattle.grin_syntax.specs.Binders.{numbers_of, target_vars, shape_vars, cell_vars, act_vars, code_vars, arms_vars, procs_vars}
 use Rattle.grin_syntax.specs.Formed.{AllOf, Scope, InScope, with_words, with_target, params_scope, WordFormed, CellFormed, ActFormed, CodeFormed, ArmsFormed, ProcedureFormed, Formed}
 use Rattle.grin_syntax.specs.Fresh.{past_vars, past_target, past_cells, past_act, past_code, past_arms, past_procs}
-use Rattle.grin_syntax.proofs.Counted.{times_append}
 use Rattle.grin_meaning.specs.Values.{Datum, Node, Value, node, words, Env, HeapCell, and_then, Binding, with_vars, one_each, as_node, word_of, value_of, bindings_of}
 use Rattle.grin_meaning.specs.Run.{Calls, places, cells_of, place_of, is_fun_kind, is_some_and}
 use Rattle.grin_meaning.specs.Checks.{has_block, is_fetch, is_node_target, is_delayed, not_delayed, is_given, fills, all_fill, is_bound_well}
-use Rattle.grin_meaning.specs.Ready.{value_fields, most_fields, most_value_fields, EachAct, EachCode, EachArms, EachBody, inlined_kind}
+use Rattle.grin_meaning.specs.Ready.{value_fields, most_value_fields, EachAct, EachCode, EachArms, EachBody, inlined_kind}
 use Rattle.grin_meaning.specs.Rewritten.{rewritten_procedure}
 use Rattle.grin_meaning.specs.Keeps.{Keeps}
 use Rattle.grin_meaning.specs.Looking.{look, NeverMissed}
@@ -28,31 +27,27 @@ use Rattle.grin_meaning.proofs.Back.{CallsBack}
 use Rattle.grin_meaning.proofs.Fullness.{nodes_full}
 use Rattle.grin_meaning.proofs.Beside.{no_deeper, Beside, Likewise}
 use Rattle.grin_meaning.proofs.Rules.{Relation, Plan, Here, Setting, CallsFollow, ActFollows, CodeFollows, ArmsFollow, act_more, Given, BindsToo, Stored, StoresToo, CellToo, unit_follows, fetch_follows, update_follows, call_follows, prim_follows, read_follows, write_follows, fail_follows, nested_follows, end_follows, store_follows, bind_follows, case_follows, no_arm_follows, arm_follows}
-use Rattle.grin_meaning.proofs.Procedures.{nothing, BodyFollows, BodiesFollow, no_more, one_more, side_by_side, run_follows}
+use Rattle.grin_meaning.proofs.Procedures.{BodyFollows, BodiesFollow, no_more, one_more, side_by_side, run_follows}
 use Rattle.grin_meaning.proofs.KeptBy.{likewise_kept, looking_kept}
 use Rattle.vectorise.specs.Known.{Layout, layout_of, Table, table_of, room, as_word, as_words, field_words}
 use Rattle.vectorise.specs.Vectors.{wide_val, given_val, wide_target, bare, wide_cells, wide_act, wide_code, wide_arms, vectorised}
 use Rattle.vectorise.specs.Whole.{NoVector, NoVectorTarget, IsWhole, whole_kind}
-use Rattle.vectorise.proofs.Noted.{in_left, Once, IsPlain, TargetKnown, ActKnown, CodeKnown, ArmsKnown, ProcedureKnown, all_known, once_words, once_target, once_two, once_third}
+use Rattle.vectorise.proofs.Noted.{in_left, IsPlain, TargetKnown, ActKnown, CodeKnown, ArmsKnown, ProcedureKnown, all_known, once_target, once_two, once_third}
 use Rattle.vectorise.proofs.Scoped.{WordIn, params_carry, all_counts, most_value_most, target_carries, target_below, cells_carry, cells_below, fields_carry, fields_below, fields_formed}
 use Rattle.vectorise.proofs.Standing.{Stand, Held, reorder, places_stand, params_stand}
 use Rattle.vectorise.proofs.Vals.{vector_of, Stands, some_and}
 use Rattle.vectorise.proofs.Steps.{Gives, gives_nothing, gives_number, gives_node, gives_vector, given_too, Goes, goes_nothing, goes_number, goes_node, goes_vector, word_goes, words_go, unit_goes, Wide, wide_goes, Made, node_goes, cells_go, target_goes, bare_fits, bare_not, pattern_goes}
+use Rattle.grin_meaning.proofs.Plain.{same_is}
+use Rattle.seq.specs.Lists.{times}
+use Rattle.grin_meaning.proofs.Scopes.{Once, once_left, once_words}
+use Rattle.grin_meaning.proofs.Fields.{fields_fit}
+use Rattle.seq.proofs.Counted.{times_append}
+use Rattle.grin_meaning.proofs.Following.{is_same}
+use Rattle.grin_meaning.proofs.Paired.{nothing}
 
 -- ---- cells and heaps
 
-same_is : {A : Type 0} {a b : A} → Same a b → b ≡ a
-same_is same = refl
-
-is_same : {A : Type 0} (a b : A) → b ≡ a → Same a b
-is_same a b e = subst (Same a) (sym e) same
-
 -- ---- how many fields
-
-fields_fit : (ts : List Tag) (t k : ℕ) → and_then (slice_get ts t) (λ i. Some i.fields) ≡ Some k → k ≤ most_fields ts
-fields_fit [] t k e = cc
-fields_fit (x ∷ ts) zero k e = let h : x.fields ≡ k = cc in omega (arith, h)
-fields_fit (x ∷ ts) (suc t) k e = let h : k ≤ most_fields ts = fields_fit ts t k e in omega (arith, h)
 
 value_fit : (ts : List Tag) (t k : ℕ) → and_then (slice_get ts t) (λ i. Some i.fields) ≡ Some k → is_some_and (slice_get ts t) (λ i. is_fun_kind i.kind) ≡ false → k ≤ most_value_fields ts
 value_fit [] t k e d = cc
@@ -65,9 +60,6 @@ value_fit (x ∷ ts) zero k e d = let h : x.fields ≡ k = cc in let v : value_f
 value_fit (x ∷ ts) (suc t) k e d = let h : k ≤ most_value_fields ts = value_fit ts t k e d in omega (arith, h)
 
 -- ---- where a variable stands once
-
-once_left : (scope : Scope) (xs ys : List ℕ) → Once scope (xs ++ ys) → Once scope xs
-once_left scope xs ys once y = let o : times y scope.nodes + times y scope.words + times y (xs ++ ys) ≤ 1 = once y in let e : times y (xs ++ ys) ≡ times y xs + times y ys = times_append y xs ys in omega (arith, o, e)
 
 once_middle : (scope : Scope) (xs os bs : List ℕ) → Once scope (xs ++ (os ++ bs)) → Once scope os
 once_middle scope xs os bs once y =

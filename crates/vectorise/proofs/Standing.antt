@@ -8,21 +8,23 @@ use Rattle.grin_syntax.specs.declared.program.Target.TheVariants as to
 use Rattle.grin_syntax.specs.declared.program.Word as W
 use Rattle.grin_syntax.specs.declared.program.Word.TheVariants.{Lit, Var, Global, TagWord}
 use Rattle.grin_syntax.specs.Tree.{Procedure, Program}
-use Rattle.grin_syntax.specs.Binders.{times, numbers_of, cell_vars}
+use Rattle.grin_syntax.specs.Binders.{numbers_of, cell_vars}
 use Rattle.grin_syntax.specs.Formed.{AllOf, Scope, InScope, with_words}
 use Rattle.grin_syntax.specs.Fresh.{variables, past_vars, past_cells}
-use Rattle.grin_syntax.proofs.Counted.{times_append, counts, one_at, fresh_below}
+use Rattle.grin_syntax.proofs.Counted.{fresh_below, fresh_past}
 use Rattle.grin_syntax.proofs.Scopes.{first_in}
 use Rattle.grin_meaning.specs.Values.{Datum, tag, cell, Node, Value, node, words, Env, and_then, only_word, padded, Binding, with_vars, one_each, word_of, words_of, bindings_of}
 use Rattle.grin_meaning.specs.Run.{places}
 use Rattle.vectorise.specs.Known.{Layout, Table, vector_start, room_of, word_for, vector_words}
 use Rattle.vectorise.specs.Vectors.{wide_cells}
-use Rattle.vectorise.proofs.Noted.{Once, in_later, IsPlain, FieldsKnown}
-use Rattle.vectorise.proofs.Scoped.{Origin, all_counts, WordIn, Carries, Below, words_carry, words_below, is_first, fresh_past}
-use Rattle.vectorise.proofs.Vals.{filled, filled_length, padded_filled, vector_of, Stands, named, one_each_named, names_stand}
-
-same_var : (x y : VarId) → x.0 ≡ y.0 → x ≡ y
-same_var x y e = ap (λ n. record { 0 = n }) e
+use Rattle.vectorise.proofs.Noted.{in_later, IsPlain, FieldsKnown}
+use Rattle.vectorise.proofs.Scoped.{Origin, all_counts, WordIn, Carries, Below, words_carry, words_below, is_first}
+use Rattle.vectorise.proofs.Vals.{filled, filled_length, padded_filled, vector_of, Stands, one_each_named, names_stand}
+use Rattle.seq.specs.Lists.{times}
+use Rattle.seq.proofs.Counted.{counts, times_append, one_at}
+use Rattle.grin_meaning.proofs.Scopes.{Once}
+use Rattle.grin_meaning.proofs.Bindings.{named}
+use Rattle.grin_syntax.proofs.Placed.{same_var}
 
 module _ (l : Layout) (K : Table) (g : Program) (procs : List Procedure) (same_count : length procs ≡ length g.procs) where
   abbrev pub NodeStands : VarId → Value → Env → Type 0

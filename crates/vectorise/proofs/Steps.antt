@@ -14,7 +14,7 @@ use Rattle.grin_syntax.specs.declared.program.Word.TheVariants.{Lit, Var, Global
 use Rattle.grin_syntax.specs.declared.program.Val as V
 use Rattle.grin_syntax.specs.declared.program.Val.TheVariants.{NodeVar, Node as NodeVal, Vector, One}
 use Rattle.grin_syntax.specs.Tree.{Procedure, Program}
-use Rattle.grin_syntax.specs.Binders.{times, numbers_of, target_vars, shape_vars}
+use Rattle.grin_syntax.specs.Binders.{numbers_of, target_vars, shape_vars}
 use Rattle.grin_syntax.specs.Formed.{AllOf, Scope, InScope, with_words, with_target, WordFormed, ValFormed, CellFormed}
 use Rattle.grin_syntax.specs.Fresh.{past_target}
 use Rattle.grin_syntax.proofs.Scopes.{first_in}
@@ -29,7 +29,9 @@ use Rattle.vectorise.specs.Whole.{NoVector, NoVectorTarget, NoWord}
 use Rattle.vectorise.proofs.Noted.{TargetKnown, ShapeKnown}
 use Rattle.vectorise.proofs.Scoped.{room_fits}
 use Rattle.vectorise.proofs.Standing.{NodeStands, Stand, Held, fields_goes, bind_word, bind_node, takes_node, takes_vector}
-use Rattle.vectorise.proofs.Vals.{vector_of, vector_node, vector_filled, vector_given, vector_shorter, Stands, words_stand, fields_stand, some_and, named}
+use Rattle.vectorise.proofs.Vals.{vector_of, vector_node, vector_filled, vector_given, vector_shorter, Stands, words_stand, fields_stand, some_and}
+use Rattle.seq.specs.Lists.{times}
+use Rattle.grin_meaning.proofs.Bindings.{named}
 
 -- ---- what is given
 

@@ -6,9 +6,10 @@ use Rattle.grin_syntax.specs.declared.program.Word as W
 use Rattle.grin_syntax.specs.declared.program.Word.TheVariants.{Var}
 use Rattle.grin_syntax.specs.Tree.{Program}
 use Rattle.grin_syntax.specs.Fresh.{variables}
-use Rattle.grin_meaning.specs.Values.{Datum, number, tag, cell, Node, Value, node, words, Env, and_then, only_word, padded, Binding, with_vars, one_each, fields_of, as_node, word_of, words_of}
+use Rattle.grin_meaning.specs.Values.{Datum, number, tag, cell, Node, Value, node, words, Env, and_then, only_word, padded, with_vars, one_each, fields_of, as_node, word_of, words_of}
 use Rattle.grin_meaning.specs.Checks.{is_none_or, is_zero, all_zero, number_then_zeros, plain_after, plain_number, is_delayed, not_delayed, is_given, is_filled}
 use Rattle.grin_meaning.specs.Full.{FullNode}
+use Rattle.grin_meaning.proofs.Bindings.{named, named_below}
 
 -- so many words: these, and zeros
 abbrev pub filled : ℕ → List Datum → List Datum
@@ -52,10 +53,6 @@ zeros_kept (suc k) (d ∷ ds) h = and_from (is_zero d) (all_zero (filled k ds)) 
 
 -- ---- variables for words
 
-abbrev pub named : ℕ → List Datum → List Binding
-named x [] = []
-named x (d ∷ ds) = (x, words (d ∷ [])) ∷ named (suc x) ds
-
 pub one_each_named : (x k : ℕ) (ds : List Datum) → length ds ≡ k → one_each (variables x k) ds ≡ Some (named x ds)
 one_each_named x zero [] e = refl
 one_each_named x zero (d ∷ ds) e = absurd (omega (arith, e))
@@ -64,10 +61,6 @@ one_each_named x (suc k) (d ∷ ds) e = ap (λ o. and_then o (λ bs. Some ((x, w
 
 not_it : (y x : ℕ) (v : Value) (env : Env) → y < x → cond (nat_eq y x) (Some v) (env y) ≡ env y
 not_it y x v env h = let e : nat_eq y x ≡ false = grind (arith, nat_tests) in ap (λ b. cond b (Some v) (env y)) e
-
-pub named_before : (x : ℕ) (ds : List Datum) (env : Env) (y : ℕ) → y < x → with_vars (named x ds) env y ≡ env y
-named_before x [] env y h = refl
-named_before x (d ∷ ds) env y h = named_before (suc x) ds _ y (omega (arith, h)) ∙ not_it y x (words (d ∷ [])) env h
 
 module _ (g : Program) where
   -- a vector with enough room stands for its node
@@ -179,5 +172,5 @@ module _ (g : Program) where
   names_stand x (suc k) [] env e = absurd (omega (arith, e))
   names_stand x (suc k) (d ∷ ds) env e =
       let env1 : Env = λ y. cond (nat_eq y x) (Some (words (d ∷ []))) (env y) in
-      let first : with_vars (named (suc x) ds) env1 x ≡ Some (words (d ∷ [])) = named_before (suc x) ds env1 x (omega arith) ∙ (let h : nat_eq x x ≡ true = grind (arith, nat_tests) in ap (λ b. cond b (Some (words (d ∷ []))) (env x)) h) in
+      let first : with_vars (named (suc x) ds) env1 x ≡ Some (words (d ∷ [])) = named_below (suc x) ds env1 x (omega arith) ∙ (let h : nat_eq x x ≡ true = grind (arith, nat_tests) in ap (λ b. cond b (Some (words (d ∷ []))) (env x)) h) in
       λ i. and_then (and_then (first i) only_word) (λ b. and_then (names_stand (suc x) k ds env1 (omega (arith, e)) i) (λ bs. Some (b ∷ bs)))

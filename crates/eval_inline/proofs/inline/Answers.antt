@@ -5,10 +5,10 @@ use Rattle.grin_syntax.specs.Tree.{program_of, procedure_of}
 use Rattle.grin_syntax.specs.Fresh.{past_procs}
 use Rattle.eval_inline.specs.Inlining.{eval_inlined}
 use Rattle.points_to.specs.Found.{found}
-use Rattle.eval_inline.proofs.Pieces.{map_same}
 use Rattle.eval_inline.proofs.Statements.{one_more_proc}
 use Rattle.eval_inline.proofs.InlinedProgram.{inlined_is, inlined_keeps, inlined_formed, inlined_without}
 use Rattle.eval_inline.proofs.inline.Goals as goal
+use Rattle.seq.proofs.Lists.{map_same}
 
 pub loop-proc-preserved : goal.loop-proc-preserved
 loop-proc-preserved c = one_more_proc _ (found c.args.flow.now) c.past-fresh.result.next c.loop-proc.fresh.next _ c.loop-proc.made _ c.loop-proc.yielded c.in-Some.proc _ c.loop-proc.invariant refl refl c.in_ok-body.ensures.is c.in_ok-body.ensures.next c.in_ok-push.ensures.ok

@@ -2,8 +2,9 @@ use Rattle.std.proofs.Common.{◌≡◌, ℕ, sym, ap, ◌∙◌, rules}
 use Rattle.std.proofs.lemmas.Iterator.Adapters.{YieldsList-from_vec}
 use Rattle.std.proofs.lemmas.Iterator.Consumers.{YieldsList-end}
 use mathlib.Core.List.{reverse}
-use Rattle.copy_prop.proofs.Backward.{arm_thins, idle_goes, busy_stays, bound_used, stored_used, thins_begin, thins_stay, thins_go, map_same, thins_tree, thins_uses}
+use Rattle.copy_prop.proofs.Backward.{arm_thins, idle_goes, busy_stays, bound_used, stored_used, thins_begin, thins_stay, thins_go, thins_tree, thins_uses}
 use Rattle.copy_prop.proofs.lean.+thin.Goals as goal
+use Rattle.seq.proofs.Lists.{map_same}
 
 pub thin_op-loop-alt-preserved : goal.thin_op-loop-alt-preserved
 thin_op-loop-alt-preserved t c =

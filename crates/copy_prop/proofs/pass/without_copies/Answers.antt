@@ -1,9 +1,9 @@
 use Rattle.std.proofs.Common.{sym, ◌∙◌, rules}
 use Rattle.std.proofs.lemmas.Iterator.Adapters.{YieldsList-from_vec}
 use Rattle.std.proofs.lemmas.Iterator.Consumers.{YieldsList-end}
-use Rattle.copy_prop.proofs.Backward.{map_same}
 use Rattle.copy_prop.proofs.Loops.{proc_resolves, with_body_of, program_resolved}
 use Rattle.copy_prop.proofs.pass.without_copies.Goals as goal
+use Rattle.seq.proofs.Lists.{map_same}
 
 pub loop-proc-preserved : goal.loop-proc-preserved
 loop-proc-preserved c =

@@ -7,9 +7,10 @@ use Rattle.grin_syntax.specs.declared.program.Val.TheVariants.{NodeVar}
 use Rattle.grin_syntax.specs.Tree.{act_of, before_of, code_of, all_before, eval}
 use Rattle.grin_syntax.proofs.TreeOf.{act_of-Apply, act_of-Eval}
 use Rattle.grin_translate.specs.Blocks.{word}
-use Rattle.grin_translate.specs.Pieces.{variable, given_to}
+use Rattle.grin_translate.specs.Pieces.{given_to}
 use Rattle.grin_translate.proofs.Pushed.{given_more, applied_same}
 use Rattle.grin_translate.proofs.block.application.Goals as goal
+use Rattle.grin_syntax.specs.Fresh.{variable}
 
 pub loop-a-preserved : goal.loop-a-preserved
 loop-a-preserved c =

@@ -2,9 +2,10 @@ use Rattle.std.proofs.Common.{◌≡◌, IfOk, map, subst, ap, ◌∙◌, arith}
 use Rattle.arity_check.specs.Program.{program}
 use Rattle.grin_syntax.specs.Tree.{before_of, code_of, all_before}
 use Rattle.grin_translate.specs.Blocks.{word}
-use Rattle.grin_translate.specs.Pieces.{variable, evaluated_of}
+use Rattle.grin_translate.specs.Pieces.{evaluated_of}
 use Rattle.grin_translate.proofs.Pushed.{primitive_is}
 use Rattle.grin_translate.proofs.block.primitive.Goals as goal
+use Rattle.grin_syntax.specs.Fresh.{variable}
 
 pub returns-clause-is : goal.returns-clause-is
 returns-clause-is c =

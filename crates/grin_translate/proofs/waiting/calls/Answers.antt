@@ -1,9 +1,9 @@
 use Rattle.std.proofs.Common.{◌≡◌, ℕ, suc, ◌+◌, List, [], ◌∷◌, ◌++◌, map, refl, sym, ap, ◌∙◌, arith}
 use Rattle.grin_translate.specs.declared.tags.Delay.{Delay}
 use Rattle.grin_translate.specs.declared.tags.Delay.TheVariants.{Calls}
-use Rattle.grin_translate.specs.Tags.{numbers_from}
 use Rattle.grin_translate.proofs.Lookups.{numbers_more}
 use Rattle.grin_translate.proofs.waiting.calls.Goals as goal
+use Rattle.seq.specs.Lists.{numbers_from}
 
 map_more : (ns : List ℕ) (n : ℕ) → map Calls (ns ++ n ∷ []) ≡ map Calls ns ++ Calls n ∷ []
 map_more [] n = refl

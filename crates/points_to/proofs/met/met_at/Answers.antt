@@ -1,9 +1,10 @@
 use Rattle.std.proofs.Common.{rules, ◌≡◌, map, refl, sym, subst}
-use Rattle.points_to.specs.Wanted.{tag_id, SameSet}
+use Rattle.points_to.specs.Wanted.{SameSet}
 use Rattle.points_to.specs.Met.{tags_of_sites, Ascends}
 use Rattle.points_to.proofs.TagsInCells.{ascends_of}
 use Rattle.points_to.proofs.Read.{unwrapped}
 use Rattle.points_to.proofs.met.met_at.Goals as goal
+use Rattle.grin_syntax.specs.Tags.{tag_id}
 
 pub returns : goal.returns
 returns c =

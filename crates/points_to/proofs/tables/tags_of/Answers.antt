@@ -1,8 +1,9 @@
 use Rattle.std.proofs.Common.{rules, ◌≡◌, map, refl, sym, subst}
 use Rattle.points_to.specs.Known.{held}
-use Rattle.points_to.specs.Wanted.{Lists, tag_id}
+use Rattle.points_to.specs.Wanted.{Lists}
 use Rattle.points_to.proofs.Read.{unwrapped}
 use Rattle.points_to.proofs.tables.tags_of.Goals as goal
+use Rattle.grin_syntax.specs.Tags.{tag_id}
 
 pub returns : goal.returns
 returns c =

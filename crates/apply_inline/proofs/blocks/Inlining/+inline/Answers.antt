@@ -4,9 +4,9 @@ use Rattle.std.proofs.lemmas.Iterator.Consumers.{YieldsList-end}
 use Rattle.grin_syntax.specs.Tree.{act_of, before_of, program_of}
 use Rattle.apply_inline.specs.Inlining.{apply_act, apply_act_room, apply_code, apply_code_room}
 use Rattle.points_to.specs.Found.{found}
-use Rattle.eval_inline.proofs.Pieces.{map_same}
 use Rattle.apply_inline.proofs.Loops.{AllApply, other_stays, other_room, alts_done, alts_room, case_done, case_room, one_more, one_more_alt, store_applies, store_room, bind_applies, bind_room}
 use Rattle.apply_inline.proofs.blocks.Inlining.+inline.Goals as goal
+use Rattle.seq.proofs.Lists.{map_same}
 
 pub stmt-returns-in-Store-clause-is : goal.stmt-returns-in-Store-clause-is
 stmt-returns-in-Store-clause-is t c =

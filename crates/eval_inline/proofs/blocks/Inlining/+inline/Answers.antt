@@ -6,8 +6,10 @@ use Rattle.grin_syntax.proofs.TreeOf.{act_of-Fetch, act_of-Eval}
 use Rattle.points_to.specs.Found.{found}
 use Rattle.eval_inline.specs.Inlining.{eval_all, all_room}
 use Rattle.eval_inline.proofs.Statements.{one_more_stmt, store_done, store_room, bind_done, bind_room, block_done, block_room, other_is_plain, plain_stays, plain_room, same_follows, eval_follows, eval_room, one_more_arm, arms_done, arms_room_done, case_done, case_room, nested_done, nested_room}
-use Rattle.eval_inline.proofs.Pieces.{ok_follows, on_ok_follows, map_same}
+use Rattle.eval_inline.proofs.Pieces.{on_ok_follows}
 use Rattle.eval_inline.proofs.blocks.Inlining.+inline.Goals as goal
+use Rattle.seq.proofs.Results.{ok_follows}
+use Rattle.seq.proofs.Lists.{map_same}
 
 pub block-loop-stmt-preserved : goal.block-loop-stmt-preserved
 block-loop-stmt-preserved t c = one_more_stmt (program_of c.args.self.now.program.now) (found c.args.self.now.flow.now) c.args.fresh.now.next c.loop-stmt.fresh.next _ c.loop-stmt.stmts _ c.loop-stmt.yielded c.in-Some.stmt c.loop-stmt.invariant c.in_ok-stmt.ensures.is c.in_ok-stmt.ensures.next

@@ -1,8 +1,9 @@
 use Rattle.std.proofs.Common.{rules, sym, ◌∙◌, subst}
 use Rattle.seq.proofs.Lists.{take_next}
-use Rattle.low_translate.proofs.Operations.{end_alone, plain_first, plain_second, plain_third, ok_follows, stmts_next, block_is, plain_act, plain_end_act, case_done, nested_done, case_ends, nested_ends, store_done, bind_done, stmts_then, block_done, whole_block}
+use Rattle.low_translate.proofs.Operations.{end_alone, plain_first, plain_second, plain_third, stmts_next, block_is, plain_act, plain_end_act, case_done, nested_done, case_ends, nested_ends, store_done, bind_done, stmts_then, block_done, whole_block}
 use Rattle.low_translate.proofs.Alternatives.{ArmsSoFar, no_items, all_items, choice_is, choice_with, one_arm_more, arms_done, no_arms_done}
 use Rattle.low_translate.proofs.blocks.Plan.+blocks.Goals as goal
+use Rattle.seq.proofs.Results.{ok_follows}
 
 pub act-returns-in_ok-join-in-Case : goal.act-returns-in_ok-join-in-Case
 act-returns-in_ok-join-in-Case t c = case_done c.args.self.now.width c.args.self.now.results.now c.args.numbers.now.next _ c.args.vars.now _ c.in-Case.v c.in-Case.alts _ _ _ _ _ _ c.in-Case.is c.as_slice.ensures (c.as_slice-in-Case.ensures ∙ c.in_ok-words-in-Case.ensures.is) c.in_ok-words-in-Case.ensures.ranged c.in_ok-last-in-Case.ensures (end_alone _ c.new-stmts.ensures) c.in_ok-join-in-Case.ensures

@@ -1,6 +1,6 @@
 use Rattle.low_translate.proofs.LastOps.{none_so_far, one_so_far, all_learnt, call_learnt, nested_learnt, case_learnt}
-use Rattle.low_translate.proofs.Operations.{ok_follows}
 use Rattle.low_translate.proofs.results.Ends.+ends.Goals as goal
+use Rattle.seq.proofs.Results.{ok_follows}
 
 pub op-returns-in_ok-push-in-Call : goal.op-returns-in_ok-push-in-Call
 op-returns-in_ok-push-in-Call t c = call_learnt c.args.self.now.node c.args.self.now.calls.items _ _ c.in-Call.f _ c.in-Call.is c.in_ok-push-in-Call.ensures.items

@@ -1,8 +1,9 @@
 use Rattle.std.proofs.Common.{◌+◌, drop, map}
 use Rattle.low_code.specs.Tree.{program_of, before_of, arm_of, all_before, arms_before}
 use Rattle.rv32_select.proofs.Emitted.{Towards, TowardsArms}
-use Rattle.rv32_select.proofs.Weight.{all_of, stmt_weight, end_weight, arm_weight, block_weight}
+use Rattle.rv32_select.proofs.Weight.{stmt_weight, end_weight, arm_weight, block_weight}
 use Rattle.rv32_select.proofs.context.Context.+blocks.Given as goal
+use Rattle.seq.specs.Lists.{sum_of}
 
 abbrev pub invariant-block-loop-stmt : goal.invariant-block-loop-stmt
 invariant-block-loop-stmt l = Towards (program_of l.self.low.now) l.self.places.now l.self.cells l.self.stack l.frame.words l.frame.saved (all_before (map before_of l.stmt-items)) (all_before (map before_of (drop l.stmt-index l.stmt-items))) l.initial.out.code l.initial.out.next l.out.code l.out.next
@@ -23,7 +24,7 @@ abbrev pub decreases-end : goal.decreases-end
 decreases-end l = end_weight l.end.now
 
 abbrev pub decreases-choose : goal.decreases-choose
-decreases-choose l = 1 + (all_of (map arm_weight l.arms.now) + block_weight l.otherwise.now)
+decreases-choose l = 1 + (sum_of (map arm_weight l.arms.now) + block_weight l.otherwise.now)
 
 abbrev pub decreases-arm : goal.decreases-arm
 decreases-arm l = arm_weight l.arm.now

@@ -1,7 +1,7 @@
 use Rattle.std.proofs.Common.{◌≡◌, suc, ◌-◌, subst, arith}
 use Rattle.seq.proofs.Lists.{get_is}
-use Rattle.apply_inline.specs.Parts.{SearchStarts}
-use Rattle.apply_inline.proofs.starts.part_starts.Goals as goal
+use Rattle.flow_system.specs.Starts.{SearchStarts}
+use Rattle.flow_system.proofs.starts.part_starts.Goals as goal
 
 pub back-preserved : goal.back-preserved
 back-preserved c =

@@ -1,6 +1,6 @@
 use Rattle.std.proofs.Common.{arith}
-use Rattle.apply_inline.proofs.Begins.{noted, passed}
-use Rattle.apply_inline.proofs.starts.note.Goals as goal
+use Rattle.flow_system.proofs.Begins.{noted, passed}
+use Rattle.flow_system.proofs.starts.note.Goals as goal
 
 pub returns-then-f-len : goal.returns-then-f-len
 returns-then-f-len c = λ ts e b. noted ts c.args.starts.now.items c.args.at c.in-Some.f.0 c.args.tag.now e c.in-Some.ensures b

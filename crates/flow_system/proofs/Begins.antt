@@ -5,7 +5,7 @@ use Rattle.std.proofs.lemmas.Option.{slice_get_within}
 use Rattle.seq.proofs.Truth.{true_not_false}
 use Rattle.grin_syntax.specs.declared.program.Tag.{Tag}
 use Rattle.grin_syntax.specs.Tags.{is_part, is_part_kind, is_proc, part_from}
-use Rattle.apply_inline.specs.Parts.{SearchStarts}
+use Rattle.flow_system.specs.Starts.{SearchStarts}
 
 from_tag : (ts : List Tag) (i : ℕ) (t : Tag) → slice_get ts i ≡ Some t → drop i ts ≡ t ∷ drop (suc i) ts
 from_tag [] i t e = cc

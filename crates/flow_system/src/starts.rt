@@ -5,19 +5,14 @@ ghost use Rattle.std.specs.Prelude.{◌≡◌, ◌≢◌, ℕ, suc, ◌<◌, len
 ghost use Rattle.std.specs.Option.{option_map};
 ghost use Rattle.grin_syntax.specs.declared.program.Tag.{Tag as Tag'};
 ghost use Rattle.std.specs.Prelude.{List};
-ghost use Rattle.grin_syntax.specs.Tags.{part_from, is_part};
-ghost use Rattle.apply_inline.specs.Parts.{SearchStarts};
+ghost use Rattle.grin_syntax.specs.Tags.{part_from, is_part, is_part_kind};
+ghost use Rattle.flow_system.specs.Starts.{SearchStarts};
 
-use crate::known::is_part;
-use grin_syntax::{ProcId, Tag, TagId};
+use grin_syntax::{ProcId, Tag, TagId, TagKind};
 use std::alloc::{AllocError, Global};
 
 /// For each of so many procedures where its tags begin that lack arguments.
-pub(crate) fn part_starts(
-    alloc: Global,
-    tags: &[Tag],
-    procs: usize,
-) -> Result<Vec<usize>, AllocError>
+pub fn part_starts(alloc: Global, tags: &[Tag], procs: usize) -> Result<Vec<usize>, AllocError>
     ensures { IfOk result (λ starts. SearchStarts tags.now starts.items 0) }
 {
     let mut starts = vec![in alloc; tags.len(); procs]?;
@@ -52,7 +47,7 @@ fn lacking(tag: &Tag) -> Option<ProcId>
 
 /// The first tag of a procedure that lacks so many arguments, where none stands before `start`.
 /// Past the numbers of 32 bits there is none, which counts as want of memory.
-pub(crate) fn part_tag(
+pub fn part_tag(
     tags: &[Tag],
     start: usize,
     f: ProcId,
@@ -81,5 +76,16 @@ fn lacks(tag: &Tag, f: ProcId, missing: u32) -> bool
     match tag.proc {
         Some(g) => is_part(tag.kind) && g.0 == f.0 && tag.missing == missing,
         None => false,
+    }
+}
+
+/// Whether a tag of this kind is that of a function that lacks arguments.
+pub fn is_part(kind: TagKind) -> bool
+    ensures { result ≡ is_part_kind kind }
+{
+    match kind {
+        TagKind::Part => true,
+        TagKind::Con => false,
+        TagKind::Fun => false,
     }
 }

@@ -1,0 +1,11 @@
+-- What a pass knows: a program, and the solution of its flow system.
+use Rattle.grin_syntax.specs.Tree.{Program, program_of}
+use Rattle.flow_system.specs.Solution.{Solution}
+use Rattle.points_to.specs.Found.{found}
+use Rattle.apply_inline.specs.declared.known.Known.{Known}
+
+abbrev pub program : Known → Program
+program k = program_of k.program.now
+
+abbrev pub solution : Known → Solution
+solution k = found k.flow.now
