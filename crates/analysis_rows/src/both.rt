@@ -8,7 +8,7 @@ use points_to::{Flow, solve, solve_by_rounds};
 use std::alloc::{AllocError, Global};
 use std::fmt::Write;
 use std::test::Fail;
-use worked_texts::{INTERPRETER, PRIMES, QUEENS, SORT};
+use worked_texts::{INTERPRETER, PRIMES, QUEENS, SORT, many_delayed};
 
 /// Programs over lists: with and without delayed calls, waiting functions, global cells, cells that
 /// hold themselves, and numbers.
@@ -49,23 +49,6 @@ fn many_alternatives(alloc: Global) -> Result<String, AllocError> {
         write!(text, "; {k} -> Cons {k} Nil")?;
     }
     text.push_str(" }; main = f 299;")?;
-    Ok(text)
-}
-
-/// A text in which k functions are delayed, and each of their results is given to one function.
-fn many_delayed(alloc: Global, k: u32) -> Result<String, AllocError> {
-    let mut text = String::new(alloc);
-    for i in 0..k {
-        write!(text, "f{i} x = x; ")?;
-    }
-    text.push_str("h y = let ")?;
-    for i in 0..k {
-        write!(text, "b{i} = f{i} y; ")?;
-    }
-    for i in 0..k {
-        write!(text, "c{i} = h b{i}; ")?;
-    }
-    text.push_str("in Nil; main = h Nil;")?;
     Ok(text)
 }
 
@@ -157,19 +140,29 @@ fn both_agree_on_worked_programs(rt: HostRuntime) -> Result<(), Fail> {
 }
 
 #[test]
-fn both_agree_on_texts(rt: HostRuntime) -> Result<(), Fail> {
+fn both_agree_on_listed_texts(rt: HostRuntime) -> Result<(), Fail> {
     for text in [ECHO, FORMS, BRANCHES] {
         assert!(rt;
             agree(rt.alloc(), &translated(rt.alloc(), text)?)?,
             "{text}"
         );
     }
+    Ok(())
+}
+
+#[test]
+fn both_agree_on_texts(rt: HostRuntime) -> Result<(), Fail> {
     for text in TEXTS {
         assert!(rt;
             agree(rt.alloc(), &translated(rt.alloc(), text)?)?,
             "{text}"
         );
     }
+    Ok(())
+}
+
+#[test]
+fn both_agree_on_examples(rt: HostRuntime) -> Result<(), Fail> {
     for text in [QUEENS, SORT, PRIMES, INTERPRETER] {
         assert!(rt; agree(rt.alloc(), &whole(rt.alloc(), text)?)?, "{text}");
     }
@@ -181,8 +174,7 @@ fn both_agree_where_much_meets(rt: HostRuntime) -> Result<(), Fail> {
     let alloc = rt.alloc();
     let text = many_alternatives(alloc)?;
     assert!(rt; agree(alloc, &translated(alloc, &text)?)?);
-    let text = many_delayed(alloc, 20)?;
-    let g = translated(alloc, &text)?;
+    let g = whole(alloc, &many_delayed(alloc, 20)?)?;
     assert!(rt; agree(alloc, &g)?);
     // The parameter of each function that is delayed holds Nil's cell and all that is delayed.
     let flow = solve(alloc, &system(alloc, &g)?)?;

@@ -1,6 +1,7 @@
 // Small programs, whose solutions were worked out by hand.
 
 use flow_system::system::system;
+use flow_system::{Place, readers, set_of};
 use grin_syntax::program::{Grin, ProcId, Site, TagId, VarId};
 use grin_text::{ReadError, program};
 use points_to::solve;
@@ -124,5 +125,31 @@ fn a_function_given_one_argument_at_a_time(rt: HostRuntime) -> Result<(), Fail> 
     assert_eq!(rt; flow.locs_of(VarId(0)), [Site(0)].as_slice());
     assert_eq!(rt; flow.locs_of(VarId(1)), [Site(0)].as_slice());
     assert_eq!(rt; flow.locs_of(VarId(2)), [Site(1), Site(2)].as_slice());
+    Ok(())
+}
+
+// Inclusion 0 is that of `k`, 1 to 3 those of `app`, 4 to 12 three for each cell of `start` and 13
+// and 14 those of its call. The second parameter of `k` is named by none.
+#[test]
+fn sets_and_their_readers(rt: HostRuntime) -> Result<(), Fail> {
+    let alloc = rt.alloc();
+    let program = partial(alloc)?;
+    let inclusions = system(alloc, &program)?;
+    let rows: [(Place, u32, &[u32]); 8] = [
+        (Place::Var(0), 0, &[0]),
+        (Place::Result(0), 1, &[]),
+        (Place::Var(4), 3, &[2, 3]),
+        (Place::Var(3), 4, &[2, 3]),
+        (Place::Result(1), 5, &[14]),
+        (Place::Var(5), 6, &[11, 13]),
+        (Place::Site(2), 11, &[12]),
+        (Place::Result(2), 12, &[]),
+    ];
+    for (place, set, read) in rows {
+        assert_eq!(rt; set_of(&inclusions, place), Some(set));
+        assert_eq!(rt; readers(&inclusions, set), read);
+    }
+    assert!(rt; set_of(&inclusions, Place::Var(1)).is_none());
+    assert_eq!(rt; readers(&inclusions, 13).len(), 0);
     Ok(())
 }

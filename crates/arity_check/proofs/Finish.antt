@@ -11,7 +11,7 @@ use Rattle.arity_check.specs.declared.refusal.CheckRefusal.{CheckRefusal}
 use Rattle.arity_check.specs.declared.refusal.CheckRefusal.TheVariants as refusal
 use Rattle.arity_check.specs.Scope.{is_named}
 use Rattle.arity_check.specs.Known.{Known}
-use Rattle.arity_check.specs.Refusal.{rule, place}
+use Rattle.arity_check.specs.Refusal.{rule, number}
 use Rattle.arity_check.specs.Broken as broken
 use Rattle.arity_check.specs.Whole.{known_of, main_kind, main_at, cons_faults, header_faults, body_faults, functions_faults, whole_faults}
 use Rattle.arity_check.specs.Faults.{also}
@@ -47,7 +47,7 @@ nothing_in [] h = refl
 nothing_in (r ∷ rs) h = absurd (h r here)
 
 pub no_faults : (p : Program) → IsUnbroken p → whole_faults p ≡ []
-no_faults p u = nothing_in (whole_faults p) (λ r i. u (rule r) (place r) (sound p r i))
+no_faults p u = nothing_in (whole_faults p) (λ r i. u (rule r) (number r) (sound p r i))
 
 pub functions_sound : (p : Program) (k : Known) → k ≡ known_of p → IsUnbroken p → functions_faults k [] 0 (λ x. false) p.functions ≡ []
 functions_sound p k e u =
@@ -85,7 +85,7 @@ main_is p k n e at =
     ∙ sym (λ i. position_from (λ (f : tree.Function). main_named p f.name i) 0 p.functions) ∙ ap (λ k. main_at k p.functions) (sym e) ∙ at
 
 -- a refusal that was met is no want of memory
-pub is_cause : (p : Program) (r : CheckRefusal) → IsFirstBroken p (rule r) (place r) → IsCause p r
+pub is_cause : (p : Program) (r : CheckRefusal) → IsFirstBroken p (rule r) (number r) → IsCause p r
 is_cause p (refusal.Memory e) h = tt
 is_cause p (refusal.DuplicateConstructor at) h = h
 is_cause p (refusal.DuplicateFunction at) h = h

@@ -129,5 +129,5 @@ right p (Some r) e =
       first = λ k at b.
           let l : Listed p k at = complete p b in
           let h : Le r l.refusal = w.1 l.refusal l.met in
-          subst (λ n. IsBefore (rank_of r) (rank n at)) l.rule_is (subst (λ n. IsBefore (rank_of r) (rank (rule l.refusal) n)) l.place_is h);
+          subst (λ n. IsBefore (rank_of r) (rank n at)) l.rule_is (subst (λ n. IsBefore (rank_of r) (rank (rule l.refusal) n)) l.number_is h);
     }

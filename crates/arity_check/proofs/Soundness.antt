@@ -13,7 +13,7 @@ use Rattle.arity_check.specs.declared.refusal.CheckRefusal.{CheckRefusal}
 use Rattle.arity_check.specs.declared.refusal.CheckRefusal.TheVariants as refusal
 use Rattle.arity_check.specs.Scope as scope
 use Rattle.arity_check.specs.Scope.{Scope, Meaning, Local, Primitive, Unbound, means, is_named}
-use Rattle.arity_check.specs.Refusal.{rule, place}
+use Rattle.arity_check.specs.Refusal.{rule, number}
 use Rattle.arity_check.specs.Broken as broken
 use Rattle.arity_check.specs.Standing.{count}
 use Rattle.arity_check.specs.Pieces.{InFunction, Used, Piece, AnApp, AGroup, SomeAlts, binders_of, bound_by, within}
@@ -60,7 +60,7 @@ module _ (p : Program) where
   none x = false
 
   abbrev IsBroken : CheckRefusal → Type 0
-  IsBroken r = Broken p (rule r) (place r)
+  IsBroken r = Broken p (rule r) (number r)
 
   retag : (q r : CheckRefusal) → q ≡ r → IsBroken q → IsBroken r
   retag q r e b = subst IsBroken e b
@@ -401,7 +401,7 @@ module _ (p : Program) where
   too_large = noted (nat_lt 16384 (program_size p)) (refusal.CoreTooLarge (program_size p))
 
   -- each refusal is a broken rule
-  pub sound : (r : CheckRefusal) → In r (whole_faults p) → Broken p (rule r) (place r)
+  pub sound : (r : CheckRefusal) → In r (whole_faults p) → Broken p (rule r) (number r)
   sound r i =
       elim (in_cases r (cons_faults k 0 none p.constructors) (functions_faults k [] 0 none p.functions ++ (lacks_faults k p.constructors p.functions ++ too_large)) i) [
         | inl a ↦ cons_broken r a
@@ -472,10 +472,10 @@ module _ (p : Program) where
     pub refusal : CheckRefusal
     pub met : In refusal (whole_faults p)
     pub rule_is : rule refusal ≡ n
-    pub place_is : place refusal ≡ at
+    pub number_is : number refusal ≡ at
 
-  listed : (r : CheckRefusal) → Met r → Listed (rule r) (place r)
-  listed r i = record { refusal = r; met = i; rule_is = refl; place_is = refl }
+  listed : (r : CheckRefusal) → Met r → Listed (rule r) (number r)
+  listed r i = record { refusal = r; met = i; rule_is = refl; number_is = refl }
 
   abbrev later_con : ℕ → Bool → Data → List CheckRefusal
   later_con i b d = noted (nat_lt 12 d.fields) (refusal.TooManyFields d.at) ++ noted (int_kind (k.kind d.name)) (refusal.ReservedName d.at)

@@ -26,30 +26,30 @@ rule (TooManyFields at) = 34
 rule (CoreTooLarge size) = 35
 rule (Memory e) = 0
 
--- its place, as it is printed
-abbrev pub place : CheckRefusal → ℕ
-place (DuplicateConstructor at) = at
-place (DuplicateFunction at) = at
-place (DuplicateName at) = at
-place (UnknownName at) = at
-place (ConstructorArity at) = at
-place (DefaultNotLast at) = at
-place (DuplicateAlternative at) = at
-place (MixedAlternatives at) = at
-place (ReservedName at) = at
-place (PrimitiveArity at) = at
-place NoMain = 0
-place (MainHasParameters at) = at
-place NoListConstructors = 0
-place (TooManyFunctions at) = at
-place (TooManyConstructors at) = at
-place (TooManyParameters at) = at
-place (TooManyFields at) = at
-place (CoreTooLarge size) = size
-place (Memory e) = 0
+-- the number that is shown with it: the place, the size for rule 35, or 0 where there is neither
+abbrev pub number : CheckRefusal → ℕ
+number (DuplicateConstructor at) = at
+number (DuplicateFunction at) = at
+number (DuplicateName at) = at
+number (UnknownName at) = at
+number (ConstructorArity at) = at
+number (DefaultNotLast at) = at
+number (DuplicateAlternative at) = at
+number (MixedAlternatives at) = at
+number (ReservedName at) = at
+number (PrimitiveArity at) = at
+number NoMain = 0
+number (MainHasParameters at) = at
+number NoListConstructors = 0
+number (TooManyFunctions at) = at
+number (TooManyConstructors at) = at
+number (TooManyParameters at) = at
+number (TooManyFields at) = at
+number (CoreTooLarge size) = size
+number (Memory e) = 0
 
 abbrev pub rank_of : CheckRefusal → ℕ × ℕ × ℕ
-rank_of r = rank (rule r) (place r)
+rank_of r = rank (rule r) (number r)
 
 abbrev pub before : ℕ × ℕ × ℕ → ℕ × ℕ × ℕ → Bool
 before a b =

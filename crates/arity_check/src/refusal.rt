@@ -3,7 +3,7 @@
 ghost use Rattle.std.specs.Prelude.{◌≡◌, alloc_error};
 ghost use Rattle.arity_check.specs.declared.refusal.CheckRefusal.TheVariants.{Memory};
 ghost use Rattle.arity_check.specs.Order.{rank};
-ghost use Rattle.arity_check.specs.Refusal.{rule, place, rank_of, is_before};
+ghost use Rattle.arity_check.specs.Refusal.{rule, number, rank_of, is_before};
 
 use std::alloc::AllocError;
 use thiserror::Error;
@@ -129,7 +129,7 @@ impl CheckRefusal {
 
     /// The place in bytes, the size of the program for `CoreTooLarge`, or 0 where there is neither.
     pub fn number(&self) -> u64
-        ensures { result ≡ place self.now }
+        ensures { result ≡ number self.now }
     {
         match self {
             CheckRefusal::DuplicateConstructor(at)

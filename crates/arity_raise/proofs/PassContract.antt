@@ -3,7 +3,7 @@ use Rattle.std.proofs.Common.{◌≡◌, ℕ, ◌+◌, ◌≤◌, List, sym, sub
 use Rattle.grin_syntax.specs.Tree.{Program}
 use Rattle.grin_meaning.specs.Ready.{most_value_fields, IsInlined, IsFetchedByWords, Ready}
 use Rattle.grin_meaning.specs.Keeps.{Keeps}
-use Rattle.grin_meaning.specs.Looking.{NeverMissed}
+use Rattle.grin_meaning.specs.Looking.{LooksNeverMissing}
 use Rattle.grin_meaning.proofs.Looked.{looking_law}
 use Rattle.flow_system.specs.Tables.{tables}
 use Rattle.flow_system.specs.System.{system}
@@ -19,7 +19,7 @@ use Rattle.arity_raise.proofs.Well.{raised_formed, raised_outside}
 use Rattle.arity_raise.proofs.Same.{raised_kept}
 
 module _ (g : Program) (A : Solution) (D : List Decisions) (n : ℕ) (of : OfVectors g) (words : IsFetchedByWords g) (least : IsLeast (tables g) (system g) A) (d : IsDecided A g D n) where
-  kept : NeverMissed (raised D n g) × Keeps g (raised D n g)
+  kept : LooksNeverMissing (raised D n g) × Keeps g (raised D n g)
   kept = raised_kept g A D n of words least d
 
   inlined : IsInlined (raised D n g)

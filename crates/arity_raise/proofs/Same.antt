@@ -11,7 +11,7 @@ use Rattle.grin_meaning.specs.Run.{Calls, start_words}
 use Rattle.grin_meaning.specs.Checks.{is_given}
 use Rattle.grin_meaning.specs.Ready.{EachCode, IsFetchedByWords, EachBody, inlined_kind, by_words_kind}
 use Rattle.grin_meaning.specs.Keeps.{world_of, Keeps}
-use Rattle.grin_meaning.specs.Looking.{look, NeverMissed}
+use Rattle.grin_meaning.specs.Looking.{look, LooksNeverMissing}
 use Rattle.grin_meaning.specs.Follows.{Same, same, Every}
 use Rattle.grin_meaning.proofs.Back.{CallsBack}
 use Rattle.grin_meaning.proofs.Beside.{no_deeper, Likewise, Seen}
@@ -160,7 +160,7 @@ module _ (g : Program) (A : Solution) (D : List Decisions) (n : ℕ) (of : OfVec
 
   -- ---- the whole program
 
-  never : NeverMissed g
+  never : LooksNeverMissing g
   never = (looking_law g of.ready.inlined).sees of.ready.never_missing of.ready.runs
 
   all_lie : (i : List ℕ) (m : ℕ) → Every (Lies g A) (world_of (look g i m)).seen
@@ -192,8 +192,8 @@ module _ (g : Program) (A : Solution) (D : List Decisions) (n : ℕ) (of : OfVec
       run_follows (plan g A D n F) (λ c c' cb cf. bodies_follow F c c' cb cf 0 n g.procs D (omega arith) all_rest) i m (start_args F) same
       (every_both (Lies g A) (λ s. Later g A s.heap F) (world_of (look g i m)).seen (all_lie i m) (all_frozen g A of.ready.inlined i m (all_lie i m)))
 
-  kept : NeverMissed (raised D n g) × Keeps g (raised D n g)
+  kept : LooksNeverMissing (raised D n g) × Keeps g (raised D n g)
   kept = looking_kept g (raised D n g) never (λ i m. likewise_kept no_deeper Same (look g i m) (look (raised D n g) i m) (goes_likewise i m))
 
-pub raised_kept : (g : Program) (A : Solution) (D : List Decisions) (n : ℕ) → OfVectors g → IsFetchedByWords g → IsLeast (tables g) (system g) A → IsDecided A g D n → NeverMissed (raised D n g) × Keeps g (raised D n g)
+pub raised_kept : (g : Program) (A : Solution) (D : List Decisions) (n : ℕ) → OfVectors g → IsFetchedByWords g → IsLeast (tables g) (system g) A → IsDecided A g D n → LooksNeverMissing (raised D n g) × Keeps g (raised D n g)
 raised_kept g A D n of by_words least dec = kept g A D n of by_words least.solves dec

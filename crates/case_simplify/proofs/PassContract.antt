@@ -9,7 +9,7 @@ use Rattle.grin_syntax.specs.Formed.{Formed}
 use Rattle.grin_syntax.proofs.Scopes.{with_procs, formed_with}
 use Rattle.grin_meaning.specs.Ready.{Ready, IsVectorised, most_value_fields, inlined_kind, by_words_kind, vectorised_kind, narrow_kind}
 use Rattle.grin_meaning.specs.Keeps.{Keeps}
-use Rattle.grin_meaning.specs.Looking.{NeverMissed}
+use Rattle.grin_meaning.specs.Looking.{LooksNeverMissing}
 use Rattle.grin_meaning.proofs.Looked.{looking_law}
 use Rattle.pass_ground.specs.Vectors.{OfVectors}
 use Rattle.case_simplify.specs.Simple.{simplified}
@@ -44,10 +44,10 @@ module _ (g : Program) (formed : Formed g) (ready : Ready g) (vectorised : IsVec
     (slice_get-map simple_procedure g.procs g.start.0 ∙ ap (option_map simple_procedure) formed.start.1, formed.start.2),
   )
 
-  never : NeverMissed g
+  never : LooksNeverMissing g
   never = (looking_law g ready.inlined).sees ready.never_missing ready.runs
 
-  kept : NeverMissed (simplified g) × Keeps g (simplified g)
+  kept : LooksNeverMissing (simplified g) × Keeps g (simplified g)
   kept = simplified_kept g formed vectorised never
 
   simplified_ready : Ready (simplified g)

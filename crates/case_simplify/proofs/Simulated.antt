@@ -15,7 +15,7 @@ use Rattle.grin_meaning.specs.Checks.{has_block, is_fetch, is_node_target, not_d
 use Rattle.grin_meaning.specs.Ready.{EachAct, EachCode, EachArms, NoNodeTarget, IsVectorised, EachBody, vectorised_kind}
 use Rattle.grin_meaning.specs.Rewritten.{rewritten_procedure}
 use Rattle.grin_meaning.specs.Keeps.{Keeps}
-use Rattle.grin_meaning.specs.Looking.{look, NeverMissed}
+use Rattle.grin_meaning.specs.Looking.{look, LooksNeverMissing}
 use Rattle.grin_meaning.specs.Follows.{Same, same}
 use Rattle.grin_meaning.proofs.Names.{Any, any_act, any_cells}
 use Rattle.grin_meaning.proofs.Back.{CallsBack}
@@ -233,12 +233,12 @@ module _ (g : Program) (vectorised : IsVectorised g) (procs : List Procedure) wh
 
 -- ---- the whole program
 
-module _ (g : Program) (formed : Formed g) (vectorised : IsVectorised g) (never : NeverMissed g) where
+module _ (g : Program) (formed : Formed g) (vectorised : IsVectorised g) (never : LooksNeverMissing g) where
   abbrev bodies : List Procedure
   bodies = map (rewritten_procedure (simple_code nothing_known)) g.procs
 
   goes_likewise : (i : List ℕ) (n : ℕ) → Likewise no_deeper Same (look g i n) (look (simplified g) i n)
   goes_likewise i n = run_follows (looked g bodies) (λ c c' cb cf. bodies_go g vectorised bodies c c' cb cf 0 g.procs formed.procedures vectorised formed.variables_once) i n same same (every_any _)
 
-  pub simplified_kept : NeverMissed (simplified g) × Keeps g (simplified g)
+  pub simplified_kept : LooksNeverMissing (simplified g) × Keeps g (simplified g)
   simplified_kept = looking_kept g (simplified g) never (λ i n. likewise_kept no_deeper Same (look g i n) (look (simplified g) i n) (goes_likewise i n))

@@ -20,7 +20,7 @@ use Rattle.grin_syntax.proofs.Scopes.{with_procs, known_again, shape_stays, same
 use Rattle.grin_meaning.specs.Names.{WordOk, WordsOk, ValOk, CellsOk, ActOk, CodeOk, ArmsOk}
 use Rattle.grin_meaning.specs.Ready.{Inlined, ByWords, NoNodeTarget, NoNodeVar, EachAct, EachCode, EachArms, NarrowAct, NarrowCode, NarrowArms, Kind, EachBody, vectorised_kind}
 use Rattle.grin_meaning.specs.Rewritten.{rewritten_procedure}
-use Rattle.copy_prop.specs.Lean.{word_uses, words_uses, val_uses, cells_uses, act_uses, code_uses, arms_uses, none_stands, is_still, is_idle, unless, lean_act, lean_code, lean_arms, lean}
+use Rattle.copy_prop.specs.Lean.{used_in_word, used_in_words, used_in_val, used_in_cells, used_in_act, used_in_code, used_in_arms, none_stands, is_still, is_idle, unless, lean_act, lean_code, lean_arms, lean}
 use Rattle.copy_prop.specs.Copied.{IsCopy, Unused, IsNeeded, BoundAct, BoundCode, BoundArms}
 use Rattle.copy_prop.proofs.Used.{none_absent}
 use Rattle.copy_prop.proofs.Held.{as_scope, target_scope}
@@ -60,7 +60,7 @@ module _ (K : Kind) (op_stays : (o : Act) → K.operation o → K.operation (lea
     code_each : (b : Code) → EachCode K b → EachCode K (lean_code b)
     code_each (end o) h = act_each o h
     code_each (store cs b) h = (h.0, code_each b h.1)
-    code_each (bind t o b) h = bind_stays t (lean_act o) (lean_code b) (is_idle t o (code_uses (lean_code b))) h.0 (act_each o h.1) (code_each b h.2)
+    code_each (bind t o b) h = bind_stays t (lean_act o) (lean_code b) (is_idle t o (used_in_code (lean_code b))) h.0 (act_each o h.1) (code_each b h.2)
 
     arms_each : (as' : Arms) → EachArms K as' → EachArms K (lean_arms as')
     arms_each no_arm h = tt
@@ -129,7 +129,7 @@ module _ (w most : ℕ) where
     code_narrow : (b : Code) → NarrowCode w most b → NarrowCode w most (lean_code b)
     code_narrow (end o) h = act_narrow o h
     code_narrow (store cs b) h = code_narrow b h
-    code_narrow (bind t o b) h = bind_narrow t (lean_act o) (lean_code b) (is_idle t o (code_uses (lean_code b))) (code_narrow b h)
+    code_narrow (bind t o b) h = bind_narrow t (lean_act o) (lean_code b) (is_idle t o (used_in_code (lean_code b))) (code_narrow b h)
 
     arms_narrow : (as' : Arms) → NarrowArms w most as' → NarrowArms w most (lean_arms as')
     arms_narrow no_arm h = tt
@@ -160,54 +160,54 @@ module _ (x : ℕ) where
   abbrev Other : ℕ → Type 0
   Other y = y ≢ x
 
-  word_absent : (a : W.Word) → WordOk Other a → is_among x (word_uses a) ≡ false
+  word_absent : (a : W.Word) → WordOk Other a → is_among x (used_in_word a) ≡ false
   word_absent (Var y) h = other_number x y.0 h
   word_absent (Lit k) h = refl
   word_absent (Global i) h = refl
   word_absent (TagWord t) h = refl
 
-  words_absent : (ws : List W.Word) → WordsOk Other ws → is_among x (words_uses ws) ≡ false
+  words_absent : (ws : List W.Word) → WordsOk Other ws → is_among x (used_in_words ws) ≡ false
   words_absent [] h = refl
-  words_absent (a ∷ ws) h = absent_both x (word_uses a) (words_uses ws) (word_absent a h.0) (words_absent ws h.1)
+  words_absent (a ∷ ws) h = absent_both x (used_in_word a) (used_in_words ws) (word_absent a h.0) (words_absent ws h.1)
 
-  val_absent : (v : V.Val) → ValOk Other v → is_among x (val_uses v) ≡ false
+  val_absent : (v : V.Val) → ValOk Other v → is_among x (used_in_val v) ≡ false
   val_absent (NodeVar y) h = other_number x y.0 h
   val_absent (Node t ws) h = words_absent ws h
   val_absent (Vector ws) h = words_absent ws h
   val_absent (One a) h = word_absent a h
 
-  cells_absent : (cs : List Cell) → CellsOk Other cs → is_among x (cells_uses cs) ≡ false
+  cells_absent : (cs : List Cell) → CellsOk Other cs → is_among x (used_in_cells cs) ≡ false
   cells_absent [] h = refl
-  cells_absent (c ∷ cs) h = absent_both x (val_uses c.val) (cells_uses cs) (val_absent c.val h.0) (cells_absent cs h.1)
+  cells_absent (c ∷ cs) h = absent_both x (used_in_val c.val) (used_in_cells cs) (val_absent c.val h.0) (cells_absent cs h.1)
 
   mutual
-    unfolding act_uses ActOk
+    unfolding used_in_act ActOk
 
-    act_absent : (o : Act) → ActOk Other o → is_among x (act_uses o) ≡ false
+    act_absent : (o : Act) → ActOk Other o → is_among x (used_in_act o) ≡ false
     act_absent (unit v) h = val_absent v h
     act_absent (fetch a) h = word_absent a h
     act_absent (fetch_word a i) h = word_absent a h
-    act_absent (update a v) h = absent_both x (word_uses a) (val_uses v) (word_absent a h.0) (val_absent v h.1)
+    act_absent (update a v) h = absent_both x (used_in_word a) (used_in_val v) (word_absent a h.0) (val_absent v h.1)
     act_absent (eval a) h = word_absent a h
-    act_absent (apply v a) h = absent_both x (val_uses v) (word_uses a) (val_absent v h.0) (word_absent a h.1)
+    act_absent (apply v a) h = absent_both x (used_in_val v) (used_in_word a) (val_absent v h.0) (word_absent a h.1)
     act_absent (call f ws) h = words_absent ws h
-    act_absent (prim p a b) h = absent_both x (word_uses a) (word_uses b) (word_absent a h.0) (word_absent b h.1)
+    act_absent (prim p a b) h = absent_both x (used_in_word a) (used_in_word b) (word_absent a h.0) (word_absent b h.1)
     act_absent read h = refl
     act_absent (write a) h = word_absent a h
-    act_absent (case v as') h = absent_both x (val_uses v) (arms_uses as') (val_absent v h.0) (arms_absent as' h.1)
+    act_absent (case v as') h = absent_both x (used_in_val v) (used_in_arms as') (val_absent v h.0) (arms_absent as' h.1)
     act_absent (nested b) h = code_absent b h
     act_absent fail h = refl
 
-    pub code_absent : (b : Code) → CodeOk Other b → is_among x (code_uses b) ≡ false
+    pub code_absent : (b : Code) → CodeOk Other b → is_among x (used_in_code b) ≡ false
     code_absent (end o) h = act_absent o h
-    code_absent (store cs b) h = absent_both x (code_uses b) (cells_uses cs) (code_absent b h.1) (cells_absent cs h.0)
-    code_absent (bind t o b) h = absent_both x (code_uses b) (act_uses o) (code_absent b h.1) (act_absent o h.0)
+    code_absent (store cs b) h = absent_both x (used_in_code b) (used_in_cells cs) (code_absent b h.1) (cells_absent cs h.0)
+    code_absent (bind t o b) h = absent_both x (used_in_code b) (used_in_act o) (code_absent b h.1) (act_absent o h.0)
 
-    arms_absent : (as' : Arms) → ArmsOk Other as' → is_among x (arms_uses as') ≡ false
+    arms_absent : (as' : Arms) → ArmsOk Other as' → is_among x (used_in_arms as') ≡ false
     arms_absent no_arm h = refl
-    arms_absent (arm s b as') h = absent_both x (code_uses b) (arms_uses as') (code_absent b h.0) (arms_absent as' h.1)
+    arms_absent (arm s b as') h = absent_both x (used_in_code b) (used_in_arms as') (code_absent b h.0) (arms_absent as' h.1)
 
-none_used : (b : Code) (xs : List ℕ) → AllOf (Unused b) xs → none_stands xs (code_uses b) ≡ true
+none_used : (b : Code) (xs : List ℕ) → AllOf (Unused b) xs → none_stands xs (used_in_code b) ≡ true
 none_used b [] h = refl
 none_used b (x ∷ xs) h = λ i. not (code_absent x b h.0 i) && none_used b xs h.1 i
 
@@ -246,13 +246,13 @@ was_still (case v as') h = absurd h
 was_still (nested b) h = absurd h
 was_still fail h = absurd h
 
-bind_needed : (t : Target) (o : Act) (c : Code) (q : Bool) → is_idle t o (code_uses c) ≡ q → (IsCopy t o → ⊥) → BoundAct IsNeeded (lean_act o) → BoundCode IsNeeded c → BoundCode IsNeeded (unless q (bind t (lean_act o)) c)
+bind_needed : (t : Target) (o : Act) (c : Code) (q : Bool) → is_idle t o (used_in_code c) ≡ q → (IsCopy t o → ⊥) → BoundAct IsNeeded (lean_act o) → BoundCode IsNeeded c → BoundCode IsNeeded (unless q (bind t (lean_act o)) c)
 unfolding BoundAct
 bind_needed t o c true e n f h = h
 bind_needed t o c false e n f h = (
   record {
     no_copy = λ i. n (was_copy t o i);
-    not_idle = λ s u. not_both (is_idle t o (code_uses c)) ((λ i. was_still o s i && none_used c (target_vars t) u i)) e;
+    not_idle = λ s u. not_both (is_idle t o (used_in_code c)) ((λ i. was_still o s i && none_used c (target_vars t) u i)) e;
   },
   f,
   h,
@@ -279,7 +279,7 @@ mutual
   code_needed : (b : Code) → BoundCode NoCopy b → BoundCode IsNeeded (lean_code b)
   code_needed (end o) h = act_needed o h
   code_needed (store cs b) h = code_needed b h
-  code_needed (bind t o b) h = bind_needed t o (lean_code b) (is_idle t o (code_uses (lean_code b))) refl h.0 (act_needed o h.1) (code_needed b h.2)
+  code_needed (bind t o b) h = bind_needed t o (lean_code b) (is_idle t o (used_in_code (lean_code b))) refl h.0 (act_needed o h.1) (code_needed b h.2)
 
   arms_needed : (as' : Arms) → BoundArms NoCopy as' → BoundArms IsNeeded (lean_arms as')
   arms_needed no_arm h = tt
@@ -317,7 +317,7 @@ mutual
   code_counts : (y : ℕ) (b : Code) → times y (code_vars (lean_code b)) ≤ times y (code_vars b)
   code_counts y (end o) = act_counts y o
   code_counts y (store cs b) = times_fewer y (cell_vars cs) (code_vars (lean_code b)) (cell_vars cs) (code_vars b) (omega arith) (code_counts y b)
-  code_counts y (bind t o b) = bind_counts y t o (lean_act o) b (lean_code b) (is_idle t o (code_uses (lean_code b))) (act_counts y o) (code_counts y b)
+  code_counts y (bind t o b) = bind_counts y t o (lean_act o) b (lean_code b) (is_idle t o (used_in_code (lean_code b))) (act_counts y o) (code_counts y b)
 
   arms_counts : (y : ℕ) (as' : Arms) → times y (arms_vars (lean_arms as')) ≤ times y (arms_vars as')
   arms_counts y no_arm = omega arith
@@ -371,7 +371,7 @@ mutual
   code_sites_stay : (b : Code) → code_sites (lean_code b) ≡ code_sites b
   code_sites_stay (end o) = act_sites_stay o
   code_sites_stay (store cs b) = ap (λ l. map (λ c. c.site.0) cs ++ l) (code_sites_stay b)
-  code_sites_stay (bind t o b) = bind_sites t o (lean_act o) b (lean_code b) (code_uses (lean_code b)) (is_idle t o (code_uses (lean_code b))) refl (act_sites_stay o) (code_sites_stay b)
+  code_sites_stay (bind t o b) = bind_sites t o (lean_act o) b (lean_code b) (used_in_code (lean_code b)) (is_idle t o (used_in_code (lean_code b))) refl (act_sites_stay o) (code_sites_stay b)
 
   arms_sites_stay : (as' : Arms) → arms_sites (lean_arms as') ≡ arms_sites as'
   arms_sites_stay no_arm = refl
@@ -421,71 +421,71 @@ module _ (g : Program) (procs : List Procedure) (same_count : length procs ≡ l
     abbrev Carries : List ℕ → Type 0
     Carries = Covers (Carried scope scope')
 
-    word_formed : (a : W.Word) → Carries (word_uses a) → WordFormed g scope a → WordFormed there (as_scope scope') a
+    word_formed : (a : W.Word) → Carries (used_in_word a) → WordFormed g scope a → WordFormed there (as_scope scope') a
     word_formed (Var x) c f = c x.0 (among_first x.0 []) f
     word_formed (Lit k) c f = f
     word_formed (Global i) c f = f
     word_formed (TagWord t) c f = f
 
-    words_formed : (ws : List W.Word) → Carries (words_uses ws) → AllOf (WordFormed g scope) ws → AllOf (WordFormed there (as_scope scope')) ws
+    words_formed : (ws : List W.Word) → Carries (used_in_words ws) → AllOf (WordFormed g scope) ws → AllOf (WordFormed there (as_scope scope')) ws
     words_formed [] c f = tt
-    words_formed (a ∷ ws) c f = (word_formed a (covers_left (Carried scope scope') (word_uses a) (words_uses ws) c) f.0, words_formed ws (covers_right (Carried scope scope') (word_uses a) (words_uses ws) c) f.1)
+    words_formed (a ∷ ws) c f = (word_formed a (covers_left (Carried scope scope') (used_in_word a) (used_in_words ws) c) f.0, words_formed ws (covers_right (Carried scope scope') (used_in_word a) (used_in_words ws) c) f.1)
 
-    val_formed : (v : V.Val) → NoNodeVar v → Carries (val_uses v) → ValFormed g scope v → ValFormed there (as_scope scope') v
+    val_formed : (v : V.Val) → NoNodeVar v → Carries (used_in_val v) → ValFormed g scope v → ValFormed there (as_scope scope') v
     val_formed (NodeVar x) n c f = absurd n
     val_formed (Node t ws) n c f = (f.0, words_formed ws c f.1)
     val_formed (Vector ws) n c f = words_formed ws c f
     val_formed (One a) n c f = word_formed a c f
 
-    cells_formed : (cs : List Cell) → AllOf (λ c. NoNodeVar c.val) cs → Carries (cells_uses cs) → AllOf (CellFormed g scope) cs → AllOf (CellFormed there (as_scope scope')) cs
+    cells_formed : (cs : List Cell) → AllOf (λ c. NoNodeVar c.val) cs → Carries (used_in_cells cs) → AllOf (CellFormed g scope) cs → AllOf (CellFormed there (as_scope scope')) cs
     cells_formed [] n c f = tt
-    cells_formed (x ∷ cs) n c f = (val_formed x.val n.0 (covers_left (Carried scope scope') (val_uses x.val) (cells_uses cs) c) f.0, cells_formed cs n.1 (covers_right (Carried scope scope') (val_uses x.val) (cells_uses cs) c) f.1)
+    cells_formed (x ∷ cs) n c f = (val_formed x.val n.0 (covers_left (Carried scope scope') (used_in_val x.val) (used_in_cells cs) c) f.0, cells_formed cs n.1 (covers_right (Carried scope scope') (used_in_val x.val) (used_in_cells cs) c) f.1)
 
   bind_formed : (scope : Scope) (scope' : List ℕ) (t : Target) (o : Act) (b : Code) → NoNodeTarget t → CodeFormed g (with_target t scope) b
-      → (Covers (Carried scope scope') (act_uses (lean_act o)) → ActFormed there (as_scope scope') (lean_act o))
-      → ((s : Scope) (s' : List ℕ) → Covers (Carried s s') (code_uses (lean_code b)) → CodeFormed g s b → CodeFormed there (as_scope s') (lean_code b))
-      → (q : Bool) → is_idle t o (code_uses (lean_code b)) ≡ q → Covers (Carried scope scope') (code_uses (unless q (bind t (lean_act o)) (lean_code b))) → CodeFormed there (as_scope scope') (unless q (bind t (lean_act o)) (lean_code b))
-  unfolding act_uses ActFormed
+      → (Covers (Carried scope scope') (used_in_act (lean_act o)) → ActFormed there (as_scope scope') (lean_act o))
+      → ((s : Scope) (s' : List ℕ) → Covers (Carried s s') (used_in_code (lean_code b)) → CodeFormed g s b → CodeFormed there (as_scope s') (lean_code b))
+      → (q : Bool) → is_idle t o (used_in_code (lean_code b)) ≡ q → Covers (Carried scope scope') (used_in_code (unless q (bind t (lean_act o)) (lean_code b))) → CodeFormed there (as_scope scope') (unless q (bind t (lean_act o)) (lean_code b))
+  unfolding used_in_act ActFormed
   bind_formed scope scope' t o b nt fb f kk false e cov = (
-    f (covers_right (Carried scope scope') (code_uses (lean_code b)) (act_uses (lean_act o)) cov),
+    f (covers_right (Carried scope scope') (used_in_code (lean_code b)) (used_in_act (lean_act o)) cov),
     subst (λ s. CodeFormed there s (lean_code b)) (sym (target_scope t (as_scope scope') nt))
-        (kk (with_words (target_vars t) scope) (target_vars t ++ scope') (λ x h. carried_more (target_vars t) scope scope' x (covers_left (Carried scope scope') (code_uses (lean_code b)) (act_uses (lean_act o)) cov x h)) (subst (λ s. CodeFormed g s b) (target_scope t scope nt) fb)),
+        (kk (with_words (target_vars t) scope) (target_vars t ++ scope') (λ x h. carried_more (target_vars t) scope scope' x (covers_left (Carried scope scope') (used_in_code (lean_code b)) (used_in_act (lean_act o)) cov x h)) (subst (λ s. CodeFormed g s b) (target_scope t scope nt) fb)),
   )
   bind_formed scope scope' t o b nt fb f kk true e cov =
-      kk (with_words (target_vars t) scope) scope' (carried_past (target_vars t) (code_uses (lean_code b)) scope scope' (and_right (is_still o) (none_stands (target_vars t) (code_uses (lean_code b))) e) cov) (subst (λ s. CodeFormed g s b) (target_scope t scope nt) fb)
+      kk (with_words (target_vars t) scope) scope' (carried_past (target_vars t) (used_in_code (lean_code b)) scope scope' (and_right (is_still o) (none_stands (target_vars t) (used_in_code (lean_code b))) e) cov) (subst (λ s. CodeFormed g s b) (target_scope t scope nt) fb)
 
   mutual
-    unfolding lean_act act_uses ActFormed EachAct
+    unfolding lean_act used_in_act ActFormed EachAct
 
-    act_formed : (o : Act) (scope : Scope) (scope' : List ℕ) → Covers (Carried scope scope') (act_uses (lean_act o)) → ActFormed g scope o → EachAct vectorised_kind o → ActFormed there (as_scope scope') (lean_act o)
-    act_formed (case v as') scope scope' c f n = (val_formed scope scope' v n.1 (covers_left (Carried scope scope') (val_uses v) (arms_uses (lean_arms as')) c) f.0, arms_formed as' scope scope' (covers_right (Carried scope scope') (val_uses v) (arms_uses (lean_arms as')) c) f.1 n.2)
+    act_formed : (o : Act) (scope : Scope) (scope' : List ℕ) → Covers (Carried scope scope') (used_in_act (lean_act o)) → ActFormed g scope o → EachAct vectorised_kind o → ActFormed there (as_scope scope') (lean_act o)
+    act_formed (case v as') scope scope' c f n = (val_formed scope scope' v n.1 (covers_left (Carried scope scope') (used_in_val v) (used_in_arms (lean_arms as')) c) f.0, arms_formed as' scope scope' (covers_right (Carried scope scope') (used_in_val v) (used_in_arms (lean_arms as')) c) f.1 n.2)
     act_formed (nested b) scope scope' c f n = code_formed b scope scope' c f n.1
     act_formed (unit v) scope scope' c f n = val_formed scope scope' v n.1 c f
     act_formed (fetch a) scope scope' c f n = word_formed scope scope' a c f
     act_formed (fetch_word a i) scope scope' c f n = word_formed scope scope' a c f
-    act_formed (update a v) scope scope' c f n = (word_formed scope scope' a (covers_left (Carried scope scope') (word_uses a) (val_uses v) c) f.0, val_formed scope scope' v n.1 (covers_right (Carried scope scope') (word_uses a) (val_uses v) c) f.1)
+    act_formed (update a v) scope scope' c f n = (word_formed scope scope' a (covers_left (Carried scope scope') (used_in_word a) (used_in_val v) c) f.0, val_formed scope scope' v n.1 (covers_right (Carried scope scope') (used_in_word a) (used_in_val v) c) f.1)
     act_formed (eval a) scope scope' c f n = word_formed scope scope' a c f
-    act_formed (apply v a) scope scope' c f n = (val_formed scope scope' v n.1 (covers_left (Carried scope scope') (val_uses v) (word_uses a) c) f.0, word_formed scope scope' a (covers_right (Carried scope scope') (val_uses v) (word_uses a) c) f.1)
+    act_formed (apply v a) scope scope' c f n = (val_formed scope scope' v n.1 (covers_left (Carried scope scope') (used_in_val v) (used_in_word a) c) f.0, word_formed scope scope' a (covers_right (Carried scope scope') (used_in_val v) (used_in_word a) c) f.1)
     act_formed (call p ws) scope scope' c f n = (known_again g procs same_count p f.0, words_formed scope scope' ws c f.1)
-    act_formed (prim p a b) scope scope' c f n = (word_formed scope scope' a (covers_left (Carried scope scope') (word_uses a) (word_uses b) c) f.0, word_formed scope scope' b (covers_right (Carried scope scope') (word_uses a) (word_uses b) c) f.1)
+    act_formed (prim p a b) scope scope' c f n = (word_formed scope scope' a (covers_left (Carried scope scope') (used_in_word a) (used_in_word b) c) f.0, word_formed scope scope' b (covers_right (Carried scope scope') (used_in_word a) (used_in_word b) c) f.1)
     act_formed read scope scope' c f n = tt
     act_formed (write a) scope scope' c f n = word_formed scope scope' a c f
     act_formed fail scope scope' c f n = tt
 
-    code_formed : (b : Code) (scope : Scope) (scope' : List ℕ) → Covers (Carried scope scope') (code_uses (lean_code b)) → CodeFormed g scope b → EachCode vectorised_kind b → CodeFormed there (as_scope scope') (lean_code b)
+    code_formed : (b : Code) (scope : Scope) (scope' : List ℕ) → Covers (Carried scope scope') (used_in_code (lean_code b)) → CodeFormed g scope b → EachCode vectorised_kind b → CodeFormed there (as_scope scope') (lean_code b)
     code_formed (end o) scope scope' c f n = act_formed o scope scope' c f n
     code_formed (store cs b) scope scope' c f n = (
-      cells_formed (with_words (cell_vars cs) scope) (cell_vars cs ++ scope') cs n.0 (λ x h. carried_more (cell_vars cs) scope scope' x (covers_right (Carried scope scope') (code_uses (lean_code b)) (cells_uses cs) c x h)) f.0,
-      code_formed b (with_words (cell_vars cs) scope) (cell_vars cs ++ scope') (λ x h. carried_more (cell_vars cs) scope scope' x (covers_left (Carried scope scope') (code_uses (lean_code b)) (cells_uses cs) c x h)) f.1 n.1,
+      cells_formed (with_words (cell_vars cs) scope) (cell_vars cs ++ scope') cs n.0 (λ x h. carried_more (cell_vars cs) scope scope' x (covers_right (Carried scope scope') (used_in_code (lean_code b)) (used_in_cells cs) c x h)) f.0,
+      code_formed b (with_words (cell_vars cs) scope) (cell_vars cs ++ scope') (λ x h. carried_more (cell_vars cs) scope scope' x (covers_left (Carried scope scope') (used_in_code (lean_code b)) (used_in_cells cs) c x h)) f.1 n.1,
     )
-    code_formed (bind t o b) scope scope' c f n = bind_formed scope scope' t o b n.0 f.1 (λ d. act_formed o scope scope' d f.0 n.1) (λ s s' d fb. code_formed b s s' d fb n.2) (is_idle t o (code_uses (lean_code b))) refl c
+    code_formed (bind t o b) scope scope' c f n = bind_formed scope scope' t o b n.0 f.1 (λ d. act_formed o scope scope' d f.0 n.1) (λ s s' d fb. code_formed b s s' d fb n.2) (is_idle t o (used_in_code (lean_code b))) refl c
 
-    arms_formed : (as' : Arms) (scope : Scope) (scope' : List ℕ) → Covers (Carried scope scope') (arms_uses (lean_arms as')) → ArmsFormed g scope as' → EachArms vectorised_kind as' → ArmsFormed there (as_scope scope') (lean_arms as')
+    arms_formed : (as' : Arms) (scope : Scope) (scope' : List ℕ) → Covers (Carried scope scope') (used_in_arms (lean_arms as')) → ArmsFormed g scope as' → EachArms vectorised_kind as' → ArmsFormed there (as_scope scope') (lean_arms as')
     arms_formed no_arm scope scope' c f n = tt
     arms_formed (arm s b as') scope scope' c f n = (
       shape_stays g procs same_count s f.0,
-      code_formed b (with_words (shape_vars s) scope) (shape_vars s ++ scope') (λ x h. carried_more (shape_vars s) scope scope' x (covers_left (Carried scope scope') (code_uses (lean_code b)) (arms_uses (lean_arms as')) c x h)) f.1 n.1,
-      arms_formed as' scope scope' (covers_right (Carried scope scope') (code_uses (lean_code b)) (arms_uses (lean_arms as')) c) f.2 n.2,
+      code_formed b (with_words (shape_vars s) scope) (shape_vars s ++ scope') (λ x h. carried_more (shape_vars s) scope scope' x (covers_left (Carried scope scope') (used_in_code (lean_code b)) (used_in_arms (lean_arms as')) c x h)) f.1 n.1,
+      arms_formed as' scope scope' (covers_right (Carried scope scope') (used_in_code (lean_code b)) (used_in_arms (lean_arms as')) c) f.2 n.2,
     )
 
   bodies_formed : (qs : List Procedure) → AllOf (ProcedureFormed g) qs → EachBody vectorised_kind qs → AllOf (ProcedureFormed there) (map (rewritten_procedure lean_code) qs)

@@ -16,7 +16,7 @@ use Rattle.grin_meaning.specs.Follows.{Same, same}
 use Rattle.grin_meaning.specs.Names.{WordOk, WordsOk, ValOk, CellsOk, ActOk}
 use Rattle.grin_meaning.specs.Rewritten.{rewritten_procedure}
 use Rattle.grin_meaning.specs.Keeps.{Keeps}
-use Rattle.grin_meaning.specs.Looking.{look, NeverMissed}
+use Rattle.grin_meaning.specs.Looking.{look, LooksNeverMissing}
 use Rattle.grin_meaning.proofs.Back.{CallsBack}
 use Rattle.grin_meaning.proofs.Beside.{no_deeper, Likewise, Seen}
 use Rattle.grin_meaning.proofs.Rules.{Plan, Setting, CallsFollow, ActFollows, CodeFollows, ArmsFollow, nested_follows, end_follows}
@@ -25,7 +25,7 @@ use Rattle.grin_meaning.proofs.Plain.{Has, IsPlain, On, having, leaf_follows, st
 use Rattle.grin_meaning.proofs.Bodies.{AnyState, every_any}
 use Rattle.grin_meaning.proofs.KeptBy.{likewise_kept, looking_kept}
 use Rattle.grin_meaning.proofs.OneSided.{left_follows}
-use Rattle.copy_prop.specs.Lean.{word_uses, words_uses, val_uses, cells_uses, act_uses, code_uses, arms_uses, is_still, is_idle, unless, lean_act, lean_code, lean_arms, lean}
+use Rattle.copy_prop.specs.Lean.{used_in_word, used_in_words, used_in_val, used_in_cells, used_in_act, used_in_code, used_in_arms, is_still, is_idle, unless, lean_act, lean_code, lean_arms, lean}
 use Rattle.copy_prop.proofs.Used.{none_absent}
 use Rattle.copy_prop.proofs.Bound.{others_stay, names_target}
 use Rattle.seq.specs.Lists.{is_among}
@@ -46,25 +46,25 @@ pub covers_right : (Ok : ℕ → Type 0) (xs ys : List ℕ) → Covers Ok (xs ++
 covers_right Ok xs ys c x h = c x (among_right x xs ys h)
 
 module _ (Ok : ℕ → Type 0) where
-  pub word_covered : (a : W.Word) → Covers Ok (word_uses a) → WordOk Ok a
+  pub word_covered : (a : W.Word) → Covers Ok (used_in_word a) → WordOk Ok a
   word_covered (Var x) c = c x.0 (among_first x.0 [])
   word_covered (Lit k) c = tt
   word_covered (Global i) c = tt
   word_covered (TagWord t) c = tt
 
-  pub words_covered : (ws : List W.Word) → Covers Ok (words_uses ws) → WordsOk Ok ws
+  pub words_covered : (ws : List W.Word) → Covers Ok (used_in_words ws) → WordsOk Ok ws
   words_covered [] c = tt
-  words_covered (a ∷ ws) c = (word_covered a (covers_left Ok (word_uses a) (words_uses ws) c), words_covered ws (covers_right Ok (word_uses a) (words_uses ws) c))
+  words_covered (a ∷ ws) c = (word_covered a (covers_left Ok (used_in_word a) (used_in_words ws) c), words_covered ws (covers_right Ok (used_in_word a) (used_in_words ws) c))
 
-  pub val_covered : (v : V.Val) → Covers Ok (val_uses v) → ValOk Ok v
+  pub val_covered : (v : V.Val) → Covers Ok (used_in_val v) → ValOk Ok v
   val_covered (NodeVar x) c = c x.0 (among_first x.0 [])
   val_covered (Node t ws) c = words_covered ws c
   val_covered (Vector ws) c = words_covered ws c
   val_covered (One a) c = word_covered a c
 
-  pub cells_covered : (cs : List Cell) → Covers Ok (cells_uses cs) → CellsOk Ok cs
+  pub cells_covered : (cs : List Cell) → Covers Ok (used_in_cells cs) → CellsOk Ok cs
   cells_covered [] c = tt
-  cells_covered (x ∷ cs) c = (val_covered x.val (covers_left Ok (val_uses x.val) (cells_uses cs) c), cells_covered cs (covers_right Ok (val_uses x.val) (cells_uses cs) c))
+  cells_covered (x ∷ cs) c = (val_covered x.val (covers_left Ok (used_in_val x.val) (used_in_cells cs) c), cells_covered cs (covers_right Ok (used_in_val x.val) (used_in_cells cs) c))
 
 -- ---- operations stay what they are
 
@@ -142,46 +142,46 @@ module _ (g : Program) where
     ManyArms Ok = ArmsFollow it (On (λ heap. Has Ok)) Same
 
     -- a statement that stays, or is left out
-    bind_goes : (Ok : ℕ → Type 0) (t : Target) (o : Act) (b : Code) → ((Ok' : ℕ → Type 0) → Covers Ok' (act_uses (lean_act o)) → Acts Ok' o (lean_act o)) → ((Ok' : ℕ → Type 0) → Covers Ok' (code_uses (lean_code b)) → Codes Ok' b (lean_code b))
-        → (q : Bool) → is_idle t o (code_uses (lean_code b)) ≡ q → Covers Ok (code_uses (unless q (bind t (lean_act o)) (lean_code b))) → Codes Ok (bind t o b) (unless q (bind t (lean_act o)) (lean_code b))
-    unfolding act_uses
+    bind_goes : (Ok : ℕ → Type 0) (t : Target) (o : Act) (b : Code) → ((Ok' : ℕ → Type 0) → Covers Ok' (used_in_act (lean_act o)) → Acts Ok' o (lean_act o)) → ((Ok' : ℕ → Type 0) → Covers Ok' (used_in_code (lean_code b)) → Codes Ok' b (lean_code b))
+        → (q : Bool) → is_idle t o (used_in_code (lean_code b)) ≡ q → Covers Ok (used_in_code (unless q (bind t (lean_act o)) (lean_code b))) → Codes Ok (bind t o b) (unless q (bind t (lean_act o)) (lean_code b))
+    unfolding used_in_act
     bind_goes Ok t o b f k false e cov = bind_same it plain (having Ok) t o (lean_act o) b (lean_code b)
         (λ v seen l. bound_well g t o (lean_act o) v (still_has_block o) (still_fetch o) ∙ seen l)
-        (f Ok (covers_right Ok (code_uses (lean_code b)) (act_uses (lean_act o)) cov)) (k Ok (covers_left Ok (code_uses (lean_code b)) (act_uses (lean_act o)) cov))
+        (f Ok (covers_right Ok (used_in_code (lean_code b)) (used_in_act (lean_act o)) cov)) (k Ok (covers_left Ok (used_in_code (lean_code b)) (used_in_act (lean_act o)) cov))
     bind_goes Ok t o b f k true e cov =
-        left_follows it {R' = λ heap. Has (λ x. is_among x (code_uses (lean_code b)) ≡ true)} t o b (lean_code b) (still_is o (and_left (is_still o) _ e)) (k (λ x. is_among x (code_uses (lean_code b)) ≡ true) (λ x h. h))
+        left_follows it {R' = λ heap. Has (λ x. is_among x (used_in_code (lean_code b)) ≡ true)} t o b (lean_code b) (still_is o (and_left (is_still o) _ e)) (k (λ x. is_among x (used_in_code (lean_code b)) ≡ true) (λ x h. h))
         (λ x v bs gave seen binds known y u used has. x.related y u (cov y used) (sym (others_stay bs x.env y (here y used bs (is_among y (keys bs)) refl (names_target g t v bs binds))) ∙ has))
       where
-        here : (y : ℕ) → is_among y (code_uses (lean_code b)) ≡ true → (bs : List Binding) (z : Bool) → is_among y (keys bs) ≡ z → keys bs ≡ target_vars t → is_among y (keys bs) ≡ false
+        here : (y : ℕ) → is_among y (used_in_code (lean_code b)) ≡ true → (bs : List Binding) (z : Bool) → is_among y (keys bs) ≡ z → keys bs ≡ target_vars t → is_among y (keys bs) ≡ false
         here y used bs false s n = s
-        here y used bs true s n = absurd (not_both _ used (none_absent y (target_vars t) (code_uses (lean_code b)) (and_right (is_still o) _ e) (ap (is_among y) (sym n) ∙ s)))
+        here y used bs true s n = absurd (not_both _ used (none_absent y (target_vars t) (used_in_code (lean_code b)) (and_right (is_still o) _ e) (ap (is_among y) (sym n) ∙ s)))
 
     mutual
-      unfolding lean_act act_uses ActOk
+      unfolding lean_act used_in_act ActOk
 
-      act_goes : (o : Act) (Ok : ℕ → Type 0) → Covers Ok (act_uses (lean_act o)) → Acts Ok o (lean_act o)
-      act_goes (case v as') Ok cov = case_same it plain (having Ok) v as' (lean_arms as') (val_covered Ok v (covers_left Ok (val_uses v) (arms_uses (lean_arms as')) cov)) (arms_goes as' Ok (covers_right Ok (val_uses v) (arms_uses (lean_arms as')) cov))
+      act_goes : (o : Act) (Ok : ℕ → Type 0) → Covers Ok (used_in_act (lean_act o)) → Acts Ok o (lean_act o)
+      act_goes (case v as') Ok cov = case_same it plain (having Ok) v as' (lean_arms as') (val_covered Ok v (covers_left Ok (used_in_val v) (used_in_arms (lean_arms as')) cov)) (arms_goes as' Ok (covers_right Ok (used_in_val v) (used_in_arms (lean_arms as')) cov))
       act_goes (nested b) Ok cov = nested_follows it b (lean_code b) (code_goes b Ok cov)
       act_goes (unit v) Ok cov = leaf_follows it plain (having Ok) (unit v) tt (val_covered Ok v cov)
       act_goes (fetch a) Ok cov = leaf_follows it plain (having Ok) (fetch a) tt (word_covered Ok a cov)
       act_goes (fetch_word a i) Ok cov = leaf_follows it plain (having Ok) (fetch_word a i) tt (word_covered Ok a cov)
-      act_goes (update a v) Ok cov = leaf_follows it plain (having Ok) (update a v) tt (word_covered Ok a (covers_left Ok (word_uses a) (val_uses v) cov), val_covered Ok v (covers_right Ok (word_uses a) (val_uses v) cov))
+      act_goes (update a v) Ok cov = leaf_follows it plain (having Ok) (update a v) tt (word_covered Ok a (covers_left Ok (used_in_word a) (used_in_val v) cov), val_covered Ok v (covers_right Ok (used_in_word a) (used_in_val v) cov))
       act_goes (eval a) Ok cov = leaf_follows it plain (having Ok) (eval a) tt (word_covered Ok a cov)
-      act_goes (apply v a) Ok cov = leaf_follows it plain (having Ok) (apply v a) tt (val_covered Ok v (covers_left Ok (val_uses v) (word_uses a) cov), word_covered Ok a (covers_right Ok (val_uses v) (word_uses a) cov))
+      act_goes (apply v a) Ok cov = leaf_follows it plain (having Ok) (apply v a) tt (val_covered Ok v (covers_left Ok (used_in_val v) (used_in_word a) cov), word_covered Ok a (covers_right Ok (used_in_val v) (used_in_word a) cov))
       act_goes (call f ws) Ok cov = leaf_follows it plain (having Ok) (call f ws) tt (words_covered Ok ws cov)
-      act_goes (prim p a b) Ok cov = leaf_follows it plain (having Ok) (prim p a b) tt (word_covered Ok a (covers_left Ok (word_uses a) (word_uses b) cov), word_covered Ok b (covers_right Ok (word_uses a) (word_uses b) cov))
+      act_goes (prim p a b) Ok cov = leaf_follows it plain (having Ok) (prim p a b) tt (word_covered Ok a (covers_left Ok (used_in_word a) (used_in_word b) cov), word_covered Ok b (covers_right Ok (used_in_word a) (used_in_word b) cov))
       act_goes read Ok cov = leaf_follows it plain (having Ok) read tt tt
       act_goes (write a) Ok cov = leaf_follows it plain (having Ok) (write a) tt (word_covered Ok a cov)
       act_goes fail Ok cov = leaf_follows it plain (having Ok) fail tt tt
 
-      code_goes : (b : Code) (Ok : ℕ → Type 0) → Covers Ok (code_uses (lean_code b)) → Codes Ok b (lean_code b)
+      code_goes : (b : Code) (Ok : ℕ → Type 0) → Covers Ok (used_in_code (lean_code b)) → Codes Ok b (lean_code b)
       code_goes (end o) Ok cov = end_follows it o (lean_act o) (act_goes o Ok cov)
-      code_goes (store cs b) Ok cov = store_same it plain (having Ok) cs b (lean_code b) (cells_covered Ok cs (covers_right Ok (code_uses (lean_code b)) (cells_uses cs) cov)) (code_goes b Ok (covers_left Ok (code_uses (lean_code b)) (cells_uses cs) cov))
-      code_goes (bind t o b) Ok cov = bind_goes Ok t o b (λ Ok' cov'. act_goes o Ok' cov') (λ Ok' cov'. code_goes b Ok' cov') (is_idle t o (code_uses (lean_code b))) refl cov
+      code_goes (store cs b) Ok cov = store_same it plain (having Ok) cs b (lean_code b) (cells_covered Ok cs (covers_right Ok (used_in_code (lean_code b)) (used_in_cells cs) cov)) (code_goes b Ok (covers_left Ok (used_in_code (lean_code b)) (used_in_cells cs) cov))
+      code_goes (bind t o b) Ok cov = bind_goes Ok t o b (λ Ok' cov'. act_goes o Ok' cov') (λ Ok' cov'. code_goes b Ok' cov') (is_idle t o (used_in_code (lean_code b))) refl cov
 
-      arms_goes : (as' : Arms) (Ok : ℕ → Type 0) → Covers Ok (arms_uses (lean_arms as')) → ManyArms Ok as' (lean_arms as')
+      arms_goes : (as' : Arms) (Ok : ℕ → Type 0) → Covers Ok (used_in_arms (lean_arms as')) → ManyArms Ok as' (lean_arms as')
       arms_goes no_arm Ok cov = no_arm_same it plain (having Ok)
-      arms_goes (arm s b as') Ok cov = arm_same it plain (having Ok) s b (lean_code b) as' (lean_arms as') (code_goes b Ok (covers_left Ok (code_uses (lean_code b)) (arms_uses (lean_arms as')) cov)) (arms_goes as' Ok (covers_right Ok (code_uses (lean_code b)) (arms_uses (lean_arms as')) cov))
+      arms_goes (arm s b as') Ok cov = arm_same it plain (having Ok) s b (lean_code b) as' (lean_arms as') (code_goes b Ok (covers_left Ok (used_in_code (lean_code b)) (used_in_arms (lean_arms as')) cov)) (arms_goes as' Ok (covers_right Ok (used_in_code (lean_code b)) (used_in_arms (lean_arms as')) cov))
 
     abbrev Anything : ℕ → Type 0
     Anything x = Unit {0}
@@ -206,5 +206,5 @@ module _ (g : Program) where
   goes_likewise : (i : List ℕ) (n : ℕ) → Likewise no_deeper Same (look g i n) (look (lean g) i n)
   goes_likewise i n = run_follows plan (λ c c' cb cf. bodies_go c c' cb cf 0 g.procs) i n same same (every_any _)
 
-  pub lean_kept : NeverMissed g → NeverMissed (lean g) × Keeps g (lean g)
+  pub lean_kept : LooksNeverMissing g → LooksNeverMissing (lean g) × Keeps g (lean g)
   lean_kept never = looking_kept g (lean g) never (λ i n. likewise_kept no_deeper Same (look g i n) (look (lean g) i n) (goes_likewise i n))

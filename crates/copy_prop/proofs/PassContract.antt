@@ -1,28 +1,28 @@
 -- That the pass meets its contract: the shape of what it makes, and that this keeps the program.
 use Rattle.std.proofs.Common.{◌≡◌, ◌+◌, [], ◌∙◌, sym, ap, subst}
 use Rattle.grin_syntax.specs.Tree.{Program}
-use Rattle.grin_syntax.specs.SameOutside.{SameOutside}
 use Rattle.grin_meaning.specs.Ready.{most_value_fields, Ready, inlined_kind, by_words_kind, vectorised_kind, narrow_kind}
 use Rattle.grin_meaning.specs.Keeps.{Keeps}
-use Rattle.grin_meaning.specs.Looking.{NeverMissed}
+use Rattle.grin_meaning.specs.Looking.{LooksNeverMissing}
 use Rattle.grin_meaning.proofs.Looked.{looking_law}
 use Rattle.grin_meaning.proofs.Kept.{keeps_again}
 use Rattle.pass_ground.specs.Vectors.{OfVectors, StaysOfVectors}
+use Rattle.pass_ground.proofs.Vectors.{stays_again}
 use Rattle.copy_prop.specs.Resolved.{resolved}
 use Rattle.copy_prop.specs.Lean.{lean}
 use Rattle.copy_prop.specs.Copied.{Copied}
 use Rattle.copy_prop.proofs.LeanSame.{lean_kept}
-use Rattle.copy_prop.proofs.LeanFormed as thin
+use Rattle.copy_prop.proofs.LeanFormed as leaned
 use Rattle.copy_prop.proofs.ResolvedSame.{resolved_kept}
 use Rattle.copy_prop.proofs.ResolvedFormed as plain
 
-never_missed : (g : Program) → Ready g → NeverMissed g
+never_missed : (g : Program) → Ready g → LooksNeverMissing g
 never_missed g r = (looking_law g r.inlined).sees r.never_missing r.runs
 
 -- ---- copies
 
 module _ (g : Program) (g_is : OfVectors g) where
-  resolved_both : NeverMissed (resolved g) × Keeps g (resolved g)
+  resolved_both : LooksNeverMissing (resolved g) × Keeps g (resolved g)
   resolved_both = resolved_kept g g_is.formed g_is.ready.inlined g_is.vectorised (never_missed g g_is.ready)
 
   resolved_ready : Ready (resolved g)
@@ -52,16 +52,16 @@ module _ (g : Program) (g_is : OfVectors g) where
 -- ---- idle statements
 
 module _ (g : Program) (g_is : OfVectors g) where
-  lean_both : NeverMissed (lean g) × Keeps g (lean g)
+  lean_both : LooksNeverMissing (lean g) × Keeps g (lean g)
   lean_both = lean_kept g (never_missed g g_is.ready)
 
   lean_ready : Ready (lean g)
   lean_ready =
-      let inl = thin.procs_each inlined_kind thin.inlined_stays g.procs g_is.ready.inlined in
+      let inl = leaned.procs_each inlined_kind leaned.inlined_stays g.procs g_is.ready.inlined in
       record {
         inlined = inl;
-        few_params = thin.procs_params 16 g.procs g_is.ready.few_params;
-        few_results = thin.procs_narrow (1 + most_value_fields g.tags) 13 g.procs g_is.ready.few_results;
+        few_params = leaned.procs_params 16 g.procs g_is.ready.few_params;
+        few_results = leaned.procs_narrow (1 + most_value_fields g.tags) 13 g.procs g_is.ready.few_results;
         few_fields = g_is.ready.few_fields;
         never_missing = (looking_law (lean g) inl).never_missing lean_both.0;
         runs = (looking_law (lean g) inl).runs_well lean_both.0;
@@ -70,40 +70,23 @@ module _ (g : Program) (g_is : OfVectors g) where
   lean_stays : StaysOfVectors g (lean g)
   lean_stays = record {
     of_vectors = record {
-      formed = thin.lean_formed g g_is.formed g_is.vectorised;
+      formed = leaned.lean_formed g g_is.formed g_is.vectorised;
       ready = lean_ready;
-      vectorised = thin.procs_each vectorised_kind (λ o h. tt) g.procs g_is.vectorised;
+      vectorised = leaned.procs_each vectorised_kind (λ o h. tt) g.procs g_is.vectorised;
     };
-    outside = thin.lean_outside g;
-    narrow = λ most h. thin.procs_each (narrow_kind most) (λ o u. tt) g.procs h;
-    by_words = λ h. thin.procs_each by_words_kind thin.by_words_stays g.procs h;
+    outside = leaned.lean_outside g;
+    narrow = λ most h. leaned.procs_each (narrow_kind most) (λ o u. tt) g.procs h;
+    by_words = λ h. leaned.procs_each by_words_kind leaned.by_words_stays g.procs h;
   }
 
 -- ---- both
-
-pub outside_again : (g h k : Program) → SameOutside g h → SameOutside h k → SameOutside g k
-outside_again g h k a b = record {
-  same_tags = b.same_tags ∙ a.same_tags;
-  same_globals = b.same_globals ∙ a.same_globals;
-  same_start = b.same_start ∙ a.same_start;
-  same_argument = b.same_argument ∙ a.same_argument;
-  same_names = b.same_names ∙ a.same_names;
-}
-
-stays_again : (g h k : Program) → StaysOfVectors g h → StaysOfVectors h k → StaysOfVectors g k
-stays_again g h k a b = record {
-  of_vectors = b.of_vectors;
-  outside = outside_again g h k a.outside b.outside;
-  narrow = λ most n. b.narrow most (a.narrow most n);
-  by_words = λ n. b.by_words (a.by_words n);
-}
 
 copied_program : (g : Program) → OfVectors g → Copied g (lean (resolved g))
 copied_program g g_is =
     let first : StaysOfVectors g (resolved g) = resolved_stays g g_is in
     record {
       stays = stays_again g (resolved g) (lean (resolved g)) first (lean_stays (resolved g) first.of_vectors);
-      needed = thin.procs_needed (resolved g).procs (plain.procs_free [] g.procs);
+      needed = leaned.procs_needed (resolved g).procs (plain.procs_free [] g.procs);
     }
 
 copied_keeps : (g : Program) → OfVectors g → Keeps g (lean (resolved g))

@@ -18,7 +18,7 @@ use Rattle.grin_meaning.specs.Checks.{has_block, is_fetch, is_given, all_fill, i
 use Rattle.grin_meaning.specs.Follows.{Same, same}
 use Rattle.grin_meaning.specs.Ready.{NoNodeTarget, NoNodeVar, BindsNothing, EachAct, EachCode, EachArms, IsInlined, IsVectorised, EachBody, inlined_kind, vectorised_kind}
 use Rattle.grin_meaning.specs.Keeps.{Keeps}
-use Rattle.grin_meaning.specs.Looking.{look, NeverMissed}
+use Rattle.grin_meaning.specs.Looking.{look, LooksNeverMissing}
 use Rattle.grin_meaning.proofs.Back.{CallsBack}
 use Rattle.grin_meaning.proofs.Beside.{no_deeper, Likewise, Seen}
 use Rattle.grin_meaning.proofs.Rules.{Relation, Plan, Here, Setting, CallsFollow, ActFollows, CodeFollows, ArmsFollow, BindsToo, FitsToo, CellToo, unit_follows, fetch_follows, fetch_word_follows, update_follows, call_follows, prim_follows, read_follows, write_follows, fail_follows, nested_follows, end_follows, store_follows, bind_follows, case_follows, no_arm_follows, arm_follows}
@@ -355,5 +355,5 @@ module _ (g : Program) (formed : Formed g) (inlined : IsInlined g) (vectorised :
   goes_likewise : (i : List ℕ) (n : ℕ) → Likewise no_deeper Same (look g i n) (look (resolved g) i n)
   goes_likewise i n = run_follows plan (λ c c' cb cf. bodies_go c c' cb cf 0 [] g.procs formed.procedures inlined vectorised formed.variables_once (λ y j. refl)) i n same same (every_any _)
 
-  pub resolved_kept : NeverMissed g → NeverMissed (resolved g) × Keeps g (resolved g)
+  pub resolved_kept : LooksNeverMissing g → LooksNeverMissing (resolved g) × Keeps g (resolved g)
   resolved_kept never = looking_kept g (resolved g) never (λ i n. likewise_kept no_deeper Same (look g i n) (look (resolved g) i n) (goes_likewise i n))

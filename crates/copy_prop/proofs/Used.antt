@@ -10,12 +10,10 @@ use Rattle.grin_syntax.specs.declared.program.Cell.{Cell}
 use Rattle.grin_syntax.specs.declared.program.Word as W
 use Rattle.grin_syntax.specs.Binders.{numbers_of}
 use Rattle.grin_syntax.specs.Formed.{InScope}
-use Rattle.copy_prop.specs.Lean.{none_stands, word_uses, words_uses, val_uses, cells_uses}
+use Rattle.copy_prop.specs.Lean.{none_stands, used_in_word, used_in_words, used_in_val, used_in_cells}
 use Rattle.copy_prop.specs.Latest.{Latest}
 use Rattle.seq.specs.Lists.{times, is_among}
 use Rattle.seq.proofs.Counted.{counts, among_append}
-
--- ---- tests
 
 -- ---- in a list
 
@@ -27,9 +25,7 @@ stands_in x (y ∷ ys) h = go (nat_eq x y) h (stands_in x ys)
     go true h k = omega arith
     go false h k = let i : InScope ys x = k h in omega (arith, i)
 
--- what is in scope in two lists is so in one of them, and the other way round
-
--- none of the first is_among in the second
+-- where none of the first stands in the second
 pub none_absent : (x : ℕ) (xs ys : List ℕ) → none_stands xs ys ≡ true → is_among x xs ≡ true → is_among x ys ≡ false
 none_absent x [] ys h s = cc
 none_absent x (y ∷ xs) ys h s = go (nat_eq x y) refl s (none_absent x xs ys (and_right (not (is_among y ys)) (none_stands xs ys) h))
@@ -58,23 +54,23 @@ drop_front [] ys (suc n) h = absurd (omega (arith, h))
 drop_front (x ∷ m) ys zero h = absurd (omega (arith, h))
 drop_front (x ∷ m) ys (suc n) h = drop_front m ys n (omega (arith, h))
 
-pub words_push : (ws : List W.Word) (a : W.Word) → words_uses (ws ++ a ∷ []) ≡ words_uses ws ++ word_uses a
-words_push [] a = append_nil (word_uses a)
-words_push (b ∷ ws) a = ap (λ l. word_uses b ++ l) (words_push ws a) ∙ sym (append_again (word_uses b) (words_uses ws) (word_uses a))
+pub words_push : (ws : List W.Word) (a : W.Word) → used_in_words (ws ++ a ∷ []) ≡ used_in_words ws ++ used_in_word a
+words_push [] a = append_nil (used_in_word a)
+words_push (b ∷ ws) a = ap (λ l. used_in_word b ++ l) (words_push ws a) ∙ sym (append_again (used_in_word b) (used_in_words ws) (used_in_word a))
 
-pub cells_push : (cs : List Cell) (c : Cell) → cells_uses (cs ++ c ∷ []) ≡ cells_uses cs ++ val_uses c.val
-cells_push [] c = append_nil (val_uses c.val)
-cells_push (b ∷ cs) c = ap (λ l. val_uses b.val ++ l) (cells_push cs c) ∙ sym (append_again (val_uses b.val) (cells_uses cs) (val_uses c.val))
+pub cells_push : (cs : List Cell) (c : Cell) → used_in_cells (cs ++ c ∷ []) ≡ used_in_cells cs ++ used_in_val c.val
+cells_push [] c = append_nil (used_in_val c.val)
+cells_push (b ∷ cs) c = ap (λ l. used_in_val b.val ++ l) (cells_push cs c) ∙ sym (append_again (used_in_val b.val) (used_in_cells cs) (used_in_val c.val))
 
-pub words_next : (ws : List W.Word) (i : ℕ) (a d : W.Word) (old0 old new : List ℕ) → i < length ws → a ≡ get_or ws i d → old ≡ old0 ++ words_uses (take i ws) → new ≡ old ++ word_uses a → new ≡ old0 ++ words_uses (take (i + 1) ws)
+pub words_next : (ws : List W.Word) (i : ℕ) (a d : W.Word) (old0 old new : List ℕ) → i < length ws → a ≡ get_or ws i d → old ≡ old0 ++ used_in_words (take i ws) → new ≡ old ++ used_in_word a → new ≡ old0 ++ used_in_words (take (i + 1) ws)
 words_next ws i a d old0 old new lt e o n =
-    n ∙ (λ j. o j ++ word_uses (e j)) ∙ append_again old0 (words_uses (take i ws)) (word_uses (get_or ws i d)) ∙ ap (λ l. old0 ++ l) (sym (words_push (take i ws) (get_or ws i d)))
-    ∙ ap (λ l. old0 ++ words_uses l) (sym (take_more ws i d lt))
+    n ∙ (λ j. o j ++ used_in_word (e j)) ∙ append_again old0 (used_in_words (take i ws)) (used_in_word (get_or ws i d)) ∙ ap (λ l. old0 ++ l) (sym (words_push (take i ws) (get_or ws i d)))
+    ∙ ap (λ l. old0 ++ used_in_words l) (sym (take_more ws i d lt))
 
-pub cells_next : (cs : List Cell) (i : ℕ) (c d : Cell) (old0 old new : List ℕ) → i < length cs → c ≡ get_or cs i d → old ≡ old0 ++ cells_uses (take i cs) → new ≡ old ++ val_uses c.val → new ≡ old0 ++ cells_uses (take (i + 1) cs)
+pub cells_next : (cs : List Cell) (i : ℕ) (c d : Cell) (old0 old new : List ℕ) → i < length cs → c ≡ get_or cs i d → old ≡ old0 ++ used_in_cells (take i cs) → new ≡ old ++ used_in_val c.val → new ≡ old0 ++ used_in_cells (take (i + 1) cs)
 cells_next cs i c d old0 old new lt e o n =
-    n ∙ (λ j. o j ++ val_uses (e j).val) ∙ append_again old0 (cells_uses (take i cs)) (val_uses (get_or cs i d).val) ∙ ap (λ l. old0 ++ l) (sym (cells_push (take i cs) (get_or cs i d)))
-    ∙ ap (λ l. old0 ++ cells_uses l) (sym (take_more cs i d lt))
+    n ∙ (λ j. o j ++ used_in_val (e j).val) ∙ append_again old0 (used_in_cells (take i cs)) (used_in_val (get_or cs i d).val) ∙ ap (λ l. old0 ++ l) (sym (cells_push (take i cs) (get_or cs i d)))
+    ∙ ap (λ l. old0 ++ used_in_cells l) (sym (take_more cs i d lt))
 
 pub none_next : (xs : List VarId) (i : ℕ) (x d : VarId) (ys : List ℕ) (old new used : Bool) → i < length xs → x ≡ get_or xs i d → old ≡ none_stands (numbers_of (take i xs)) ys → used ≡ is_among x.0 ys → new ≡ (old && not used)
     → new ≡ none_stands (numbers_of (take (i + 1) xs)) ys

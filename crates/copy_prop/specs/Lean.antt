@@ -13,48 +13,54 @@ use Rattle.seq.specs.Lists.{is_among}
 
 -- ---- the variables that a piece uses, from its end
 
-abbrev pub word_uses : W.Word → List ℕ
-word_uses (Var x) = x.0 ∷ []
-word_uses _ = []
+abbrev pub used_in_word : W.Word → List ℕ
+used_in_word (Var x) = x.0 ∷ []
+used_in_word _ = []
 
-abbrev pub words_uses : List W.Word → List ℕ
-words_uses [] = []
-words_uses (a ∷ ws) = word_uses a ++ words_uses ws
+abbrev pub used_in_words : List W.Word → List ℕ
+used_in_words [] = []
+used_in_words (a ∷ ws) = used_in_word a ++ used_in_words ws
 
-abbrev pub val_uses : V.Val → List ℕ
-val_uses (NodeVar x) = x.0 ∷ []
-val_uses (Node t ws) = words_uses ws
-val_uses (Vector ws) = words_uses ws
-val_uses (One a) = word_uses a
+abbrev pub used_in_val : V.Val → List ℕ
+used_in_val (NodeVar x) = x.0 ∷ []
+used_in_val (Node t ws) = used_in_words ws
+used_in_val (Vector ws) = used_in_words ws
+used_in_val (One a) = used_in_word a
 
-abbrev pub cells_uses : List Cell → List ℕ
-cells_uses [] = []
-cells_uses (c ∷ cs) = val_uses c.val ++ cells_uses cs
+abbrev pub used_in_cells : List Cell → List ℕ
+used_in_cells [] = []
+used_in_cells (c ∷ cs) = used_in_val c.val ++ used_in_cells cs
+
+-- an operation, without the blocks inside it
+abbrev pub used_beside_blocks : Act → List ℕ
+used_beside_blocks (unit v) = used_in_val v
+used_beside_blocks (fetch a) = used_in_word a
+used_beside_blocks (fetch_word a i) = used_in_word a
+used_beside_blocks (update a v) = used_in_word a ++ used_in_val v
+used_beside_blocks (eval a) = used_in_word a
+used_beside_blocks (apply v a) = used_in_val v ++ used_in_word a
+used_beside_blocks (call f ws) = used_in_words ws
+used_beside_blocks (prim p a b) = used_in_word a ++ used_in_word b
+used_beside_blocks read = []
+used_beside_blocks (write a) = used_in_word a
+used_beside_blocks (case v as') = used_in_val v
+used_beside_blocks (nested b) = []
+used_beside_blocks fail = []
 
 unfoldable mutual
-  pub act_uses : Act → List ℕ
-  act_uses (unit v) = val_uses v
-  act_uses (fetch a) = word_uses a
-  act_uses (fetch_word a i) = word_uses a
-  act_uses (update a v) = word_uses a ++ val_uses v
-  act_uses (eval a) = word_uses a
-  act_uses (apply v a) = val_uses v ++ word_uses a
-  act_uses (call f ws) = words_uses ws
-  act_uses (prim p a b) = word_uses a ++ word_uses b
-  act_uses read = []
-  act_uses (write a) = word_uses a
-  act_uses (case v as') = val_uses v ++ arms_uses as'
-  act_uses (nested b) = code_uses b
-  act_uses fail = []
+  pub used_in_act : Act → List ℕ
+  used_in_act (case v as') = used_in_val v ++ used_in_arms as'
+  used_in_act (nested b) = used_in_code b
+  used_in_act o = used_beside_blocks o
 
-  pub code_uses : Code → List ℕ
-  code_uses (end o) = act_uses o
-  code_uses (store cs b) = code_uses b ++ cells_uses cs
-  code_uses (bind t o b) = code_uses b ++ act_uses o
+  pub used_in_code : Code → List ℕ
+  used_in_code (end o) = used_in_act o
+  used_in_code (store cs b) = used_in_code b ++ used_in_cells cs
+  used_in_code (bind t o b) = used_in_code b ++ used_in_act o
 
-  pub arms_uses : Arms → List ℕ
-  arms_uses no_arm = []
-  arms_uses (arm s b as') = code_uses b ++ arms_uses as'
+  pub used_in_arms : Arms → List ℕ
+  used_in_arms no_arm = []
+  used_in_arms (arm s b as') = used_in_code b ++ used_in_arms as'
 
 -- ---- idle statements
 
@@ -88,7 +94,7 @@ unfoldable mutual
   lean_code (end o) = end (lean_act o)
   lean_code (store cs b) = store cs (lean_code b)
   lean_code (bind t o b) =
-      unless (is_idle t o (code_uses (lean_code b))) (bind t (lean_act o)) (lean_code b)
+      unless (is_idle t o (used_in_code (lean_code b))) (bind t (lean_act o)) (lean_code b)
 
   pub lean_arms : Arms → Arms
   lean_arms no_arm = no_arm

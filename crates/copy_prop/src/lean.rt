@@ -1,103 +1,73 @@
 // Blocks without idle statements.
-#![tactic(auto, using(grin_syntax::proofs::TreeOf::tree_of), unfolding(crate::specs::Lean::lean_act, crate::specs::Lean::act_uses))]
+#![tactic(auto, using(grin_syntax::proofs::TreeOf::tree_of), unfolding(crate::specs::Lean::lean_act, crate::specs::Lean::used_in_act))]
 
 ghost use Rattle.std.specs.Prelude.{◌≡◌, ◌++◌, List, length, drop, ℕ, IfOk, OnOk};
 ghost use Rattle.grin_syntax.specs.Tree.{Code, act_of, before_of, arm_of, code_of};
 ghost use Rattle.copy_prop.specs.Resolved.{kept};
-ghost use Rattle.copy_prop.specs.Lean.{act_uses, code_uses, is_still, is_idle, lean_act, lean_code};
+ghost use Rattle.copy_prop.specs.Lean.{used_in_act, used_in_code, is_still, is_idle, lean_act, lean_code};
 
 use crate::uses::Uses;
 use grin_syntax::{Alt, Block, Op, Stmt, Target};
 use seq::Seq;
 use std::alloc::{AllocError, Global};
 
-#[cycle(thin)]
-#[tactic(auto, using(grin_syntax::proofs::TreeOf::tree_of, crate::proofs::Backward::case_leans, crate::proofs::Backward::case_used, seq::proofs::Lists::append_again, seq::proofs::Lists::append_nil), unfolding(crate::specs::Lean::lean_act, crate::specs::Lean::act_uses))]
-fn thin_op(uses: &mut Uses, alloc: Global, op: Op) -> Result<Op, AllocError>
+#[cycle(lean)]
+#[tactic(auto, using(grin_syntax::proofs::TreeOf::tree_of, crate::proofs::Backward::case_leans, crate::proofs::Backward::case_used, seq::proofs::Lists::append_again, seq::proofs::Lists::append_nil), unfolding(crate::specs::Lean::lean_act, crate::specs::Lean::used_in_act))]
+fn lean_op(uses: &mut Uses, alloc: Global, op: Op) -> Result<Op, AllocError>
     ensures tree { IfOk result (λ o. act_of o ≡ lean_act (act_of op)) }
-    ensures uses { OnOk result (uses.new ≡ uses.old ++ act_uses (lean_act (act_of op))) }
+    ensures uses { OnOk result (uses.new ≡ uses.old ++ used_in_act (lean_act (act_of op))) }
 {
+    uses.note_op(&op)?;
     match op {
-        Op::Unit(v) => {
-            uses.note_val(&v)?;
-            Ok(Op::Unit(v))
-        }
-        Op::Fetch(w) => {
-            uses.note_word(w)?;
-            Ok(Op::Fetch(w))
-        }
-        Op::FetchWord(w, i) => {
-            uses.note_word(w)?;
-            Ok(Op::FetchWord(w, i))
-        }
-        Op::Update(w, v) => {
-            uses.note_word(w)?;
-            uses.note_val(&v)?;
-            Ok(Op::Update(w, v))
-        }
-        Op::Eval(w) => {
-            uses.note_word(w)?;
-            Ok(Op::Eval(w))
-        }
-        Op::Apply(v, w) => {
-            uses.note_val(&v)?;
-            uses.note_word(w)?;
-            Ok(Op::Apply(v, w))
-        }
-        Op::Call(f, words) => {
-            uses.note_words(words.as_slice())?;
-            Ok(Op::Call(f, words))
-        }
-        Op::Prim(p, a, b) => {
-            uses.note_word(a)?;
-            uses.note_word(b)?;
-            Ok(Op::Prim(p, a, b))
-        }
-        Op::Read => Ok(Op::Read),
-        Op::Write(w) => {
-            uses.note_word(w)?;
-            Ok(Op::Write(w))
-        }
         Op::Case(v, alts) => {
-            uses.note_val(&v)?;
             let mut made = Seq::new(alloc);
             for alt in alts.into_vec() {
-                made.push(thin_alt(uses, alloc, alt)?)?;
+                made.push(lean_alt(uses, alloc, alt)?)?;
             }
             Ok(Op::Case(v, made))
         }
         Op::Nested(block) => {
-            let block = thin_block(uses, alloc, Box::into_inner(block))?;
+            let block = lean_block(uses, alloc, Box::into_inner(block))?;
             Ok(Op::Nested(Box::new(alloc, block)?))
         }
+        Op::Unit(v) => Ok(Op::Unit(v)),
+        Op::Fetch(w) => Ok(Op::Fetch(w)),
+        Op::FetchWord(w, i) => Ok(Op::FetchWord(w, i)),
+        Op::Update(w, v) => Ok(Op::Update(w, v)),
+        Op::Eval(w) => Ok(Op::Eval(w)),
+        Op::Apply(v, w) => Ok(Op::Apply(v, w)),
+        Op::Call(f, words) => Ok(Op::Call(f, words)),
+        Op::Prim(p, a, b) => Ok(Op::Prim(p, a, b)),
+        Op::Read => Ok(Op::Read),
+        Op::Write(w) => Ok(Op::Write(w)),
         Op::Fail => Ok(Op::Fail),
     }
 }
 
-#[cycle(thin)]
-fn thin_alt(uses: &mut Uses, alloc: Global, alt: Alt) -> Result<Alt, AllocError>
+#[cycle(lean)]
+fn lean_alt(uses: &mut Uses, alloc: Global, alt: Alt) -> Result<Alt, AllocError>
     ensures tree { IfOk result (λ a. arm_of a ≡ ((arm_of alt).0, lean_code (arm_of alt).1)) }
-    ensures uses { OnOk result (uses.new ≡ uses.old ++ code_uses (lean_code (arm_of alt).1)) }
+    ensures uses { OnOk result (uses.new ≡ uses.old ++ used_in_code (lean_code (arm_of alt).1)) }
 {
     Ok(Alt {
         pattern: alt.pattern,
-        body: thin_block(uses, alloc, alt.body)?,
+        body: lean_block(uses, alloc, alt.body)?,
     })
 }
 
 // A statement, or none where it is idle. What comes after it was used after the first `from` uses.
-#[cycle(thin)]
-#[tactic(auto, using(grin_syntax::proofs::TreeOf::tree_of, crate::proofs::Backward::stored_used), unfolding(crate::specs::Lean::lean_act, crate::specs::Lean::act_uses))]
-fn thin_stmt(
+#[cycle(lean)]
+#[tactic(auto, using(grin_syntax::proofs::TreeOf::tree_of, crate::proofs::Backward::stored_used), unfolding(crate::specs::Lean::lean_act, crate::specs::Lean::used_in_act))]
+fn lean_stmt(
     uses: &mut Uses,
     alloc: Global,
     from: u64,
     stmt: Stmt,
 ) -> Result<Option<Stmt>, AllocError>
     ensures tree { IfOk result (λ s. (c : Code) (m : List ℕ) → length m ≡ from → uses.old ≡ m
-        ++ code_uses (lean_code c) → kept s (lean_code c) ≡ lean_code (before_of stmt c)) }
-    ensures uses { IfOk result (λ s. (c : Code) (m : List ℕ) → uses.old ≡ m ++ code_uses c
-        → uses.new ≡ m ++ code_uses (kept s c)) }
+        ++ used_in_code (lean_code c) → kept s (lean_code c) ≡ lean_code (before_of stmt c)) }
+    ensures uses { IfOk result (λ s. (c : Code) (m : List ℕ) → uses.old ≡ m ++ used_in_code c
+        → uses.new ≡ m ++ used_in_code (kept s c)) }
 {
     match stmt {
         Stmt::Store(cells) => {
@@ -108,7 +78,7 @@ fn thin_stmt(
             if idle(uses, from, &target, &op) {
                 Ok(None)
             } else {
-                Ok(Some(Stmt::Bind(target, thin_op(uses, alloc, op)?)))
+                Ok(Some(Stmt::Bind(target, lean_op(uses, alloc, op)?)))
             }
         }
     }
@@ -116,18 +86,18 @@ fn thin_stmt(
 
 /// A block without its idle statements. It is walked from its end, so that what comes after a
 /// statement is known.
-#[cycle(thin)]
-pub(crate) fn thin_block(uses: &mut Uses, alloc: Global, block: Block) -> Result<Block, AllocError>
+#[cycle(lean)]
+pub(crate) fn lean_block(uses: &mut Uses, alloc: Global, block: Block) -> Result<Block, AllocError>
     ensures tree { IfOk result (λ b. code_of b ≡ lean_code (code_of block)) }
-    ensures uses { OnOk result (uses.new ≡ uses.old ++ code_uses (lean_code (code_of block))) }
+    ensures uses { OnOk result (uses.new ≡ uses.old ++ used_in_code (lean_code (code_of block))) }
 {
     let from = uses.count();
-    let last = thin_op(uses, alloc, Box::into_inner(block.last))?;
+    let last = lean_op(uses, alloc, Box::into_inner(block.last))?;
     let mut stmts = block.stmts.into_vec();
     stmts.reverse();
     let mut made = Vec::new(alloc);
     for stmt in stmts {
-        match thin_stmt(uses, alloc, from, stmt)? {
+        match lean_stmt(uses, alloc, from, stmt)? {
             Some(stmt) => made.push(stmt)?,
             None => {}
         }

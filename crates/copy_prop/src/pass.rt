@@ -8,7 +8,7 @@ ghost use Rattle.copy_prop.specs.Resolved.{resolved};
 ghost use Rattle.copy_prop.specs.Lean.{lean};
 ghost use Rattle.copy_prop.specs.Copied.{Copied};
 
-use crate::lean::thin_block;
+use crate::lean::lean_block;
 use crate::resolve::Aliases;
 use crate::uses::Uses;
 use grin_meaning::Pass;
@@ -53,7 +53,7 @@ pub fn without_idle(alloc: Global, g: Grin) -> Result<Grin, AllocError>
     let mut uses = Uses::new(alloc);
     let mut procs = Seq::new(alloc);
     for proc in g.procs.into_vec() {
-        let body = thin_block(&mut uses, alloc, proc.body)?;
+        let body = lean_block(&mut uses, alloc, proc.body)?;
         procs.push(Proc { body, ..proc })?;
     }
     Ok(Grin { procs, ..g })

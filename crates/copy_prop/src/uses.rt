@@ -3,10 +3,11 @@
 
 ghost use Rattle.std.specs.Prelude.{◌≡◌, [], ◌∷◌, ◌++◌, not, ◌&&◌, length, drop, OnOk};
 ghost use Rattle.grin_syntax.specs.Binders.{target_vars, numbers_of};
-ghost use Rattle.copy_prop.specs.Lean.{none_stands, word_uses, words_uses, val_uses, cells_uses};
+ghost use Rattle.grin_syntax.specs.Tree.{act_of};
+ghost use Rattle.copy_prop.specs.Lean.{none_stands, used_beside_blocks, used_in_word, used_in_words, used_in_val, used_in_cells};
 ghost use Rattle.seq.specs.Lists.{is_among as stands};
 
-use grin_syntax::{Cell, Target, Val, VarId, Word};
+use grin_syntax::{Cell, Op, Target, Val, VarId, Word};
 use std::alloc::{AllocError, Global};
 use std::marker::Model;
 
@@ -94,7 +95,7 @@ impl Uses {
 
     /// A word is used.
     pub(crate) fn note_word(&mut self, word: Word) -> Result<(), AllocError>
-        ensures { OnOk result (self.new ≡ self.old ++ word_uses word) }
+        ensures { OnOk result (self.new ≡ self.old ++ used_in_word word) }
     {
         match word {
             Word::Var(x) => self.note(x),
@@ -106,7 +107,7 @@ impl Uses {
 
     /// Words are used.
     pub(crate) fn note_words(&mut self, words: &[Word]) -> Result<(), AllocError>
-        ensures { OnOk result (self.new ≡ self.old ++ words_uses words.now) }
+        ensures { OnOk result (self.new ≡ self.old ++ used_in_words words.now) }
     {
         for word in words {
             self.note_word(*word)?;
@@ -116,7 +117,7 @@ impl Uses {
 
     /// A value is used.
     pub(crate) fn note_val(&mut self, v: &Val) -> Result<(), AllocError>
-        ensures { OnOk result (self.new ≡ self.old ++ val_uses v.now) }
+        ensures { OnOk result (self.new ≡ self.old ++ used_in_val v.now) }
     {
         match v {
             Val::NodeVar(x) => self.note(*x),
@@ -126,9 +127,40 @@ impl Uses {
         }
     }
 
+    /// What an operation uses, without the blocks inside it.
+    #[tactic(auto, using(grin_syntax::proofs::TreeOf::tree_of, seq::proofs::Lists::append_again, seq::proofs::Lists::append_nil))]
+    pub(crate) fn note_op(&mut self, op: &Op) -> Result<(), AllocError>
+        ensures { OnOk result (self.new ≡ self.old ++ used_beside_blocks (act_of op.now)) }
+    {
+        match op {
+            Op::Unit(v) => self.note_val(v),
+            Op::Fetch(w) => self.note_word(*w),
+            Op::FetchWord(w, _) => self.note_word(*w),
+            Op::Update(w, v) => {
+                self.note_word(*w)?;
+                self.note_val(v)
+            }
+            Op::Eval(w) => self.note_word(*w),
+            Op::Apply(v, w) => {
+                self.note_val(v)?;
+                self.note_word(*w)
+            }
+            Op::Call(_, words) => self.note_words(words.as_slice()),
+            Op::Prim(_, a, b) => {
+                self.note_word(*a)?;
+                self.note_word(*b)
+            }
+            Op::Read => Ok(()),
+            Op::Write(w) => self.note_word(*w),
+            Op::Case(v, _) => self.note_val(v),
+            Op::Nested(_) => Ok(()),
+            Op::Fail => Ok(()),
+        }
+    }
+
     /// What goes into cells is used.
     pub(crate) fn note_cells(&mut self, cells: &[Cell]) -> Result<(), AllocError>
-        ensures { OnOk result (self.new ≡ self.old ++ cells_uses cells.now) }
+        ensures { OnOk result (self.new ≡ self.old ++ used_in_cells cells.now) }
     {
         for cell in cells {
             self.note_val(&cell.val)?;

@@ -14,7 +14,7 @@ use Rattle.arity_check.specs.Program.{Program, Function, Term, App, Let, Case, B
 use Rattle.core_meaning.specs.Heap.{Value, Int, Con, Part, Delayed, Call, Apply, Prim, Global, Input, Binding, Known, Waiting, Heap, Env, with_local, with_locals}
 use Rattle.core_meaning.specs.Numbers.{operate}
 use Rattle.numbers.specs.Numbers.{low_byte}
-use Rattle.core_meaning.specs.Looking as looking
+use Rattle.core_meaning.specs.ByNeed as by_need
 use Rattle.core_meaning.specs.Evaluation.{State, Answer, Gives, NoAlternative, OutOfBound, and_then, with_number, is_con, fields_of, is_int, spend_of, append, update, taken, Onward, nil, global, params_of, params, name, names, binding, with_group, give, give_all, next_byte, globals, start, parameters, force_binding, force, apply, prim, form, eval, select, enter_body, proceed, within}
 use Rattle.core_meaning.specs.Printing.{Printed, on_value, on_list, on_byte, print, printed}
 use Rattle.core_meaning.proofs.Shared.{global_below}
@@ -275,15 +275,15 @@ module _ (p : Program) where
             );
           }
 
-      forced : (b : Binding) (a d : ℕ) (s : State) → Sound s → BindingIn (length s.heap) b → Found (length s.heap) (looking.force_binding nowhere lost p onward' (Some b) a d s) (force_binding p onward (Some b) a d s)
+      forced : (b : Binding) (a d : ℕ) (s : State) → Sound s → BindingIn (length s.heap) b → Found (length s.heap) (by_need.force_binding nowhere lost p onward' (Some b) a d s) (force_binding p onward (Some b) a d s)
       forced (Known v) a d s ok h = found_gives v s ok h
       forced (Waiting t) a d s ok h =
           found_then _ _ _ (λ v s. Gives v (update s a v)) (λ v s. Gives v (update s a v)) (on t (suc d) s ok h) (λ v s le ok h. updated a v s ok h)
 
-      forcing : (a d : ℕ) (s : State) → Sound s → a < length s.heap → Found (length s.heap) (looking.force nowhere lost p onward' a d s) (force p onward a d s)
+      forcing : (a d : ℕ) (s : State) → Sound s → a < length s.heap → Found (length s.heap) (by_need.force nowhere lost p onward' a d s) (force p onward a d s)
       forcing a d s ok lt =
           let b = some_at s.heap a lt in
-          subst (λ o. Found (length s.heap) (looking.force_binding nowhere lost p onward' o a d s) (force_binding p onward o a d s)) (sym b.1)
+          subst (λ o. Found (length s.heap) (by_need.force_binding nowhere lost p onward' o a d s) (force_binding p onward o a d s)) (sym b.1)
           (forced b.0 a d s ok (all_get (BindingIn (length s.heap)) s.heap a b.0 ok.bindings b.1))
 
       giving : (v : Value) (b d : ℕ) (s : State) → Sound s → ValueIn (length s.heap) v → b < length s.heap → Found (length s.heap) (give p onward' v b d s) (give p onward v b d s)
@@ -316,19 +316,19 @@ module _ (p : Program) where
           found_then _ _ _ (λ w s. give_all p onward' w (c ∷ bs) d s) (λ w s. give_all p onward w (c ∷ bs) d s) (giving v b (suc d) s ok h n.0)
           (λ w t le ok h. giving_all (c ∷ bs) w d t ok h (names_more _ _ (c ∷ bs) le n.1))
 
-      applying : (a : ℕ) (bs : List ℕ) (d : ℕ) (s : State) → Sound s → a < length s.heap → NamesIn (length s.heap) bs → Found (length s.heap) (looking.apply nowhere lost p onward' a bs d s) (apply p onward a bs d s)
+      applying : (a : ℕ) (bs : List ℕ) (d : ℕ) (s : State) → Sound s → a < length s.heap → NamesIn (length s.heap) bs → Found (length s.heap) (by_need.apply nowhere lost p onward' a bs d s) (apply p onward a bs d s)
       applying a [] d s ok lt n = forcing a d s ok lt
       applying a (b ∷ bs) d s ok lt n =
           found_then _ _ _ (λ v s. give_all p onward' v (b ∷ bs) d s) (λ v s. give_all p onward v (b ∷ bs) d s) (forcing a (suc d) s ok lt)
           (λ v t le ok h. giving_all (b ∷ bs) v d t ok h (names_more _ _ (b ∷ bs) le n))
 
-      operating : (op : _) (a b d : ℕ) (s : State) → Sound s → a < length s.heap → b < length s.heap → Found (length s.heap) (looking.prim nowhere lost p onward' op a b d s) (prim p onward op a b d s)
+      operating : (op : _) (a b d : ℕ) (s : State) → Sound s → a < length s.heap → b < length s.heap → Found (length s.heap) (by_need.prim nowhere lost p onward' op a b d s) (prim p onward op a b d s)
       operating op a b d s ok lta ltb =
           found_then _ _ _ _ _ (forcing a (suc d) s ok lta) (λ v t le ok h. found_number _ v t _ _ (λ i.
           found_then _ _ _ _ _ (forcing b (suc d) t ok (omega (arith, ltb, le))) (λ w u le ok h. found_number _ w u _ _ (λ j. found_gives (Int (operate op i j)) u ok tt))))
 
       module _ (S : ℕ → Type 0) (env' env : Env) (s : State) (ok : Sound s) (k : Scope S (length s.heap) env' env) where
-        forming : (f : Flat) (d : ℕ) → FormOk p S f → Found (length s.heap) (looking.form nowhere lost p onward' env' f d s) (form p onward env f d s)
+        forming : (f : Flat) (d : ℕ) → FormOk p S f → Found (length s.heap) (by_need.form nowhere lost p onward' env' f d s) (form p onward env f d s)
         forming (flat.Int i) d h = found_gives (Int i) s ok tt
         forming (flat.Con c xs) d h =
             let e = names_same S _ env' env ok.room k xs h.1 in
@@ -345,19 +345,19 @@ module _ (p : Program) where
         forming (flat.Apply x xs) d h =
             let e = names_same S _ env' env ok.room k xs h.2 in
             let n = name_same S _ env' env ok.room k x h.1 in
-            subst (λ ys. Found (length s.heap) (looking.apply nowhere lost p onward' (name p env' x) ys d s) (apply p onward (name p env x) (names p env xs) d s)) (sym e)
-            (subst (λ a. Found (length s.heap) (looking.apply nowhere lost p onward' a (names p env xs) d s) (apply p onward (name p env x) (names p env xs) d s)) (sym n)
+            subst (λ ys. Found (length s.heap) (by_need.apply nowhere lost p onward' (name p env' x) ys d s) (apply p onward (name p env x) (names p env xs) d s)) (sym e)
+            (subst (λ a. Found (length s.heap) (by_need.apply nowhere lost p onward' a (names p env xs) d s) (apply p onward (name p env x) (names p env xs) d s)) (sym n)
             (applying (name p env x) (names p env xs) d s ok (name_in S _ env' env ok.room k x h.1) (names_in S _ env' env ok.room k xs h.2)))
         forming (flat.Prim op x y) d h =
             let n = name_same S _ env' env ok.room k x h.0 in
             let o = name_same S _ env' env ok.room k y h.1 in
-            subst (λ b. Found (length s.heap) (looking.prim nowhere lost p onward' op (name p env' x) b d s) (prim p onward op (name p env x) (name p env y) d s)) (sym o)
-            (subst (λ a. Found (length s.heap) (looking.prim nowhere lost p onward' op a (name p env y) d s) (prim p onward op (name p env x) (name p env y) d s)) (sym n)
+            subst (λ b. Found (length s.heap) (by_need.prim nowhere lost p onward' op (name p env' x) b d s) (prim p onward op (name p env x) (name p env y) d s)) (sym o)
+            (subst (λ a. Found (length s.heap) (by_need.prim nowhere lost p onward' op a (name p env y) d s) (prim p onward op (name p env x) (name p env y) d s)) (sym n)
             (operating op (name p env x) (name p env y) d s ok (name_in S _ env' env ok.room k x h.0) (name_in S _ env' env ok.room k y h.1)))
 
       mutual
         evaluating : (e : Term) (S : ℕ → Type 0) (env' env : Env) (d : ℕ) (s : State) → TermOk p S e → Sound s → Scope S (length s.heap) env' env
-            → Found (length s.heap) (looking.eval nowhere lost p onward' e env' d s) (eval p onward e env d s)
+            → Found (length s.heap) (by_need.eval nowhere lost p onward' e env' d s) (eval p onward e env d s)
         evaluating (App f) S env' env d s h ok k = forming S env' env s ok k f d h
         evaluating (Let group body) S env' env d s h ok k =
             let T : ℕ → Type 0 = λ x. S x ⊎ InGroup group x in
@@ -371,14 +371,14 @@ module _ (p : Program) where
             let all : length s.heap + length more ≡ m = omega (arith, count) in
             let whole : m ≡ length (s.heap ++ more) = sym all ∙ sym (length-append s.heap more) in
             let ok' : Sound (append s more) = sound_append s more ok (subst (λ n. AllOf (BindingIn n) more) (sym all) (group_in T m new' new (omega (arith, ok.room)) scope group h.0)) in
-            subst (λ more'. Found (length s.heap) (looking.eval nowhere lost p onward' body new' d (append s more')) (eval p onward body new d (append s more))) (sym same)
+            subst (λ more'. Found (length s.heap) (by_need.eval nowhere lost p onward' body new' d (append s more')) (eval p onward body new d (append s more))) (sym same)
             (found_from _ _ _ _ (omega (arith, whole)) (evaluating body T new' new d (append s more) h.1 ok' (subst (λ n. Scope T n new' new) whole scope)))
         evaluating (Case tested branches) S env' env d s h ok k =
             found_then _ _ _ _ _ (evaluating tested S env' env (suc d) s h.0 ok k)
             (λ v t le ok i. selecting branches S v env' env d t h.1 ok i (scope_as S S _ _ env' env (λ x t. t) le k))
 
         selecting : (bs : Branches) (S : ℕ → Type 0) (v : Value) (env' env : Env) (d : ℕ) (s : State) → BranchesOk p S bs → Sound s → ValueIn (length s.heap) v → Scope S (length s.heap) env' env
-            → Found (length s.heap) (looking.select nowhere lost p onward' bs v env' d s) (select p onward bs v env d s)
+            → Found (length s.heap) (by_need.select nowhere lost p onward' bs v env' d s) (select p onward bs v env d s)
         selecting NoMore S v env' env d s h ok i k = record { same = refl; kept = tt }
         selecting (OnCon c fields body rest) S v env' env d s h ok i k =
             found_cases _ (is_con c v) _ _ _ _
@@ -397,17 +397,17 @@ module _ (p : Program) where
     module _ (w : WellFormed p) where
       module _ (onward' onward : Onward) (on : SameOnward onward' onward) where
         entering : (f : ℕ) (xs : List ℕ) (d : ℕ) (s : State) → Sound s → HasParams p f (λ n. n ≡ length xs) → NamesIn (length s.heap) xs
-            → Found (length s.heap) (looking.enter_body nowhere lost p onward' (slice_get p.funs f) xs d s) (enter_body p onward (slice_get p.funs f) xs d s)
+            → Found (length s.heap) (by_need.enter_body nowhere lost p onward' (slice_get p.funs f) xs d s) (enter_body p onward (slice_get p.funs f) xs d s)
         entering f xs d s ok h n =
             let body = all_get (FunOk p) p.funs f h.0 w.bodies h.1 in
-            let scope : Scope (λ x. x < h.0.params) (length s.heap) (looking.parameters nowhere lost xs) (parameters xs) = record {
+            let scope : Scope (λ x. x < h.0.params) (length s.heap) (by_need.parameters nowhere lost xs) (parameters xs) = record {
               same = λ x lt. (argument nowhere _ xs x (omega (arith, lt, h.2)) n).0;
               below = λ x lt. (argument nowhere _ xs x (omega (arith, lt, h.2)) n).1;
             } in
-            subst (λ o. Found (length s.heap) (looking.enter_body nowhere lost p onward' o xs d s) (enter_body p onward o xs d s)) (sym h.1)
-            (evaluating onward' onward on h.0.body (λ x. x < h.0.params) (looking.parameters nowhere lost xs) (parameters xs) d s body ok scope)
+            subst (λ o. Found (length s.heap) (by_need.enter_body nowhere lost p onward' o xs d s) (enter_body p onward o xs d s)) (sym h.1)
+            (evaluating onward' onward on h.0.body (λ x. x < h.0.params) (by_need.parameters nowhere lost xs) (parameters xs) d s body ok scope)
 
-        proceeding : (t : Delayed) (d : ℕ) (s : State) → Sound s → DelayedIn (length s.heap) t → Found (length s.heap) (looking.proceed nowhere lost p onward' t d s) (proceed p onward t d s)
+        proceeding : (t : Delayed) (d : ℕ) (s : State) → Sound s → DelayedIn (length s.heap) t → Found (length s.heap) (by_need.proceed nowhere lost p onward' t d s) (proceed p onward t d s)
         proceeding (Call f xs) d s ok h = entering f xs d s ok h.0 h.1
         proceeding (Global f) d s ok h = entering f [] d s ok h tt
         proceeding (Apply a bs) d s ok h = applying onward' onward on a bs d s ok h.0 h.1
@@ -427,10 +427,10 @@ module _ (p : Program) where
       spending zero d s go' go ok g = record { same = refl; kept = tt }
       spending (suc n) d s go' go ok g = g _ (record { room = ok.room; bindings = ok.bindings }) refl
 
-      same_within : (n : ℕ) → SameOnward (looking.within nowhere lost p n) (within p n)
+      same_within : (n : ℕ) → SameOnward (by_need.within nowhere lost p n) (within p n)
       same_within zero t d s ok h = record { same = refl; kept = tt }
       same_within (suc n) t d s ok h =
-          spending s.left d s _ _ ok (λ u ok' e. proceeding (looking.within nowhere lost p n) (within p n) (same_within n) t d u ok' (subst (λ heap. DelayedIn (length heap) t) (sym e) h))
+          spending s.left d s _ _ ok (λ u ok' e. proceeding (by_need.within nowhere lost p n) (within p n) (same_within n) t d u ok' (subst (λ heap. DelayedIn (length heap) t) (sym e) h))
 
       -- ---- printing
 
@@ -457,13 +457,13 @@ module _ (p : Program) where
       byte_same (Con c xs) out s go' go e = refl
       byte_same (Part f xs) out s go' go e = refl
 
-      printing : (n a : ℕ) (out : List ℕ) (s : State) → Sound s → a < length s.heap → looking.print nowhere lost p n a out s ≡ print p n a out s
+      printing : (n a : ℕ) (out : List ℕ) (s : State) → Sound s → a < length s.heap → by_need.print nowhere lost p n a out s ≡ print p n a out s
       printing zero a out s ok lt = refl
       printing (suc n) a out s ok lt =
           value_same _ _ _ out _ _
-          (spending s.left 0 s _ _ ok (λ u ok' e. forcing (looking.within nowhere lost p n) (within p n) (same_within n) a 1 u ok' (subst (λ heap. a < length heap) (sym e) lt)))
+          (spending s.left 0 s _ _ ok (λ u ok' e. forcing (by_need.within nowhere lost p n) (within p n) (same_within n) a 1 u ok' (subst (λ heap. a < length heap) (sym e) lt)))
           (λ v t le ok i. list_same _ _ _ v out t _ _ i (λ h tail lth ltt.
-          value_same _ _ _ out _ _ (forcing (looking.within nowhere lost p n) (within p n) (same_within n) h 1 t ok lth)
+          value_same _ _ _ out _ _ (forcing (by_need.within nowhere lost p n) (within p n) (same_within n) h 1 t ok lth)
           (λ v u le' ok i. byte_same v out u _ _ (λ byte. printing n tail (out ++ byte ∷ []) u ok (omega (arith, ltt, le'))))))
 
       sound_start : (i : List ℕ) (n : ℕ) → Sound (start p i n)
@@ -472,12 +472,12 @@ module _ (p : Program) where
       main_params : params p p.main ≡ w.main.0.params
       main_params = ap (params_of p) w.main.1
 
-      pub well_formed_finds : (i : List ℕ) (n : ℕ) → looking.printed nowhere lost p i n ≡ printed p i n
+      pub well_formed_finds : (i : List ℕ) (n : ℕ) → by_need.printed nowhere lost p i n ≡ printed p i n
       well_formed_finds i n = by_test (params p p.main == 0) refl n
         where
           by_test : (b : Bool) → (params p p.main == 0) ≡ b → (n : ℕ)
-              → elim b as (λ _. Printed) [ true ↦ looking.print nowhere lost p n (global p p.main) [] (start p i n) | false ↦ looking.printed_from_input nowhere lost p i n ]
-              ≡ elim b as (λ _. Printed) [ true ↦ looking.print 0 NoAlternative p n (global p p.main) [] (start p i n) | false ↦ looking.printed_from_input 0 NoAlternative p i n ]
+              → elim b as (λ _. Printed) [ true ↦ by_need.print nowhere lost p n (global p p.main) [] (start p i n) | false ↦ by_need.printed_from_input nowhere lost p i n ]
+              ≡ elim b as (λ _. Printed) [ true ↦ by_need.print 0 NoAlternative p n (global p p.main) [] (start p i n) | false ↦ by_need.printed_from_input 0 NoAlternative p i n ]
           by_test true e n =
               let none : w.main.0.params ≡ 0 = sym main_params ∙ eqb-true (params p p.main) 0 e in
               printing n (global p p.main) [] (start p i n) (sound_start i n) (global_below p p.main (w.main.0, w.main.1, none))

@@ -1,6 +1,6 @@
 pub mod Numbers
 pub mod Heap
-pub mod Looking
+pub mod ByNeed
 pub mod Evaluation
 pub mod Printing
 pub mod Told

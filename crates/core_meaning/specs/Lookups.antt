@@ -2,7 +2,7 @@
 use Rattle.std.specs.Prelude.{◌≡◌, ℕ, List}
 use Rattle.arity_check.specs.Program.{Program}
 use Rattle.arity_check.specs.Accepted.{IsValid}
-use Rattle.core_meaning.specs.Looking as looking
+use Rattle.core_meaning.specs.ByNeed as by_need
 use Rattle.core_meaning.specs.Evaluation.{State, Answer}
 use Rattle.core_meaning.specs.Printing.{printed}
 
@@ -11,4 +11,4 @@ use Rattle.core_meaning.specs.Printing.{printed}
 abbrev pub NoLookupFails : Type 0
 NoLookupFails =
     (p : Program) → IsValid p → (nowhere : ℕ) (lost : State → Answer) (i : List ℕ) (n : ℕ)
-    → looking.printed nowhere lost p i n ≡ printed p i n
+    → by_need.printed nowhere lost p i n ≡ printed p i n

@@ -1,6 +1,7 @@
 //! The canonical text of a program.
 
 ghost use Rattle.std.specs.Prelude.{◌≡◌, ◌++◌, codes, decimal, map, OnOk, IfOk};
+ghost use Rattle.std.specs.List.{flat_map};
 ghost use Rattle.std.specs.Fmt.{signed_decimal};
 ghost use Rattle.core_reader.specs.Tree.{term, application, bind as bind_of, expr as expr_of, alternative, alts_of, data_of, function as function_of, program};
 ghost use Rattle.core_print.specs.Canonical.{name_text, binders_text, term_text, app_text, bind_text, group_text, pattern_text, expr_text, alts_text, data_line, function_line, canonical};
@@ -21,12 +22,8 @@ pub fn print(alloc: Global, core: &Core) -> Result<Vec<u8>, AllocError>
     let mut text = Text {
         bytes: Vec::new(alloc),
     };
-    for constructor in core.constructors.as_slice() {
-        text.constructor(names, constructor)?;
-    }
-    for function in core.functions.as_slice() {
-        text.function(names, function)?;
-    }
+    text.constructors(names, core.constructors.as_slice())?;
+    text.functions(names, core.functions.as_slice())?;
     Ok(text.bytes)
 }
 
@@ -198,6 +195,16 @@ impl Text {
         self.put(b";\n")
     }
 
+    fn constructors(&mut self, names: &[Seq<u8>], constructors: &[Data]) -> Result<(), AllocError>
+        ensures { OnOk result (self.new ≡ self.old
+            ++ flat_map (data_line names.now) (map data_of constructors.now)) }
+    {
+        for constructor in constructors {
+            self.constructor(names, constructor)?;
+        }
+        Ok(())
+    }
+
     fn function(&mut self, names: &[Seq<u8>], function: &Function) -> Result<(), AllocError>
         ensures { OnOk result (self.new ≡ self.old
             ++ function_line names.now (function_of function.now)) }
@@ -207,5 +214,15 @@ impl Text {
         self.put(b" = ")?;
         self.expr(names, &function.body)?;
         self.put(b";\n")
+    }
+
+    fn functions(&mut self, names: &[Seq<u8>], functions: &[Function]) -> Result<(), AllocError>
+        ensures { OnOk result (self.new ≡ self.old
+            ++ flat_map (function_line names.now) (map function_of functions.now)) }
+    {
+        for function in functions {
+            self.function(names, function)?;
+        }
+        Ok(())
     }
 }

@@ -40,7 +40,7 @@ fn images_that_are_executed(rt: HostRuntime) -> Result<(), Fail> {
     for (text, words, code, out, err) in rows {
         let text = format!(in rt.alloc(); "{LISTS}{text}")?;
         let image = built(rt.alloc(), text.as_str(), words)?;
-        assert!(rt; image.took(0, image.bytes().len()), "{text}");
+        assert!(rt; image.is_done(), "{text}");
         let shown = executed(rt.alloc(), image.bytes())?;
         assert!(rt; shown.is(code, out, err), "{text}");
     }
@@ -96,7 +96,7 @@ fn code_of_the_default_image(rt: HostRuntime) -> Result<(), Fail> {
         let image = built(rt.alloc(), text, &BUILD)?;
         let words = ["grinc", "list", "a", "--after", "code"];
         let listing = Outside::of(text.as_bytes()).run(rt.alloc(), &words)?;
-        assert!(rt; listing.took(0, listing.bytes().len()));
+        assert!(rt; listing.is_done());
         let mut lines = listing.bytes().split(|byte| *byte == b'\n');
         let code = image.bytes().get(4096..).ok_or("an image without code")?;
         let mut address: u32 = 0x0001_0000;

@@ -3,7 +3,7 @@
 use crate::outside::{LISTS, Outside};
 use std::alloc::{AllocError, Global};
 use std::test::Fail;
-use worked_texts::QUEENS;
+use worked_texts::{QUEENS, many_delayed};
 
 /// The numbers from `i` to `n`.
 const UPTO: &str = "upto i n = case lt n i of { 1 -> Nil; _ -> Cons i (upto (add i 1) n) }; ";
@@ -28,27 +28,6 @@ fn many_branches(alloc: Global) -> Result<String, AllocError> {
         write!(text, "{k} -> Cons {k} Nil")?;
     }
     text.push_str(" }; main = f 299;")?;
-    Ok(text)
-}
-
-/// A text in which k functions are delayed, and each of their results is given to one function.
-/// Once inlined, its program has the size 9 k k + 14 k + 42.
-fn many_delayed(alloc: Global, k: u32) -> Result<String, AllocError> {
-    let mut text = String::from_str(alloc, LISTS)?;
-    for i in 0..k {
-        write!(text, "f{i} x = x; ")?;
-    }
-    text.push_str("h y = let ")?;
-    for i in 0..k {
-        write!(text, "b{i} = f{i} y; ")?;
-    }
-    for i in 0..k {
-        if i > 0 {
-            text.push_str("; ")?;
-        }
-        write!(text, "c{i} = h b{i}")?;
-    }
-    text.push_str(" in Nil; main = h Nil;")?;
     Ok(text)
 }
 

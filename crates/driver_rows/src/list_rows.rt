@@ -4,27 +4,11 @@ use crate::outside::{Ended, LISTS, Object, Outside};
 use std::alloc::{AllocError, Global};
 use std::fmt::Write;
 use std::test::Fail;
+use worked_texts::many_delayed;
 
 /// What `list` of a text after a pass answers.
 fn listed(alloc: Global, text: &str, after: &str) -> Result<Ended, AllocError> {
     Outside::of(text.as_bytes()).run(alloc, &["grinc", "list", "a", "--after", after])
-}
-
-/// A text in which k functions are delayed, and each of their results is given to one function.
-fn many_delayed(alloc: Global, k: u32) -> Result<String, AllocError> {
-    let mut text = String::from_str(alloc, LISTS)?;
-    for i in 0..k {
-        write!(text, "f{i} x = x; ")?;
-    }
-    text.push_str("h y = let ")?;
-    for i in 0..k {
-        write!(text, "b{i} = f{i} y; ")?;
-    }
-    for i in 0..k {
-        write!(text, "c{i} = h b{i}; ")?;
-    }
-    text.push_str("in Nil; main = h Nil;")?;
-    Ok(text)
 }
 
 /// What all programs print with: the list is evaluated, then its head, which is written, and then
@@ -394,7 +378,7 @@ fn a_parameter_gives_place_to_fields(rt: HostRuntime) -> Result<(), Fail> {
     ];
     for (after, line, no_line) in rows {
         let shown = listed(rt.alloc(), text.as_str(), after)?;
-        assert!(rt; shown.took(0, shown.bytes().len()), "{after}");
+        assert!(rt; shown.is_done(), "{after}");
         assert!(rt; shown.has_line(line), "{after}");
         assert!(rt; !shown.has_line(no_line), "{after}");
     }

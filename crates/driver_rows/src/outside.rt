@@ -57,6 +57,11 @@ impl Ended {
         self.out.taken()
     }
 
+    /// Whether the status of the process is 0, and nothing was told on the error output.
+    pub(crate) fn is_done(&self) -> bool {
+        self.status.code() == 0 && self.err.taken().is_empty()
+    }
+
     /// Whether this is the status of the process, and whether the output took so many bytes.
     pub(crate) fn took(&self, code: u8, bytes: usize) -> bool {
         self.status.code() == code && self.out.taken().len() == bytes

@@ -25,8 +25,8 @@ pub fn too_long(len: u64) -> bool
 }
 
 /// The program of an ELF file: the segments of its loadable program headers in their order, and its
-/// entry. Or the broken rule with the smallest number. Other program headers and all sections are
-/// passed over.
+/// entry. Or the broken rule with the smallest number, or `Memory` where memory is wanting. Other
+/// program headers and all sections are passed over.
 pub fn read(alloc: Global, file: &[u8]) -> Result<Loaded, ElfRefusal>
     ensures ok { IfOk result (λ image. Loads file.now image) }
     ensures refused { IfErr result (λ refusal. Refuses refusal file.now) }

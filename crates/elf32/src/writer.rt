@@ -15,7 +15,7 @@ const HEAP: u32 = 0x5000_0000;
 const STACK_END: u32 = 0x7800_0000;
 
 /// The file of a program of these words of code, with a heap and a stack of so many bytes of zeros.
-/// It has 4096 bytes of headers, and then the code.
+/// It has 4096 bytes of headers, and then the code. `AllocError` where memory is wanting.
 #[tactic(auto, unfolding(crate::specs::File::file_of))]
 pub fn write(
     alloc: Global,

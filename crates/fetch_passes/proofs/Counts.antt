@@ -15,7 +15,8 @@ use Rattle.grin_meaning.specs.Ready.{most_fields}
 use Rattle.pass_ground.specs.Uses.{code_uses}
 use Rattle.fetch_passes.specs.Windows.{outside}
 use Rattle.fetch_passes.specs.Names.{Names, Wait, as_word, as_cells}
-use Rattle.fetch_passes.specs.Split.{fetched_if, word_fetches, front, front_names, names_after, waits_after, cell_after, all_words, node_arms, whole_node, split_act, split_code, split_arms, split_procs, made_act, made_code, made_arms}
+use Rattle.fetch_passes.specs.Waits.{waits_after}
+use Rattle.fetch_passes.specs.Split.{fetched_if, word_fetches, front, front_names, names_after, cell_after, all_words, node_arms, whole_node, split_act, split_code, split_arms, split_procs, made_act, made_code, made_arms}
 use Rattle.seq.specs.Lists.{times}
 use Rattle.seq.proofs.Counted.{counts, times_append}
 

@@ -12,13 +12,10 @@ use Rattle.grin_meaning.specs.Ready.{EachAct, EachCode, EachArms, EachBody}
 use Rattle.pass_ground.specs.Uses.{code_uses}
 use Rattle.fetch_passes.specs.Windows.{owns, outside}
 use Rattle.fetch_passes.specs.Names.{Names, Wait, as_word, hiding}
-use Rattle.fetch_passes.specs.Split.{fetched_if, word_fetches, waits_of, front, front_names, split_act, split_code, split_arms, split_procs, made_act, made_code}
+use Rattle.fetch_passes.specs.Waits.{waits_of}
+use Rattle.fetch_passes.specs.Split.{fetched_if, word_fetches, front, front_names, split_act, split_code, split_arms, split_procs, made_act, made_code}
 use Rattle.fetch_passes.specs.Placed.{by_nodes_kind}
-use Rattle.fetch_passes.specs.Fronts.{BeginsWith, past_words, OutsideFetched, not_outside, LeftFetched, ActsFetch, CodesFetch, ArmsFetch, ProcsFetch}
-
-not_outside_waits : (t : ℕ) (b : Code) (i : ℕ) (xs : List VarId) → not_outside t b i xs ≡ waits_of t b i xs
-not_outside_waits t b i [] = refl
-not_outside_waits t b i (x ∷ xs) = ap (λ ps. cond (outside t x.0 b) ps (record { var = x; place = i } ∷ ps)) (not_outside_waits t b (suc i) xs)
+use Rattle.fetch_passes.specs.Fronts.{BeginsWith, past_words, OutsideFetched, LeftFetched, ActsFetch, CodesFetch, ArmsFetch, ProcsFetch}
 
 -- none is the tag
 abbrev Late : List Wait → Type 0
@@ -126,10 +123,9 @@ module _ (ts : List Tag) where
     code_fetch (bind (to.Vector (v ∷ vs)) (fetch c) b) ks a ps n l k = (
       tt,
       outside_fetched v.0 b (as_word ks c) 0 vs (split_code ts (hiding (waits_of v.0 b 1 vs) ks) (cond (owns v.0 b) (as_word ks c) a) (cond (owns v.0 b) (waits_of v.0 b 1 vs) ps) (n + 0) b),
-      subst (λ qs. CodesFetch (cond (owns v.0 b) qs ps) b (past_words (word_fetches v.0 b (as_word ks c) 1 vs (split_code ts (hiding (waits_of v.0 b 1 vs) ks) (cond (owns v.0 b) (as_word ks c) a) (cond (owns v.0 b) (waits_of v.0 b 1 vs) ps) (n + 0) b)))) (sym (not_outside_waits v.0 b 1 vs))
-          (subst (CodesFetch (cond (owns v.0 b) (waits_of v.0 b 1 vs) ps) b) (sym (past_kept v.0 b (as_word ks c) 0 vs (split_code ts (hiding (waits_of v.0 b 1 vs) ks) (cond (owns v.0 b) (as_word ks c) a) (cond (owns v.0 b) (waits_of v.0 b 1 vs) ps) (n + 0) b)
+      subst (CodesFetch (cond (owns v.0 b) (waits_of v.0 b 1 vs) ps) b) (sym (past_kept v.0 b (as_word ks c) 0 vs (split_code ts (hiding (waits_of v.0 b 1 vs) ks) (cond (owns v.0 b) (as_word ks c) a) (cond (owns v.0 b) (waits_of v.0 b 1 vs) ps) (n + 0) b)
           ∙ no_words b (hiding (waits_of v.0 b 1 vs) ks) (cond (owns v.0 b) (as_word ks c) a) (cond (owns v.0 b) (waits_of v.0 b 1 vs) ps) (n + 0) k.2))
-          (code_fetch b (hiding (waits_of v.0 b 1 vs) ks) (cond (owns v.0 b) (as_word ks c) a) (cond (owns v.0 b) (waits_of v.0 b 1 vs) ps) (n + 0) (go (owns v.0 b)) k.2)),
+          (code_fetch b (hiding (waits_of v.0 b 1 vs) ks) (cond (owns v.0 b) (as_word ks c) a) (cond (owns v.0 b) (waits_of v.0 b 1 vs) ps) (n + 0) (go (owns v.0 b)) k.2),
     )
       where
         go : (o : Bool) → Late (cond o (waits_of v.0 b 1 vs) ps)

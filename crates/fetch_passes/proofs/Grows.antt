@@ -11,7 +11,8 @@ use Rattle.grin_syntax.specs.Fresh.{variable}
 use Rattle.pass_ground.specs.Uses.{code_uses}
 use Rattle.fetch_passes.specs.Windows.{outside}
 use Rattle.fetch_passes.specs.Names.{Names, Wait, hidden, hiding, named_if}
-use Rattle.fetch_passes.specs.Split.{fetched_if, word_fetches, waits_of, front, front_names}
+use Rattle.fetch_passes.specs.Waits.{waits_of}
+use Rattle.fetch_passes.specs.Split.{fetched_if, word_fetches, front, front_names}
 
 append_one : {X : Type 0} (xs ys : List X) (x : X) → (xs ++ ys) ++ x ∷ [] ≡ xs ++ (ys ++ x ∷ [])
 append_one [] ys x = refl

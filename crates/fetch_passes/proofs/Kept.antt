@@ -11,7 +11,7 @@ use Rattle.grin_meaning.specs.Run.{Calls}
 use Rattle.grin_meaning.specs.Checks.{is_given}
 use Rattle.grin_meaning.specs.Ready.{EachCode, IsVectorised, EachBody, inlined_kind, vectorised_kind}
 use Rattle.grin_meaning.specs.Keeps.{Keeps}
-use Rattle.grin_meaning.specs.Looking.{look, NeverMissed}
+use Rattle.grin_meaning.specs.Looking.{look, LooksNeverMissing}
 use Rattle.grin_meaning.specs.Follows.{Same, same}
 use Rattle.grin_meaning.specs.Full.{FullState}
 use Rattle.grin_meaning.proofs.Back.{CallsBack}
@@ -35,7 +35,7 @@ split_count g n (q ∷ qs) = ap suc (split_count g (n + made_code g.tags [] q.bo
 
 -- what a piece binds is below the first variable that is past it
 
-module _ (g : Program) (formed : Formed g) (never : NeverMissed g) (inlined : EachBody inlined_kind g.procs) (bare : IsVectorised g) where
+module _ (g : Program) (formed : Formed g) (never : LooksNeverMissing g) (inlined : EachBody inlined_kind g.procs) (bare : IsVectorised g) where
   abbrev base : ℕ
   base = past_procs g.procs
 
@@ -95,5 +95,5 @@ module _ (g : Program) (formed : Formed g) (never : NeverMissed g) (inlined : Ea
   goes_likewise i n = run_follows (plan_of g procs) (λ c c' cb cf. bodies_go c c' cb cf 0 base g.procs (omega arith) formed.procedures inlined bare formed.variables_once (omega arith)) i n
       same same (nodes_full g formed true i n).passed
 
-  pub split_kept : NeverMissed (split g) × Keeps g (split g)
+  pub split_kept : LooksNeverMissing (split g) × Keeps g (split g)
   split_kept = looking_kept g (split g) never (λ i n. likewise_kept no_deeper Same (look g i n) (look (split g) i n) (goes_likewise i n))

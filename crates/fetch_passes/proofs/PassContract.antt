@@ -11,7 +11,7 @@ use Rattle.grin_syntax.proofs.Scopes.{same_sites, formed_with}
 use Rattle.grin_meaning.specs.Checks.{is_fetch}
 use Rattle.grin_meaning.specs.Ready.{Inlined, ByWords, NoNodeVar, IsVectorised, IsFetchedByWords, most_value_fields, Ready, EachBody, inlined_kind, by_words_kind, vectorised_kind, narrow_kind}
 use Rattle.grin_meaning.specs.Keeps.{Keeps}
-use Rattle.grin_meaning.specs.Looking.{NeverMissed}
+use Rattle.grin_meaning.specs.Looking.{LooksNeverMissing}
 use Rattle.grin_meaning.proofs.Looked.{looking_law}
 use Rattle.pass_ground.specs.Vectors.{OfVectors, NarrowTargets}
 use Rattle.fetch_passes.specs.Names.{Names, as_val}
@@ -54,10 +54,10 @@ module _ (g : Program) (v : OfVectors g) where
   procs : List Procedure
   procs = split_procs g.tags base g.procs
 
-  never : NeverMissed g
+  never : LooksNeverMissing g
   never = (looking_law g v.ready.inlined).sees v.ready.never_missing v.ready.runs
 
-  kept : NeverMissed (split g) × Keeps g (split g)
+  kept : LooksNeverMissing (split g) × Keeps g (split g)
   kept = split_kept g v.formed never v.ready.inlined v.vectorised
 
   split_inlined : EachBody inlined_kind (split g).procs

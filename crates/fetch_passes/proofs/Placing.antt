@@ -19,7 +19,8 @@ use Rattle.grin_meaning.specs.Ready.{NoNodeVar, EachAct, EachCode, EachArms, mos
 use Rattle.pass_ground.specs.Uses.{word_is, val_uses, code_uses, arms_use, act_mentions}
 use Rattle.fetch_passes.specs.Windows.{begins_with, is_int, tests_number, vector_uses, act_owns, owns, act_outside, outside}
 use Rattle.fetch_passes.specs.Names.{Names, Wait, as_word, as_val, hiding}
-use Rattle.fetch_passes.specs.Split.{fetched_if, word_fetches, waits_of, front, front_names, all_words, node_arms, whole_node, split_act, split_code, split_arms, split_procs, made_act, made_code}
+use Rattle.fetch_passes.specs.Waits.{waits_of}
+use Rattle.fetch_passes.specs.Split.{fetched_if, word_fetches, front, front_names, all_words, node_arms, whole_node, split_act, split_code, split_arms, split_procs, made_act, made_code}
 use Rattle.fetch_passes.specs.Placed.{by_nodes_kind}
 use Rattle.fetch_passes.specs.Positions.{Tagged, Position, after_tag, at_front, elsewhere, GiveNodes, GivesNode, ActPlaced, CodePlaced, ArmsPlaced}
 use Rattle.pass_ground.proofs.Tests.{never_both}

@@ -19,7 +19,8 @@ use Rattle.grin_meaning.specs.Ready.{NoNodeTarget, NoNodeVar, EachAct, EachCode,
 use Rattle.pass_ground.specs.Uses.{code_uses}
 use Rattle.fetch_passes.specs.Windows.{owns, outside}
 use Rattle.fetch_passes.specs.Names.{Names, Wait, as_word, as_words, as_val, as_cells, hiding, named_if}
-use Rattle.fetch_passes.specs.Split.{fetched_if, word_fetches, waits_of, front, front_names, names_after, waits_after, cell_after, all_words, node_arms, whole_node, split_act, split_code, split_arms, split_procs, made_act, made_code}
+use Rattle.fetch_passes.specs.Waits.{waits_of, waits_after}
+use Rattle.fetch_passes.specs.Split.{fetched_if, word_fetches, front, front_names, names_after, cell_after, all_words, node_arms, whole_node, split_act, split_code, split_arms, split_procs, made_act, made_code}
 use Rattle.pass_ground.proofs.Tests.{never_both}
 use Rattle.fetch_passes.proofs.Found.{is_waiting, hiding_is, naming_is}
 use Rattle.fetch_passes.proofs.Waiting.{waits_too}

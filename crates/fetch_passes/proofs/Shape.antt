@@ -21,7 +21,8 @@ use Rattle.grin_meaning.specs.Ready.{EachAct, EachCode, EachArms, NarrowAct, Nar
 use Rattle.pass_ground.specs.Uses.{code_uses}
 use Rattle.fetch_passes.specs.Windows.{outside}
 use Rattle.fetch_passes.specs.Names.{Names, Wait, as_val, as_cells}
-use Rattle.fetch_passes.specs.Split.{fetched_if, word_fetches, front, front_names, names_after, waits_after, cell_after, all_words, node_arms, whole_node, split_act, split_code, split_arms, split_procs, made_act, made_code}
+use Rattle.fetch_passes.specs.Waits.{waits_after}
+use Rattle.fetch_passes.specs.Split.{fetched_if, word_fetches, front, front_names, names_after, cell_after, all_words, node_arms, whole_node, split_act, split_code, split_arms, split_procs, made_act, made_code}
 
 -- ---- facts of each operation
 

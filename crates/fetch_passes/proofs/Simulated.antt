@@ -26,7 +26,8 @@ use Rattle.grin_meaning.proofs.OneSided.{left_follows}
 use Rattle.pass_ground.specs.Uses.{word_is, words_use, val_uses, cells_use, act_uses, code_uses, arms_use, act_mentions}
 use Rattle.fetch_passes.specs.Windows.{begins_with, is_passed, owns, tests_number, vector_uses, act_outside, outside}
 use Rattle.fetch_passes.specs.Names.{Names, Wait, as_word, as_words, as_val, as_cells, hiding}
-use Rattle.fetch_passes.specs.Split.{waits_of, front, front_names, word_fetches, whole_node, split_act, split_code, split_arms, made_act, made_code}
+use Rattle.fetch_passes.specs.Waits.{waits_of}
+use Rattle.fetch_passes.specs.Split.{front, front_names, word_fetches, whole_node, split_act, split_code, split_arms, made_act, made_code}
 use Rattle.pass_ground.proofs.Tests.{never_both}
 use Rattle.pass_ground.proofs.Bound.{bound_names, places_names}
 use Rattle.fetch_passes.proofs.Found.{is_var, is_waiting, hiding_is}

@@ -20,7 +20,8 @@ use Rattle.grin_syntax.specs.Tree.{Code, end, Act, fetch, case, Arms, no_arm, ar
 use Rattle.grin_syntax.proofs.TreeOf.{before_of-Store, before_of-Bind, code_of-parts, act_of-Case}
 use Rattle.grin_syntax.proofs.Pieces.{all_arms, all_arms_none, all_arms_push}
 use Rattle.fetch_passes.specs.Names.{Names, Wait, as_val, as_cells}
-use Rattle.fetch_passes.specs.Split.{front, front_names, names_after, waits_after, cell_after, cell_from, bound, end_with, made_end, made_act, made_code, made_arms, split_act, split_code, split_arms, split_procs}
+use Rattle.fetch_passes.specs.Waits.{waits_after}
+use Rattle.fetch_passes.specs.Split.{front, front_names, names_after, cell_after, cell_from, bound, end_with, made_end, made_act, made_code, made_arms, split_act, split_code, split_arms, split_procs}
 use Rattle.fetch_passes.proofs.Firsts.{code_from, code_at, code_none}
 use Rattle.fetch_passes.proofs.Pushed.{store_pushed}
 

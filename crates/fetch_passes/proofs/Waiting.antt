@@ -13,7 +13,8 @@ use Rattle.grin_syntax.specs.Fresh.{variable}
 use Rattle.pass_ground.specs.Uses.{act_uses, code_uses, act_mentions}
 use Rattle.fetch_passes.specs.Windows.{begins_with, decides, act_owns, is_passed, owns, act_outside, outside}
 use Rattle.fetch_passes.specs.Names.{Names, Wait, as_word, hiding, named_if}
-use Rattle.fetch_passes.specs.Split.{waits_of, front_names}
+use Rattle.fetch_passes.specs.Waits.{waits_of}
+use Rattle.fetch_passes.specs.Split.{front_names}
 use Rattle.pass_ground.proofs.Tests.{never_both}
 use Rattle.fetch_passes.proofs.Found.{is_var, is_waiting, hiding_is, naming, naming_is}
 use Rattle.fetch_passes.proofs.Near.{At, itself, renamed, gone, Sound, at_more}

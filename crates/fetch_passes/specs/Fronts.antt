@@ -1,13 +1,14 @@
 -- A program beside the one with its fetches split: each used word is fetched where its uses say.
-use Rattle.std.specs.Prelude.{ℕ, suc, ◌≡◌, ◌⊎◌, true, cond, List, [], ◌∷◌}
+use Rattle.std.specs.Prelude.{ℕ, suc, ◌≡◌, ◌⊎◌, true, List, [], ◌∷◌}
 use Rattle.grin_syntax.specs.declared.program.VarId.{VarId}
 use Rattle.grin_syntax.specs.declared.program.Target.{Target}
 use Rattle.grin_syntax.specs.declared.program.Target.TheVariants as to
 use Rattle.grin_syntax.specs.Tree.{Code, end, store, bind, Act, fetch, fetch_word, case, nested, Arms, no_arm, arm, Procedure, Program}
 use Rattle.grin_syntax.specs.Formed.{AllOf}
 use Rattle.pass_ground.specs.Uses.{code_uses}
-use Rattle.fetch_passes.specs.Windows.{owns, outside}
+use Rattle.fetch_passes.specs.Windows.{outside}
 use Rattle.fetch_passes.specs.Names.{Wait}
+use Rattle.fetch_passes.specs.Waits.{waits_after}
 
 -- word i is among the words that are fetched first in a block
 abbrev pub BeginsWith : ℕ → Code → Type 0
@@ -27,13 +28,6 @@ OutsideFetched t b i [] c = Unit {0}
 OutsideFetched t b i (x ∷ xs) c =
     (outside t x.0 b ≡ true → BeginsWith i c) × OutsideFetched t b (suc i) xs c
 
--- the others
-abbrev pub not_outside : (t : ℕ) → Code → ℕ → List VarId → List Wait
-not_outside t b i [] = []
-not_outside t b i (x ∷ xs) =
-    let others : List Wait = not_outside t b (suc i) xs in
-    cond (outside t x.0 b) others (record { var = x; place = i } ∷ others)
-
 -- ---- an operation that goes to a target, where the block b follows
 
 -- of the node that it fetches, in what follows the tag
@@ -41,18 +35,11 @@ abbrev pub NodeFetched : Act → Target → (b c : Code) → Type 0
 NodeFetched (fetch a) (to.Vector (x ∷ xs)) b c = OutsideFetched x.0 b 1 xs c
 NodeFetched o t b c = Unit {0}
 
--- what is left to the alternatives of the case that comes next, fetches aside
-abbrev pub left_after : Act → Target → Code → List Wait → List Wait
-left_after (fetch a) (to.Vector (x ∷ xs)) b ps = cond (owns x.0 b) (not_outside x.0 b 1 xs) ps
-left_after (fetch a) t b ps = ps
-left_after (fetch_word a i) t b ps = ps
-left_after o t b ps = []
-
--- of what is left, an alternative b fetches first, in c, what it uses
+-- of what waits, an alternative b fetches first, in c, what it uses
 abbrev pub LeftFetched : List Wait → (b c : Code) → Type 0
 LeftFetched ps b c = AllOf (λ p. code_uses p.var.0 b ≡ true → BeginsWith p.place c) ps
 
--- ---- two pieces side by side, where this is left to the alternatives of the case that comes next
+-- ---- two pieces side by side, where these words wait
 
 unfoldable mutual
   pub ActsFetch : List Wait → Act → Act → Type 0
@@ -67,7 +54,7 @@ unfoldable mutual
   CodesFetch ps (end o) (end o') = ActsFetch ps o o'
   CodesFetch ps (store cs b) (store ds c) = CodesFetch [] b c
   CodesFetch ps (bind t o b) (bind u o' c) =
-      ActsFetch ps o o' × NodeFetched o t b c × CodesFetch (left_after o t b ps) b (past_words c)
+      ActsFetch ps o o' × NodeFetched o t b c × CodesFetch (waits_after o t b ps) b (past_words c)
   CodesFetch ps b c = ⊥
 
   pub ArmsFetch : List Wait → Arms → Arms → Type 0

@@ -1,5 +1,6 @@
 pub mod Windows
 pub mod Names
+pub mod Waits
 pub mod Split
 pub mod Fetched
 pub mod Placed

@@ -15,6 +15,7 @@ use Rattle.grin_meaning.specs.Ready.{most_fields}
 use Rattle.pass_ground.specs.Uses.{code_uses}
 use Rattle.fetch_passes.specs.Windows.{owns, outside}
 use Rattle.fetch_passes.specs.Names.{Names, Wait, as_word, as_words, as_val, as_cells, hiding, named_if}
+use Rattle.fetch_passes.specs.Waits.{waits_of, waits_after}
 
 -- ---- the words of a node that is fetched
 
@@ -29,14 +30,7 @@ word_fetches t b a i [] c = c
 word_fetches t b a i (x ∷ xs) c =
     fetched_if (outside t x.0 b) x a i (word_fetches t b a (suc i) xs c)
 
--- the others wait
-abbrev pub waits_of : (t : ℕ) → Code → ℕ → List VarId → List Wait
-waits_of t b i [] = []
-waits_of t b i (x ∷ xs) =
-    cond (outside t x.0 b) (waits_of t b (suc i) xs)
-    (record { var = x; place = i } ∷ waits_of t b (suc i) xs)
-
--- at the front of an alternative: those that it uses, in variables from n on
+-- at the front of an alternative: those that wait and that it uses, in variables from n on
 abbrev pub front : W.Word → ℕ → List Wait → Code → Code → Code
 front a n [] b c = c
 front a n (p ∷ ps) b c =
@@ -52,12 +46,6 @@ abbrev pub names_after : Act → Target → Code → Names → Names
 names_after (fetch a) (to.Vector (x ∷ xs)) b ks = hiding (waits_of x.0 b 1 xs) ks
 names_after (fetch a) t b ks = ks
 names_after o t b ks = ks
-
-abbrev pub waits_after : Act → Target → Code → List Wait → List Wait
-waits_after (fetch a) (to.Vector (x ∷ xs)) b ps = cond (owns x.0 b) (waits_of x.0 b 1 xs) ps
-waits_after (fetch a) t b ps = ps
-waits_after (fetch_word a i) t b ps = ps
-waits_after o t b ps = []
 
 abbrev pub cell_after : Names → Act → Target → Code → W.Word → W.Word
 cell_after ks (fetch a) (to.Vector (x ∷ xs)) b a' = cond (owns x.0 b) (as_word ks a) a'

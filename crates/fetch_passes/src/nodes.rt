@@ -9,7 +9,8 @@ ghost use Rattle.grin_syntax.specs.Fresh.{variable};
 ghost use Rattle.pass_ground.specs.Uses.{code_uses};
 ghost use Rattle.fetch_passes.specs.Windows.{outside};
 ghost use Rattle.fetch_passes.specs.Names.{hiding, named_if};
-ghost use Rattle.fetch_passes.specs.Split.{fetched_if, word_fetches, waits_of, front, front_names};
+ghost use Rattle.fetch_passes.specs.Waits.{waits_of};
+ghost use Rattle.fetch_passes.specs.Split.{fetched_if, word_fetches, front, front_names};
 
 use crate::names::{Standing, Wait};
 use crate::windows::outside;

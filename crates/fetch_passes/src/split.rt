@@ -4,7 +4,8 @@
 ghost use Rattle.std.specs.Prelude.{◌≡◌, ◌+◌, [], ◌∷◌, cond, length, map, IfOk, OnOk};
 ghost use Rattle.grin_syntax.specs.Tree.{Code, end, bind, fetch, fetch_word, act_of, before_of, code_of, all_before};
 ghost use Rattle.grin_syntax.specs.declared.program.Target.TheVariants.{Vector};
-ghost use Rattle.fetch_passes.specs.Split.{front, front_names, names_after, waits_after, cell_from, bound, made_act, made_code, split_act, split_code};
+ghost use Rattle.fetch_passes.specs.Waits.{waits_after};
+ghost use Rattle.fetch_passes.specs.Split.{front, front_names, names_after, cell_from, bound, made_act, made_code, split_act, split_code};
 
 use crate::ending::end_with;
 use crate::names::{Standing, Wait, as_cells, as_val, as_word, as_words};

@@ -135,26 +135,28 @@ fn if_else(test: bool, yes: bool, no: bool) -> bool
     if test { yes } else { no }
 }
 
-fn op_outside(t: VarId, x: VarId, op: &Op) -> bool
+// `uses`: whether the operation uses the variable at all.
+fn op_outside(t: VarId, x: VarId, op: &Op, uses: bool) -> bool
+    requires { uses ≡ act_uses x.0 (act_of op.now) }
     ensures { result ≡ act_outside t.0 x.0 (act_of op.now) }
 {
     match op {
         Op::Case(v, alts) => {
             let decides = vector_uses(tests_number(alts.as_slice()), x, v);
-            if_else(begins_with(t, v), decides, op_uses(x, op))
+            if_else(begins_with(t, v), decides, uses)
         }
-        Op::Unit(_) => op_uses(x, op),
-        Op::Fetch(_) => op_uses(x, op),
-        Op::FetchWord(_, _) => op_uses(x, op),
-        Op::Update(_, _) => op_uses(x, op),
-        Op::Eval(_) => op_uses(x, op),
-        Op::Apply(_, _) => op_uses(x, op),
-        Op::Call(_, _) => op_uses(x, op),
-        Op::Prim(_, _, _) => op_uses(x, op),
-        Op::Read => op_uses(x, op),
-        Op::Write(_) => op_uses(x, op),
-        Op::Nested(_) => op_uses(x, op),
-        Op::Fail => op_uses(x, op),
+        Op::Unit(_) => uses,
+        Op::Fetch(_) => uses,
+        Op::FetchWord(_, _) => uses,
+        Op::Update(_, _) => uses,
+        Op::Eval(_) => uses,
+        Op::Apply(_, _) => uses,
+        Op::Call(_, _) => uses,
+        Op::Prim(_, _, _) => uses,
+        Op::Read => uses,
+        Op::Write(_) => uses,
+        Op::Nested(_) => uses,
+        Op::Fail => uses,
     }
 }
 
@@ -182,27 +184,34 @@ pub(crate) fn owns(t: VarId, stmts: &[Stmt], last: &Op) -> bool
     owned
 }
 
-#[tactic(auto, using(grin_syntax::proofs::TreeOf::tree_of, crate::proofs::Firsts::bind_uses, crate::proofs::Firsts::store_uses))]
-fn stmt_uses_too(x: VarId, stmt: &Stmt, later: bool) -> bool
-    ensures { (c : Code) → code_uses x.0 c ≡ later → code_uses x.0 (before_of stmt.now c) ≡ result }
-{
-    match stmt {
-        Stmt::Store(cells) => either(cells_use(x, cells.as_slice()), later),
-        Stmt::Bind(_, op) => either(op_uses(x, op), later),
-    }
+// Whether a block uses a variable: at all, and outside the alternatives of the case on some vector
+// where that comes next.
+#[derive(Clone, Copy)]
+struct Uses {
+    any: bool,
+    outside: bool,
 }
 
-#[tactic(auto, using(grin_syntax::proofs::TreeOf::tree_of, crate::proofs::Firsts::bind_outside, crate::proofs::Firsts::store_outside))]
-fn stmt_outside(t: VarId, x: VarId, stmt: &Stmt, later: bool, used: bool) -> bool
-    ensures { (c : Code) → outside t.0 x.0 c ≡ later → code_uses x.0 c ≡ used
-        → outside t.0 x.0 (before_of stmt.now c) ≡ result }
+// A statement before a block with these uses.
+#[tactic(auto, using(grin_syntax::proofs::TreeOf::tree_of))]
+fn with_stmt(t: VarId, x: VarId, stmt: &Stmt, later: Uses) -> Uses
+    ensures any { (c : Code) → code_uses x.0 c ≡ later.any
+        → code_uses x.0 (before_of stmt.now c) ≡ result.any }
+    ensures outside { (c : Code) → code_uses x.0 c ≡ later.any → outside t.0 x.0 c ≡ later.outside
+        → outside t.0 x.0 (before_of stmt.now c) ≡ result.outside }
 {
     match stmt {
-        Stmt::Store(cells) => either(cells_use(x, cells.as_slice()), used),
+        Stmt::Store(cells) => {
+            let any = either(cells_use(x, cells.as_slice()), later.any);
+            Uses { any, outside: any }
+        }
         Stmt::Bind(_, op) => {
-            let passed = either(op_uses(x, op), later);
-            let other = either(op_outside(t, x, op), used);
-            if_else(is_passed(op), passed, other)
+            let uses = op_uses(x, op);
+            let any = either(uses, later.any);
+            let passed = either(uses, later.outside);
+            let other = either(op_outside(t, x, op, uses), later.any);
+            let outside = if_else(is_passed(op), passed, other);
+            Uses { any, outside }
         }
     }
 }
@@ -213,13 +222,15 @@ pub(crate) fn outside(t: VarId, x: VarId, stmts: &[Stmt], last: &Op) -> bool
     ensures { result ≡ outside t.0 x.0
         (all_before (map before_of stmts.now) (end (act_of last.now))) }
 {
-    let mut found = op_outside(t, x, last);
-    let mut used = op_uses(x, last);
+    let any = op_uses(x, last);
+    let mut uses = Uses {
+        any,
+        outside: op_outside(t, x, last, any),
+    };
     let mut at = stmts.len();
     while at > 0 {
         at -= 1;
-        found = stmt_outside(t, x, &stmts[at], found, used);
-        used = stmt_uses_too(x, &stmts[at], used);
+        uses = with_stmt(t, x, &stmts[at], uses);
     }
-    found
+    uses.outside
 }

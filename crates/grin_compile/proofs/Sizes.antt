@@ -23,7 +23,7 @@ use Rattle.low_code.specs.Tree as low
 use Rattle.low_code.specs.Size.{low_all, calls_of}
 use Rattle.low_translate.specs.Lowers.{Lowers, LowersSmall}
 use Rattle.grin_compile.specs.Stages.{AreStages}
-use Rattle.copy_prop.proofs.PassContract.{outside_again}
+use Rattle.pass_ground.proofs.Vectors.{outside_again}
 use Rattle.seq.specs.Lists.{numbers_from}
 use Rattle.seq.proofs.Counted.{length_numbers}
 

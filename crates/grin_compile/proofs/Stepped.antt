@@ -15,7 +15,7 @@ use Rattle.grin_compile.specs.declared.later.Later.{Later}
 use Rattle.grin_compile.specs.Passed.{ArePassed, later_after, programs_of}
 use Rattle.grin_compile.specs.Stages.{passes, AreStages, IsLastOf}
 use Rattle.grin_compile.proofs.Narrow.{narrow}
-use Rattle.copy_prop.proofs.PassContract.{outside_again}
+use Rattle.pass_ground.proofs.Vectors.{outside_again}
 
 -- ---- the last one
 

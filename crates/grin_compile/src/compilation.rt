@@ -84,7 +84,7 @@ impl Compiled {
 }
 
 /// Compiles a program. `ExpandedTooLarge` where it is over 131,072 in size once its evaluations and
-/// applications are inlined.
+/// applications are inlined, `Memory` where memory is wanting.
 pub fn compile(alloc: Global, p: &Checked, options: Options) -> Result<Compiled, CompileRefusal>
     requires valid { IsValid (program p.now) }
     requires range { InRange options.cells options.stack }

@@ -22,6 +22,7 @@ pub struct Layers {
 }
 
 /// The layers below a program, for an image with so many cells and so many bytes of stack.
+/// `AllocError` where memory is wanting.
 pub fn layers_below(alloc: Global, g: &Grin, cells: u32, stack: u32) -> Result<Layers, AllocError>
     requires lowerable { IsLowerable (program_of g.now) }
     requires sizes { AreSizes cells stack }

@@ -7,7 +7,7 @@ use Rattle.core_reader.specs.Text.{IsFirstUnread, TextTooLong, NoLater}
 use Rattle.arity_check.specs.Program.{Program}
 use Rattle.arity_check.specs.Accepted.{IsFirstBroken, IsValid}
 use Rattle.arity_check.specs.First as check
-use Rattle.arity_check.specs.Refusal.{rule, place}
+use Rattle.arity_check.specs.Refusal.{rule, number}
 use Rattle.arity_check.specs.declared.refusal.CheckRefusal.{CheckRefusal}
 use Rattle.arity_check.specs.declared.refusal.CheckRefusal.TheVariants.{DuplicateConstructor, DuplicateFunction, DuplicateName, UnknownName, ConstructorArity, DefaultNotLast, DuplicateAlternative, MixedAlternatives, ReservedName, PrimitiveArity, NoMain, MainHasParameters, NoListConstructors, TooManyFunctions, TooManyConstructors, TooManyParameters, TooManyFields, CoreTooLarge, Memory}
 use Rattle.grin_driver.specs.declared.status.Status.{Status}
@@ -16,7 +16,7 @@ use Rattle.grin_driver.specs.Text.{IsRefusedBy, Unread, Unaccepted, IsAccepted, 
 use Rattle.core_reader.proofs.OnlyOne.{at_five}
 
 -- a refusal that is no want of memory names the first broken rule
-pub caused : (p : tree.Program) (r : CheckRefusal) → (rule r ≡ 0 → ⊥) → check.IsCause p r → IsFirstBroken p (rule r) (place r)
+pub caused : (p : tree.Program) (r : CheckRefusal) → (rule r ≡ 0 → ⊥) → check.IsCause p r → IsFirstBroken p (rule r) (number r)
 caused p (DuplicateConstructor at) some h = h
 caused p (DuplicateFunction at) some h = h
 caused p (DuplicateName at) some h = h

@@ -16,8 +16,9 @@ pub enum Status {
     /// The command did all that it says; at `run` the program's list ended, at `exec` the image
     /// exited with 0.
     Done,
-    /// The text or the image breaks this rule first; the number is its place in bytes, the size for
-    /// rule 35, or the number of a program header.
+    /// The text or the image breaks this rule first. The number is its place in the text in bytes;
+    /// 1,048,576 for rule 5, 0 for 19 and 21, the size for 35, the size once inlined for 36, the
+    /// number of the program header for 45 and 46, 4,096 for 50, and 0 for the others of an image.
     Refused { rule: u8, number: u64 },
     /// The words are no command.
     Usage,
@@ -33,6 +34,7 @@ pub enum Status {
     Exited(u32),
     /// The image met an instruction that can't be done, at this address.
     Trapped(TrapKind, u32),
+    /// Memory was wanting; nothing was put out.
     OutOfMemory,
     /// The file couldn't be opened or read, or the input couldn't be read.
     ReadFault,

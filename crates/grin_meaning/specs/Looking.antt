@@ -12,20 +12,21 @@ use Rattle.grin_meaning.specs.Ready.{IsInlined, RunsWell}
 abbrev pub look : Program → List ℕ → ℕ → Answer
 look g = run_by g true
 
--- no run of the program is missing, and no looking run
+-- no run of the program is missing
 abbrev pub NeverMissing : Program → Type 0
 NeverMissing g = (i : List ℕ) (n : ℕ) → end_of (run g i n) ≢ ended missing
 
-abbrev pub NeverMissed : Program → Type 0
-NeverMissed g = (i : List ℕ) (n : ℕ) → end_of (look g i n) ≢ ended missing
+-- no looking run of the program is missing
+abbrev pub LooksNeverMissing : Program → Type 0
+LooksNeverMissing g = (i : List ℕ) (n : ℕ) → end_of (look g i n) ≢ ended missing
 
 -- a looking run of an inlined program is never missing exactly where its runs are well and never
 -- missing, and then it is the run
 pub record LooksWell (g : Program) : Type 0 where
-  pub sees : NeverMissing g → ((i : List ℕ) (n : ℕ) → RunsWell g i n) → NeverMissed g
-  pub never_missing : NeverMissed g → NeverMissing g
-  pub runs_well : NeverMissed g → (i : List ℕ) (n : ℕ) → RunsWell g i n
-  pub same : NeverMissed g → (i : List ℕ) (n : ℕ) → look g i n ≡ run g i n
+  pub sees : NeverMissing g → ((i : List ℕ) (n : ℕ) → RunsWell g i n) → LooksNeverMissing g
+  pub never_missing : LooksNeverMissing g → NeverMissing g
+  pub runs_well : LooksNeverMissing g → (i : List ℕ) (n : ℕ) → RunsWell g i n
+  pub same : LooksNeverMissing g → (i : List ℕ) (n : ℕ) → look g i n ≡ run g i n
 
 abbrev pub LookingIsRunningWell : Type 0
 LookingIsRunningWell = (g : Program) → IsInlined g → LooksWell g

@@ -9,8 +9,9 @@ ghost use Rattle.grin_meaning.specs.Laws.{KeepingComposes};
 use grin_syntax::Grin;
 use std::alloc::{AllocError, Global};
 
-/// A pass over programs: wherever a run of the input is not missing, the answer's run has the same
-/// output, end, bytes taken and units, and no more cells and no greater depth.
+/// A pass over programs: wherever a run of the input with so many units is not missing, the
+/// answer's run with as many has the same output, end and bytes taken, and no more cells and no
+/// greater depth.
 pub trait Pass {
     /// Holds of the programs that it takes; that they are well formed, where the pass needs it.
     ghost takes: { Grin → Type 0 };

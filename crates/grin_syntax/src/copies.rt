@@ -1,8 +1,8 @@
 // Copies of programs.
 #![tactic(auto, using(crate::proofs::TreeOf::tree_of))]
 
-ghost use Rattle.std.specs.Prelude.{◌≡◌, IfOk};
-ghost use Rattle.grin_syntax.specs.Tree.{act_of, arm_of, before_of, code_of, program_of};
+ghost use Rattle.std.specs.Prelude.{◌≡◌, map, IfOk};
+ghost use Rattle.grin_syntax.specs.Tree.{act_of, arm_of, before_of, code_of, procedure_of, program_of};
 
 use crate::program::{Alt, Block, Cell, GlobalCell, Grin, Op, Proc, Shape, Stmt, Tag, Target, Val};
 use seq::Seq;
@@ -32,7 +32,8 @@ pub fn copy_target(alloc: Global, t: &Target) -> Result<Target, AllocError>
     }
 }
 
-fn copy_shape(alloc: Global, p: &Shape) -> Result<Shape, AllocError>
+/// An equal pattern.
+pub fn copy_shape(alloc: Global, p: &Shape) -> Result<Shape, AllocError>
     ensures { IfOk result (λ c. c ≡ p.now) }
 {
     match p {
@@ -119,13 +120,12 @@ fn copy_block(alloc: Global, block: &Block) -> Result<Block, AllocError>
     })
 }
 
-/// A program with the same tree. Its one error is want of memory.
-pub fn copy(alloc: Global, g: &Grin) -> Result<Grin, AllocError>
-    ensures { IfOk result (λ h. program_of h ≡ program_of g.now) }
+fn copy_tags(alloc: Global, tags: &[Tag]) -> Result<Seq<Tag>, AllocError>
+    ensures { IfOk result (λ c. c ≡ tags.now) }
 {
-    let mut tags = Seq::new(alloc);
-    for tag in g.tags.as_slice() {
-        tags.push(Tag {
+    let mut made = Seq::new(alloc);
+    for tag in tags {
+        made.push(Tag {
             kind: tag.kind,
             name: Seq::from_slice(alloc, tag.name.as_slice())?,
             missing: tag.missing,
@@ -133,26 +133,45 @@ pub fn copy(alloc: Global, g: &Grin) -> Result<Grin, AllocError>
             proc: tag.proc,
         })?;
     }
-    let mut globals = Seq::new(alloc);
-    for global in g.globals.as_slice() {
-        globals.push(GlobalCell {
+    Ok(made)
+}
+
+fn copy_globals(alloc: Global, globals: &[GlobalCell]) -> Result<Seq<GlobalCell>, AllocError>
+    ensures { IfOk result (λ c. c ≡ globals.now) }
+{
+    let mut made = Seq::new(alloc);
+    for global in globals {
+        made.push(GlobalCell {
             name: Seq::from_slice(alloc, global.name.as_slice())?,
             site: global.site,
             tag: global.tag,
         })?;
     }
-    let mut procs = Seq::new(alloc);
-    for proc in g.procs.as_slice() {
-        procs.push(Proc {
+    Ok(made)
+}
+
+fn copy_procs(alloc: Global, procs: &[Proc]) -> Result<Seq<Proc>, AllocError>
+    ensures { IfOk result (λ c. map procedure_of c ≡ map procedure_of procs.now) }
+{
+    let mut made = Seq::new(alloc);
+    for proc in procs {
+        made.push(Proc {
             name: Seq::from_slice(alloc, proc.name.as_slice())?,
             params: Seq::from_slice(alloc, proc.params.as_slice())?,
             body: copy_block(alloc, &proc.body)?,
         })?;
     }
+    Ok(made)
+}
+
+/// A program with the same tree. Its one error is want of memory.
+pub fn copy(alloc: Global, g: &Grin) -> Result<Grin, AllocError>
+    ensures { IfOk result (λ h. program_of h ≡ program_of g.now) }
+{
     Ok(Grin {
-        tags,
-        globals,
-        procs,
+        tags: copy_tags(alloc, g.tags.as_slice())?,
+        globals: copy_globals(alloc, g.globals.as_slice())?,
+        procs: copy_procs(alloc, g.procs.as_slice())?,
         start: g.start,
         argument: g.argument,
     })

@@ -3,8 +3,8 @@
 
 pub mod copies;
 pub mod fresh;
-mod line;
 mod listing;
+mod listing_text;
 pub mod program;
 mod ranks;
 

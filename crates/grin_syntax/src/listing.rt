@@ -10,7 +10,7 @@ ghost use Rattle.grin_syntax.specs.Binders.{procedure_vars};
 ghost use Rattle.grin_syntax.specs.Listing.{place, tag_name, global_line, procedure_name, operator, deeper, first_line, spaced, joined, var_text, word_text, val_text, target_text, shape_text, cell_line, act_text, rest_text, code_text, procedure_text, listing};
 ghost use Rattle.grin_syntax.specs.Statements.{stmt_text, alt_text};
 
-use crate::line::Line;
+use crate::listing_text::ListingText;
 use crate::program::{
     Alt, Block, Cell, GlobalCell, Grin, Op, PrimOp, Proc, ProcId, Shape, Stmt, TagId, TagKind,
     Target, Val, VarId, Word,
@@ -24,7 +24,7 @@ use std::alloc::{AllocError, Global};
 pub fn list(alloc: Global, g: &Grin) -> Result<Vec<u8>, AllocError>
     ensures { IfOk result (λ text. text.items ≡ listing (program_of g.now)) }
 {
-    let mut text = Line::new(alloc);
+    let mut text = ListingText::new(alloc);
     put_globals(&mut text, g)?;
     for proc in g.procs.as_slice() {
         let ranks = ranks(alloc, proc)?;
@@ -33,7 +33,7 @@ pub fn list(alloc: Global, g: &Grin) -> Result<Vec<u8>, AllocError>
     Ok(text.into_vec())
 }
 
-fn put_globals(text: &mut Line, g: &Grin) -> Result<(), AllocError>
+fn put_globals(text: &mut ListingText, g: &Grin) -> Result<(), AllocError>
     ensures { OnOk result (text.new ≡ text.old
         ++ flat_map (global_line (program_of g.now)) g.now.globals) }
 {
@@ -43,7 +43,7 @@ fn put_globals(text: &mut Line, g: &Grin) -> Result<(), AllocError>
     Ok(())
 }
 
-fn put_global(text: &mut Line, g: &Grin, cell: &GlobalCell) -> Result<(), AllocError>
+fn put_global(text: &mut ListingText, g: &Grin, cell: &GlobalCell) -> Result<(), AllocError>
     ensures { OnOk result (text.new ≡ text.old ++ global_line (program_of g.now) cell.now) }
 {
     text.put("global ")?;
@@ -55,7 +55,7 @@ fn put_global(text: &mut Line, g: &Grin, cell: &GlobalCell) -> Result<(), AllocE
 
 fn put_proc(
     alloc: Global,
-    text: &mut Line,
+    text: &mut ListingText,
     g: &Grin,
     ranks: &Ranks,
     proc: &Proc,
@@ -65,7 +65,7 @@ fn put_proc(
     ensures { OnOk result (text.new ≡ text.old
         ++ procedure_text (program_of g.now) (procedure_of proc.now)) }
 {
-    let mut margin = Line::new(alloc);
+    let mut margin = ListingText::new(alloc);
     margin.deepen()?;
     text.put("\n")?;
     text.bytes(proc.name.as_slice())?;
@@ -76,7 +76,7 @@ fn put_proc(
 }
 
 // The letter of a tag's kind and the tag's name.
-fn put_tag(text: &mut Line, g: &Grin, tag: TagId) -> Result<(), AllocError>
+fn put_tag(text: &mut ListingText, g: &Grin, tag: TagId) -> Result<(), AllocError>
     ensures { OnOk result (text.new ≡ text.old ++ tag_name (program_of g.now) tag) }
 {
     match g.tags.get(tag.0 as usize) {
@@ -96,7 +96,7 @@ fn put_tag(text: &mut Line, g: &Grin, tag: TagId) -> Result<(), AllocError>
 }
 
 #[tactic(auto, unfolding(crate::specs::Listing::var_text))]
-fn put_var(text: &mut Line, ranks: &Ranks, var: VarId) -> Result<(), AllocError>
+fn put_var(text: &mut ListingText, ranks: &Ranks, var: VarId) -> Result<(), AllocError>
     ensures { OnOk result (text.new ≡ text.old ++ var_text (tree.get nat_cmp ranks.now) var) }
 {
     text.put("v")?;
@@ -107,7 +107,7 @@ fn put_var(text: &mut Line, ranks: &Ranks, var: VarId) -> Result<(), AllocError>
 }
 
 // Each variable after a space.
-fn put_vars(text: &mut Line, ranks: &Ranks, vars: &[VarId]) -> Result<(), AllocError>
+fn put_vars(text: &mut ListingText, ranks: &Ranks, vars: &[VarId]) -> Result<(), AllocError>
     ensures { OnOk result (text.new ≡ text.old
         ++ spaced (var_text (tree.get nat_cmp ranks.now)) vars.now) }
 {
@@ -119,7 +119,7 @@ fn put_vars(text: &mut Line, ranks: &Ranks, vars: &[VarId]) -> Result<(), AllocE
 }
 
 // The variables with a space between them.
-fn put_joined_vars(text: &mut Line, ranks: &Ranks, vars: &[VarId]) -> Result<(), AllocError>
+fn put_joined_vars(text: &mut ListingText, ranks: &Ranks, vars: &[VarId]) -> Result<(), AllocError>
     ensures { OnOk result (text.new ≡ text.old
         ++ joined (var_text (tree.get nat_cmp ranks.now)) vars.now) }
 {
@@ -132,7 +132,7 @@ fn put_joined_vars(text: &mut Line, ranks: &Ranks, vars: &[VarId]) -> Result<(),
     }
 }
 
-fn put_word(text: &mut Line, g: &Grin, ranks: &Ranks, word: Word) -> Result<(), AllocError>
+fn put_word(text: &mut ListingText, g: &Grin, ranks: &Ranks, word: Word) -> Result<(), AllocError>
     ensures { OnOk result (text.new ≡ text.old
         ++ word_text (program_of g.now) (tree.get nat_cmp ranks.now) word) }
 {
@@ -151,7 +151,12 @@ fn put_word(text: &mut Line, g: &Grin, ranks: &Ranks, word: Word) -> Result<(), 
 }
 
 // Each word after a space.
-fn put_words(text: &mut Line, g: &Grin, ranks: &Ranks, words: &[Word]) -> Result<(), AllocError>
+fn put_words(
+    text: &mut ListingText,
+    g: &Grin,
+    ranks: &Ranks,
+    words: &[Word],
+) -> Result<(), AllocError>
     ensures { OnOk result (text.new ≡ text.old
         ++ spaced (word_text (program_of g.now) (tree.get nat_cmp ranks.now)) words.now) }
 {
@@ -163,7 +168,12 @@ fn put_words(text: &mut Line, g: &Grin, ranks: &Ranks, words: &[Word]) -> Result
 }
 
 // The words with a space between them.
-fn put_joined(text: &mut Line, g: &Grin, ranks: &Ranks, words: &[Word]) -> Result<(), AllocError>
+fn put_joined(
+    text: &mut ListingText,
+    g: &Grin,
+    ranks: &Ranks,
+    words: &[Word],
+) -> Result<(), AllocError>
     ensures { OnOk result (text.new ≡ text.old
         ++ joined (word_text (program_of g.now) (tree.get nat_cmp ranks.now)) words.now) }
 {
@@ -176,7 +186,7 @@ fn put_joined(text: &mut Line, g: &Grin, ranks: &Ranks, words: &[Word]) -> Resul
     }
 }
 
-fn put_val(text: &mut Line, g: &Grin, ranks: &Ranks, val: &Val) -> Result<(), AllocError>
+fn put_val(text: &mut ListingText, g: &Grin, ranks: &Ranks, val: &Val) -> Result<(), AllocError>
     ensures { OnOk result (text.new ≡ text.old
         ++ val_text (program_of g.now) (tree.get nat_cmp ranks.now) val.now) }
 {
@@ -197,7 +207,7 @@ fn put_val(text: &mut Line, g: &Grin, ranks: &Ranks, val: &Val) -> Result<(), Al
     }
 }
 
-fn put_target(text: &mut Line, ranks: &Ranks, target: &Target) -> Result<(), AllocError>
+fn put_target(text: &mut ListingText, ranks: &Ranks, target: &Target) -> Result<(), AllocError>
     ensures { OnOk result (text.new ≡ text.old
         ++ target_text (tree.get nat_cmp ranks.now) target.now) }
 {
@@ -219,7 +229,12 @@ fn put_target(text: &mut Line, ranks: &Ranks, target: &Target) -> Result<(), All
     }
 }
 
-fn put_shape(text: &mut Line, g: &Grin, ranks: &Ranks, shape: &Shape) -> Result<(), AllocError>
+fn put_shape(
+    text: &mut ListingText,
+    g: &Grin,
+    ranks: &Ranks,
+    shape: &Shape,
+) -> Result<(), AllocError>
     ensures { OnOk result (text.new ≡ text.old
         ++ shape_text (program_of g.now) (tree.get nat_cmp ranks.now) shape.now) }
 {
@@ -240,8 +255,8 @@ fn put_shape(text: &mut Line, g: &Grin, ranks: &Ranks, shape: &Shape) -> Result<
 }
 
 fn put_cell(
-    text: &mut Line,
-    margin: &Line,
+    text: &mut ListingText,
+    margin: &ListingText,
     g: &Grin,
     ranks: &Ranks,
     cell: &Cell,
@@ -249,7 +264,7 @@ fn put_cell(
     ensures { OnOk result (text.new ≡ text.old
         ++ cell_line (program_of g.now) (tree.get nat_cmp ranks.now) margin.now cell.now) }
 {
-    text.line(margin)?;
+    text.append(margin)?;
     put_var(text, ranks, cell.var)?;
     text.put(" = ")?;
     put_val(text, g, ranks, &cell.val)?;
@@ -257,8 +272,8 @@ fn put_cell(
 }
 
 fn put_cells(
-    text: &mut Line,
-    margin: &Line,
+    text: &mut ListingText,
+    margin: &ListingText,
     g: &Grin,
     ranks: &Ranks,
     cells: &[Cell],
@@ -287,7 +302,7 @@ fn operator_name(op: PrimOp) -> &'static str
     }
 }
 
-fn put_name(text: &mut Line, g: &Grin, proc: ProcId) -> Result<(), AllocError>
+fn put_name(text: &mut ListingText, g: &Grin, proc: ProcId) -> Result<(), AllocError>
     ensures { OnOk result (text.new ≡ text.old
         ++ procedure_name (slice_get (program_of g.now).procs proc.0)) }
 {
@@ -297,63 +312,101 @@ fn put_name(text: &mut Line, g: &Grin, proc: ProcId) -> Result<(), AllocError>
     }
 }
 
+fn put_word_after(
+    text: &mut ListingText,
+    lead: &str,
+    g: &Grin,
+    ranks: &Ranks,
+    word: Word,
+) -> Result<(), AllocError>
+    ensures { OnOk result (text.new ≡ text.old ++ lead.now
+        ++ word_text (program_of g.now) (tree.get nat_cmp ranks.now) word) }
+{
+    text.put(lead)?;
+    put_word(text, g, ranks, word)
+}
+
+fn put_val_after(
+    text: &mut ListingText,
+    lead: &str,
+    g: &Grin,
+    ranks: &Ranks,
+    val: &Val,
+) -> Result<(), AllocError>
+    ensures { OnOk result (text.new ≡ text.old ++ lead.now
+        ++ val_text (program_of g.now) (tree.get nat_cmp ranks.now) val.now) }
+{
+    text.put(lead)?;
+    put_val(text, g, ranks, val)
+}
+
+fn put_call(
+    text: &mut ListingText,
+    g: &Grin,
+    ranks: &Ranks,
+    proc: ProcId,
+    words: &[Word],
+) -> Result<(), AllocError>
+    ensures { OnOk result (text.new ≡ text.old ++ codes "call "
+        ++ procedure_name (slice_get (program_of g.now).procs proc.0)
+        ++ spaced (word_text (program_of g.now) (tree.get nat_cmp ranks.now)) words.now) }
+{
+    text.put("call ")?;
+    put_name(text, g, proc)?;
+    put_words(text, g, ranks, words)
+}
+
+fn put_prim(
+    text: &mut ListingText,
+    g: &Grin,
+    ranks: &Ranks,
+    op: PrimOp,
+    left: Word,
+    right: Word,
+) -> Result<(), AllocError>
+    ensures { OnOk result (text.new ≡ text.old ++ operator op
+        ++ codes " " ++ word_text (program_of g.now) (tree.get nat_cmp ranks.now) left
+        ++ codes " " ++ word_text (program_of g.now) (tree.get nat_cmp ranks.now) right) }
+{
+    text.put(operator_name(op))?;
+    put_word_after(text, " ", g, ranks, left)?;
+    put_word_after(text, " ", g, ranks, right)
+}
+
 // The first line of an operation.
-fn put_first_line(text: &mut Line, g: &Grin, ranks: &Ranks, op: &Op) -> Result<(), AllocError>
+fn put_first_line(
+    text: &mut ListingText,
+    g: &Grin,
+    ranks: &Ranks,
+    op: &Op,
+) -> Result<(), AllocError>
     ensures { OnOk result (text.new ≡ text.old
         ++ first_line (program_of g.now) (tree.get nat_cmp ranks.now) (act_of op.now)) }
 {
     match op {
-        Op::Unit(val) => {
-            text.put("unit ")?;
-            put_val(text, g, ranks, val)
-        }
-        Op::Fetch(word) => {
-            text.put("fetch ")?;
-            put_word(text, g, ranks, *word)
-        }
+        Op::Unit(val) => put_val_after(text, "unit ", g, ranks, val),
+        Op::Fetch(word) => put_word_after(text, "fetch ", g, ranks, *word),
         Op::FetchWord(word, at) => {
-            text.put("fetch ")?;
-            put_word(text, g, ranks, *word)?;
+            put_word_after(text, "fetch ", g, ranks, *word)?;
             text.put(" ")?;
             text.number(*at as usize)
         }
         Op::Update(word, val) => {
-            text.put("update ")?;
-            put_word(text, g, ranks, *word)?;
-            text.put(" ")?;
-            put_val(text, g, ranks, val)
+            put_word_after(text, "update ", g, ranks, *word)?;
+            put_val_after(text, " ", g, ranks, val)
         }
-        Op::Eval(word) => {
-            text.put("eval ")?;
-            put_word(text, g, ranks, *word)
-        }
+        Op::Eval(word) => put_word_after(text, "eval ", g, ranks, *word),
         Op::Apply(val, word) => {
-            text.put("apply ")?;
-            put_val(text, g, ranks, val)?;
-            text.put(" ")?;
-            put_word(text, g, ranks, *word)
+            put_val_after(text, "apply ", g, ranks, val)?;
+            put_word_after(text, " ", g, ranks, *word)
         }
-        Op::Call(proc, words) => {
-            text.put("call ")?;
-            put_name(text, g, *proc)?;
-            put_words(text, g, ranks, words.as_slice())
-        }
-        Op::Prim(op, left, right) => {
-            text.put(operator_name(*op))?;
-            text.put(" ")?;
-            put_word(text, g, ranks, *left)?;
-            text.put(" ")?;
-            put_word(text, g, ranks, *right)
-        }
+        Op::Call(proc, words) => put_call(text, g, ranks, *proc, words.as_slice()),
+        Op::Prim(op, left, right) => put_prim(text, g, ranks, *op, *left, *right),
         Op::Read => text.put("read"),
-        Op::Write(word) => {
-            text.put("write ")?;
-            put_word(text, g, ranks, *word)
-        }
+        Op::Write(word) => put_word_after(text, "write ", g, ranks, *word),
         Op::Fail => text.put("fail"),
         Op::Case(val, _) => {
-            text.put("case ")?;
-            put_val(text, g, ranks, val)?;
+            put_val_after(text, "case ", g, ranks, val)?;
             text.put(" of")
         }
         Op::Nested(_) => text.put("do"),
@@ -362,8 +415,8 @@ fn put_first_line(text: &mut Line, g: &Grin, ranks: &Ranks, op: &Op) -> Result<(
 
 #[cycle(lines)]
 fn put_op(
-    text: &mut Line,
-    margin: &mut Line,
+    text: &mut ListingText,
+    margin: &mut ListingText,
     g: &Grin,
     ranks: &Ranks,
     op: &Op,
@@ -382,8 +435,8 @@ fn put_op(
 #[cycle(lines)]
 #[tactic(auto, using(crate::proofs::TreeOf::tree_of), unfolding(crate::specs::Listing::rest_text))]
 fn put_rest(
-    text: &mut Line,
-    margin: &mut Line,
+    text: &mut ListingText,
+    margin: &mut ListingText,
     g: &Grin,
     ranks: &Ranks,
     op: &Op,
@@ -418,8 +471,8 @@ fn put_rest(
 // A block one level deeper.
 #[cycle(lines)]
 fn put_deeper(
-    text: &mut Line,
-    margin: &mut Line,
+    text: &mut ListingText,
+    margin: &mut ListingText,
     g: &Grin,
     ranks: &Ranks,
     block: &Block,
@@ -438,8 +491,8 @@ fn put_deeper(
 // Alternatives, one level deeper.
 #[cycle(lines)]
 fn put_alts(
-    text: &mut Line,
-    margin: &mut Line,
+    text: &mut ListingText,
+    margin: &mut ListingText,
     g: &Grin,
     ranks: &Ranks,
     alts: &[Alt],
@@ -451,7 +504,7 @@ fn put_alts(
     let len = margin.len();
     margin.deepen()?;
     for alt in alts {
-        text.line(margin)?;
+        text.append(margin)?;
         put_shape(text, g, ranks, &alt.pattern)?;
         text.put(" ->\n")?;
         put_deeper(text, margin, g, ranks, &alt.body)?;
@@ -462,8 +515,8 @@ fn put_alts(
 
 #[cycle(lines)]
 fn put_stmt(
-    text: &mut Line,
-    margin: &mut Line,
+    text: &mut ListingText,
+    margin: &mut ListingText,
     g: &Grin,
     ranks: &Ranks,
     stmt: &Stmt,
@@ -472,7 +525,7 @@ fn put_stmt(
         ++ stmt_text (program_of g.now) (tree.get nat_cmp ranks.now) margin.old stmt.now)
         × (margin.new ≡ margin.old)) }
 {
-    text.line(margin)?;
+    text.append(margin)?;
     match stmt {
         Stmt::Store(cells) => put_store(text, margin, g, ranks, cells.as_slice()),
         Stmt::Bind(target, op) => {
@@ -483,8 +536,8 @@ fn put_stmt(
 }
 
 fn put_store(
-    text: &mut Line,
-    margin: &mut Line,
+    text: &mut ListingText,
+    margin: &mut ListingText,
     g: &Grin,
     ranks: &Ranks,
     cells: &[Cell],
@@ -503,8 +556,8 @@ fn put_store(
 
 #[cycle(lines)]
 fn put_block(
-    text: &mut Line,
-    margin: &mut Line,
+    text: &mut ListingText,
+    margin: &mut ListingText,
     g: &Grin,
     ranks: &Ranks,
     block: &Block,
@@ -516,7 +569,7 @@ fn put_block(
     for stmt in block.stmts.as_slice() {
         put_stmt(text, margin, g, ranks, stmt)?;
     }
-    text.line(margin)?;
+    text.append(margin)?;
     put_op(text, margin, g, ranks, &block.last)?;
     Ok(())
 }

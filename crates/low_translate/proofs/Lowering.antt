@@ -14,7 +14,7 @@ use Rattle.grin_meaning.specs.Values.{HeapCell}
 use Rattle.grin_meaning.specs.Run as grin_run
 use Rattle.grin_meaning.specs.Run.{run_by}
 use Rattle.grin_meaning.specs.Keeps as keeps
-use Rattle.grin_meaning.specs.Looking.{look, NeverMissed, LooksWell}
+use Rattle.grin_meaning.specs.Looking.{look, LooksNeverMissing, LooksWell}
 use Rattle.grin_meaning.specs.Ready.{IsVectorised, Ready, most_fields}
 use Rattle.grin_meaning.specs.Told as grin_told
 use Rattle.grin_meaning.proofs.Looked.{looking_law}
@@ -117,7 +117,7 @@ module _ (g : grin_tree.Program) (l : low_tree.Program) (formed : Formed g) (rea
   looks : LooksWell g
   looks = looking_law g ready.inlined
 
-  never_missed : NeverMissed g
+  never_missed : LooksNeverMissing g
   never_missed = looks.sees ready.never_missing ready.runs
 
   module _ (fw : ℕ → ℕ) (most : ℕ) (bounded : (f : ℕ) → f < length g.procs → fw f ≤ most) (i : List ℕ) (bytes : IsBytes i) (n : ℕ) where

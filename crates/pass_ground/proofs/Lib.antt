@@ -1,3 +1,4 @@
 pub mod Tests
 pub mod Bound
 pub mod Mentions
+pub mod Vectors

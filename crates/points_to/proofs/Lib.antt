@@ -8,6 +8,7 @@ pub mod BlockSets
 pub mod Done
 pub mod Fields
 pub mod OneTag
+pub mod PartOrder
 pub mod SameVec
 pub mod Sets
 pub mod Loops

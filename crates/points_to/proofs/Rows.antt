@@ -1,25 +1,20 @@
 -- Rows of words, and the items that they hold.
-use Rattle.std.proofs.Common.{◌≡◌, ◌+◌, ◌*◌, ◌/◌, ◌%◌, ◌<◌, ◌≤◌, ℕ, zero, suc, Bool, true, false, cond, nat_lt, List, [], ◌∷◌, ◌++◌, map, length, get_or, take, Some, slice_get, refl, sym, ap, ◌∙◌, subst, inl, inr, ⊎_elim, arith}
+use Rattle.std.proofs.Common.{◌≡◌, ◌+◌, ◌*◌, ◌/◌, ◌%◌, ◌<◌, ◌≤◌, ℕ, zero, suc, Bool, true, false, cond, nat_lt, List, [], ◌∷◌, ◌++◌, map, refl, sym, ap, ◌∙◌, subst, inl, inr, ⊎_elim, arith}
 use Rattle.std.specs.Prelude.{IsTrue}
 use Rattle.std.specs.List.{flat_map}
 use Rattle.std.proofs.lemmas.Bool.{cases_lt}
 use Rattle.std.proofs.lemmas.Bool.Decides.{nat_tests}
-use Rattle.std.proofs.lemmas.Option.{slice_get_read}
 use Rattle.flow_system.specs.declared.fact.Element.{Element}
 use Rattle.flow_system.specs.declared.fact.Element.TheVariants.{Cell, Tag, Number}
 use Rattle.flow_system.specs.declared.fact.Part.{Part}
-use Rattle.points_to.specs.declared.facts.Item.{Item}
 use Rattle.points_to.specs.declared.items.Row.{Row}
 use Rattle.points_to.specs.declared.runs.ItemRun.{ItemRun}
 use Rattle.points_to.specs.Runs.{run_items}
 use Rattle.points_to.specs.Held.{In, item, same_part, picked, in_part}
 use Rattle.points_to.specs.Bits.{block_numbers, block_words, number_or_tag, number_of, word_of}
-use Rattle.points_to.specs.Rows.{numbers_in, row_words, row_items, HasPart, GetsAll}
-use Rattle.seq.proofs.Member.{in_left, in_right, in_split, in_map, map_in}
-use Rattle.seq.proofs.Lists.{map_append, append_nil}
-use Rattle.points_to.proofs.GivenItems.{same_part-true, same_part-self}
-use Rattle.points_to.proofs.Gets.{gets_between}
-use Rattle.points_to.proofs.Loops.{flat_next}
+use Rattle.points_to.specs.Rows.{numbers_in, row_words, row_items, GetsAll}
+use Rattle.seq.proofs.Member.{in_map, map_in}
+use Rattle.seq.proofs.Lists.{map_append}
 
 -- the lower half of 128 numbers is of the number alone and the tags, the upper half of cells
 low_word : (n : ℕ) → n % 128 < 64 → word_of n ≡ number_or_tag (n / 128 * 64 + n % 64)
@@ -85,22 +80,19 @@ gets_words es es' ns g =
     (subst (λ l. GetsAll (map word_of (flat_map block_numbers es)) l (map word_of ns)) (sym (words_are es'))
     (map_gets word_of (flat_map block_numbers es) (flat_map block_numbers es') ns g))
 
--- a row's items
-pub row_yes : (r : Row) (i : Item) (n : ℕ) (b : Bool) → same_part r.part i.part ≡ true → n ≡ number_of i.word → (IsTrue b → In n (numbers_in r.words)) × (In n (numbers_in r.words) → IsTrue b) → (IsTrue b → In i (row_items r)) × (In i (row_items r) → IsTrue b)
-row_yes r i n b e q t =
+-- a word of a row
+pub has_word : (r : Row) (u : Element) (n : ℕ) (b : Bool) → n ≡ number_of u → (IsTrue b → In n (numbers_in r.words)) × (In n (numbers_in r.words) → IsTrue b) → (IsTrue b → In u (row_words r)) × (In u (row_words r) → IsTrue b)
+has_word r u n b q t =
     let words : row_words r ≡ map word_of (numbers_in r.words) = words_are r.words.blocks.items in
-    let its : word_of n ≡ i.word = ap word_of q ∙ word_number i.word in (
-      λ h. subst (λ p. In (item p i.word) (row_items r)) (same_part-true r.part i.part e) (in_map (item r.part) (row_words r) (subst (In i.word) (sym words) (subst (λ u. In u (map word_of (numbers_in r.words))) its (in_map word_of (numbers_in r.words) (t.0 h))))),
+    let its : word_of n ≡ u = ap word_of q ∙ word_number u in (
+      λ h. subst (In u) (sym words) (subst (λ v. In v (map word_of (numbers_in r.words))) its (in_map word_of (numbers_in r.words) (t.0 h))),
       λ h.
-          let w = map_in (item r.part) (row_words r) h in
-          let v = map_in word_of (numbers_in r.words) (subst (In w.0) words w.1) in
-          let same : v.0 ≡ n = sym (number_word v.0) ∙ ap number_of (sym v.2) ∙ ap number_of (sym (ap (λ j. j.word) w.2)) ∙ sym q in
+          let v = map_in word_of (numbers_in r.words) (subst (In u) words h) in
+          let same : v.0 ≡ n = sym (number_word v.0) ∙ ap number_of (sym v.2) ∙ sym q in
           t.1 (subst (λ m. In m (numbers_in r.words)) same v.1),
     )
 
-pub row_no : (r : Row) (i : Item) → same_part r.part i.part ≡ false → (IsTrue false → In i (row_items r)) × (In i (row_items r) → IsTrue false)
-row_no r i e = (λ t. cc, λ h. let w = map_in (item r.part) (row_words r) h in sym e ∙ subst (λ q. same_part r.part q ≡ true) (sym (ap (λ j. j.part) w.2)) (same_part-self r.part))
-
+-- a row that gets words
 pub row_gets : (r r' : Row) (run : ItemRun) → r.part ≡ run.part → r'.part ≡ r.part → GetsAll (numbers_in r.words) (numbers_in r'.words) (block_numbers run.block) → GetsAll (row_items r) (row_items r') (run_items run)
 row_gets r r' run e e' g =
     subst (λ q. GetsAll (row_items r) (row_items r') (in_part q (block_words run.block))) e
@@ -111,31 +103,6 @@ row_gets r r' run e e' g =
 -- a new row
 pub row_none : (r : Row) → numbers_in r.words ≡ [] → row_items r ≡ []
 row_none r e = ap (in_part r.part) (words_are r.words.blocks.items ∙ ap (map word_of) e)
-
--- several rows
-pub not_yet : (rows : List Row) (n : ℕ) (r : Row) (b : Bool) (x : Item) → n < length rows → r ≡ get_or rows n r → b ≡ false → (In x (row_items r) → IsTrue b) → (In x (flat_map row_items (take n rows)) → ⊥) → In x (flat_map row_items (take (n + 1) rows)) → ⊥
-not_yet rows n r b x lt e f shut before h =
-    let same : flat_map row_items (take (n + 1) rows) ≡ flat_map row_items (take n rows) ++ row_items (get_or rows n r) = sym (flat_next row_items rows n r [] (flat_map row_items (take n rows)) (flat_map row_items (take n rows) ++ row_items (get_or rows n r)) lt refl refl) in
-    ⊎_elim (λ a. before a) (λ k. let t : IsTrue b = shut (subst (λ r. In x (row_items r)) (sym e) k) in cc) (in_split (flat_map row_items (take n rows)) (row_items (get_or rows n r)) (subst (In x) same h))
-
-pub in_rows : (rows : List Row) (n : ℕ) (r : Row) (x : Item) → n < length rows → r ≡ get_or rows n r → In x (row_items r) → In x (flat_map row_items rows)
-in_rows [] n r x lt e h = absurd (omega arith)
-in_rows (y ∷ rows) zero r x lt e h = in_left _ _ (subst (λ r. In x (row_items r)) e h)
-in_rows (y ∷ rows) (suc n) r x lt e h = in_right (row_items y) _ (in_rows rows n r x (omega arith) e h)
-
-pub has_part : (rows : List Row) (k : ℕ) (r : Row) (q : Part) → k < length rows → r ≡ get_or rows k r → same_part r.part q ≡ true → HasPart rows k q
-has_part rows k r q lt e s = record { row = r; is_row = slice_get_read rows (length rows) k r refl lt e; is_part = same_part-true r.part q s }
-
-pub within : (rows : List Row) (k : ℕ) (q : Part) → HasPart rows k q → k < length rows
-within rows k q h = go rows k h.is_row
-  where
-    go : (xs : List Row) (n : ℕ) → slice_get xs n ≡ Some h.row → n < length xs
-    go [] n e = cc
-    go (x ∷ xs) zero e = omega arith
-    go (x ∷ xs) (suc n) e = let lt : n < length xs = go xs n e in omega arith
-
-pub gets_row : (rows : List Row) (r : Row) (is : List Item) → GetsAll [] (row_items r) is → GetsAll (flat_map row_items rows) (flat_map row_items (rows ++ r ∷ [])) is
-gets_row rows r is g = subst (λ l. GetsAll (flat_map row_items l) (flat_map row_items (rows ++ r ∷ [])) is) (append_nil rows) (gets_between row_items is rows [] r g)
 
 -- one part of a row
 pub picked_row : (q : Part) (r : Part) (ks : List Element) → same_part q r ≡ true → picked q (in_part r ks) ≡ ks

@@ -5,8 +5,9 @@ pub mod Known
 pub mod Rounds
 pub mod Bits
 pub mod ByTag
-pub mod Row
+pub mod Numbering
 pub mod Rows
+pub mod PartOrder
 pub mod Runs
 pub mod Reads
 pub mod Shift

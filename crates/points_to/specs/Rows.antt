@@ -1,8 +1,7 @@
 -- Items in rows of words, one row for each part.
-use Rattle.std.specs.Prelude.{◌≡◌, ℕ, ◌⊎◌, List, Some, slice_get}
+use Rattle.std.specs.Prelude.{◌≡◌, ℕ, ◌⊎◌, List}
 use Rattle.std.specs.List.{flat_map}
 use Rattle.flow_system.specs.declared.fact.Element.{Element}
-use Rattle.flow_system.specs.declared.fact.Part.{Part}
 use Rattle.points_to.specs.declared.facts.Item.{Item}
 use Rattle.points_to.specs.declared.bits.Bits.{Bits}
 use Rattle.points_to.specs.declared.items.Row.{Row}
@@ -24,12 +23,6 @@ row_words r = words_in r.words
 -- the items of a row
 abbrev pub row_items : Row → List Item
 row_items r = in_part r.part (row_words r)
-
--- the row with this number is one of this part
-pub record HasPart (rows : List Row) (k : ℕ) (q : Part) : Type 0 where
-  pub row : Row
-  pub is_row : slice_get rows k ≡ Some row
-  pub is_part : row.part ≡ q
 
 -- a list gets a member, and no other
 pub record Gets {X : Type 0} (old new : List X) (x : X) : Type 0 where

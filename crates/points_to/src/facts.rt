@@ -1,16 +1,14 @@
 // What is known of a program: for each place, which words stand in which of its parts.
 
-ghost use Rattle.std.specs.Prelude.{◌≡◌, ℕ, ◌<◌, ◌≤◌, ◌+◌, [], ◌++◌, length, IsTrue, ◌↔◌, ◌⊎◌, OnOk, IfOk, true, false};
-ghost use Rattle.std.specs.List.{flat_map};
+ghost use Rattle.std.specs.Prelude.{◌≡◌, ℕ, ◌<◌, ◌≤◌, ◌+◌, [], ◌++◌, length, MatchOption, IsTrue, ◌↔◌, ◌⊎◌, OnOk, IfOk, true, false};
 ghost use Rattle.flow_system.specs.declared.fact.Place.{Place as Place'};
 ghost use Rattle.flow_system.specs.Shown.{tables_of};
 ghost use Rattle.points_to.specs.Held.{In, picked, done_items};
 ghost use Rattle.points_to.specs.Known.{items_at, held, Puts, Grows};
-ghost use Rattle.points_to.specs.Rows.{row_items};
 ghost use Rattle.points_to.specs.Runs.{run_items, run_facts};
 ghost use Rattle.points_to.specs.Wanted.{place_of};
 
-use crate::items::{Items, Row};
+use crate::items::Items;
 use crate::runs::{FactRun, ItemRun, ItemRuns, WordRuns};
 use crate::wanted::Kind;
 use flow_system::fact::{Element, Part, Place};
@@ -117,11 +115,12 @@ impl Facts {
         }
     }
 
-    /// The rows of the items at a site.
-    pub fn rows_at_site(&self, site: u32) -> &[Row]
-        ensures { flat_map row_items result.now ≡ held self.now (Place.Site site) }
+    /// The items at a site. Where there is no set of them, there are none.
+    pub fn items_at_site(&self, site: u32) -> Option<&Items>
+        ensures { MatchOption result (held self.now (Place.Site site) ≡ [])
+            (λ items. items.now ≡ held self.now (Place.Site site)) }
     {
-        rows_of(self.sites.as_slice(), site)
+        self.sites.get(site as usize)
     }
 
     /// Puts the items of the evaluated nodes in the cells of a site at the end of a list.
@@ -185,15 +184,6 @@ fn append_items(sets: &[Items], n: u32, out: &mut ItemRuns) -> Result<(), AllocE
     match sets.get(n as usize) {
         None => Ok(()),
         Some(set) => set.append(out),
-    }
-}
-
-fn rows_of(sets: &[Items], n: u32) -> &[Row]
-    ensures { flat_map row_items result.now ≡ items_at sets.now n }
-{
-    match sets.get(n as usize) {
-        None => &[],
-        Some(set) => set.rows(),
     }
 }
 

@@ -1,19 +1,18 @@
-// Words of the nodes at sites. Each row is asked for alone: a site may hold many delayed calls with
+// Words of the nodes at sites. Each part is asked for alone: a site may hold many delayed calls with
 // large fields.
 
 ghost use Rattle.std.specs.Prelude.{◌≡◌, [], ◌++◌, OnOk};
 ghost use Rattle.std.specs.List.{flat_map};
 ghost use Rattle.flow_system.specs.declared.fact.Place.TheVariants.{Site as site};
 ghost use Rattle.flow_system.specs.Shown.{tables_of};
-ghost use Rattle.flow_system.specs.declared.fact.Part.TheVariants.{Tags as tags'};
 ghost use Rattle.points_to.specs.Bits.{block_words};
-ghost use Rattle.points_to.specs.Held.{picked, field_or_zero_of, field_of_tag, fetched};
+ghost use Rattle.points_to.specs.Held.{field_or_zero_of, field_of_tag, fetched};
 ghost use Rattle.points_to.specs.Known.{held};
-ghost use Rattle.points_to.specs.Rows.{row_items, GetsAll};
+ghost use Rattle.points_to.specs.Rows.{GetsAll};
 
 use crate::bits::{Bits, Block, word_of};
 use crate::facts::Facts;
-use crate::items::{Row, append_picked};
+use crate::items::Items;
 use crate::runs::WordRuns;
 use crate::tags::fields_of;
 use flow_system::fact::{Element, Part};
@@ -22,12 +21,17 @@ use std::alloc::{AllocError, Global};
 use std::marker::Model;
 
 // A field of the nodes of a tag with m fields, or a number past them.
-fn field_or_zero(rows: &[Row], i: u32, t: u32, m: u32, out: &mut WordRuns) -> Result<(), AllocError>
-    ensures { OnOk result (out.new ≡ out.old
-        ++ field_or_zero_of i t (flat_map row_items rows.now) m) }
+fn field_or_zero(
+    items: &Items,
+    i: u32,
+    t: u32,
+    m: u32,
+    out: &mut WordRuns,
+) -> Result<(), AllocError>
+    ensures { OnOk result (out.new ≡ out.old ++ field_or_zero_of i t items.now m) }
 {
     if i < m {
-        return append_picked(rows, Part::Field(t, i), out);
+        return items.append_words(Part::Field(t, i), out);
     }
     out.push(Element::Number)?;
     Ok(())
@@ -35,19 +39,19 @@ fn field_or_zero(rows: &[Row], i: u32, t: u32, m: u32, out: &mut WordRuns) -> Re
 
 fn field_of_tag(
     system: &FlowSystem,
-    rows: &[Row],
+    items: &Items,
     i: u32,
     word: Element,
     out: &mut WordRuns,
 ) -> Result<(), AllocError>
     ensures { OnOk result (out.new ≡ out.old
-        ++ field_of_tag (tables_of system.now) i (flat_map row_items rows.now) word) }
+        ++ field_of_tag (tables_of system.now) i items.now word) }
 {
     match word {
         Element::Cell(_) => Ok(()),
         Element::Tag(t) => match fields_of(system, t) {
             None => Ok(()),
-            Some(m) => field_or_zero(rows, i, t, m, out),
+            Some(m) => field_or_zero(items, i, t, m, out),
         },
         Element::Number => Ok(()),
     }
@@ -55,73 +59,51 @@ fn field_of_tag(
 
 fn fields_of_block(
     system: &FlowSystem,
-    rows: &[Row],
+    items: &Items,
     i: u32,
     block: (u32, u64),
     out: &mut WordRuns,
 ) -> Result<(), AllocError>
     ensures { OnOk result (out.new ≡ out.old
-        ++ flat_map (field_of_tag (tables_of system.now) i (flat_map row_items rows.now))
-        (block_words block)) }
+        ++ flat_map (field_of_tag (tables_of system.now) i items.now) (block_words block)) }
 {
     let mut left = Block::new(block.0, block.1);
     'words: while let Some(n) = left.next() {
-        field_of_tag(system, rows, i, word_of(n)?, out)?;
+        field_of_tag(system, items, i, word_of(n)?, out)?;
     }
     Ok(())
 }
 
 fn fields_of_blocks(
     system: &FlowSystem,
-    rows: &[Row],
+    items: &Items,
     i: u32,
     blocks: &[(u32, u64)],
     out: &mut WordRuns,
 ) -> Result<(), AllocError>
     ensures { OnOk result (out.new ≡ out.old
-        ++ flat_map (field_of_tag (tables_of system.now) i (flat_map row_items rows.now))
+        ++ flat_map (field_of_tag (tables_of system.now) i items.now)
         (flat_map block_words blocks.now)) }
 {
     for block in blocks {
-        fields_of_block(system, rows, i, *block, out)?;
+        fields_of_block(system, items, i, *block, out)?;
     }
     Ok(())
 }
 
-// The fields of the tags of one row.
-fn fields_of_row(
+// Word i of the nodes among some items.
+fn fetched_of(
     system: &FlowSystem,
-    rows: &[Row],
+    items: &Items,
     i: u32,
-    row: &Row,
     out: &mut WordRuns,
 ) -> Result<(), AllocError>
-    ensures { OnOk result (out.new ≡ out.old
-        ++ flat_map (field_of_tag (tables_of system.now) i (flat_map row_items rows.now))
-        (picked tags' (row_items row.now))) }
+    ensures { OnOk result (out.new ≡ out.old ++ fetched (tables_of system.now) i items.now) }
 {
-    match row.part {
-        Part::Tags => fields_of_blocks(system, rows, i, row.words.blocks.as_slice(), out),
-        Part::Field(_, _) => Ok(()),
-        Part::Word(_) => Ok(()),
+    if i == 0 {
+        return items.append_words(Part::Tags, out);
     }
-}
-
-fn fields_of_rows(
-    system: &FlowSystem,
-    rows: &[Row],
-    i: u32,
-    of: &[Row],
-    out: &mut WordRuns,
-) -> Result<(), AllocError>
-    ensures { OnOk result (out.new ≡ out.old
-        ++ flat_map (field_of_tag (tables_of system.now) i (flat_map row_items rows.now))
-        (picked tags' (flat_map row_items of.now))) }
-{
-    for row in of {
-        fields_of_row(system, rows, i, row, out)?;
-    }
-    Ok(())
+    fields_of_blocks(system, items, i - 1, items.blocks(Part::Tags), out)
 }
 
 /// Word i of the nodes at a site: the tag, then the fields, then numbers.
@@ -135,11 +117,10 @@ pub fn fetched_from(
     ensures { OnOk result (out.new ≡ out.old
         ++ fetched (tables_of system.now) i (held facts.now (site s))) }
 {
-    let rows = facts.rows_at_site(s);
-    if i == 0 {
-        return append_picked(rows, Part::Tags, out);
+    match facts.items_at_site(s) {
+        Some(items) => fetched_of(system, items, i, out),
+        None => Ok(()),
     }
-    fields_of_rows(system, rows, i - 1, rows, out)
 }
 
 /// The words that are fetched from some sites, as a set: many sites give the same ones.

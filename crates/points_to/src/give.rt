@@ -8,7 +8,7 @@ ghost use Rattle.flow_system.specs.Shown.{tables_of, source_of};
 ghost use Rattle.flow_system.specs.declared.fact.Part.TheVariants.{Tags as tags'};
 ghost use Rattle.points_to.specs.Held.{picked, in_part, done_items, node_of_word, as_nodes, item, elements, numbered, value_items, cell_items, fetched_at, last_field, longer_node, longer_tag, after_fields, arguments_of, items};
 ghost use Rattle.points_to.specs.Known.{held};
-ghost use Rattle.points_to.specs.Row.{row_part};
+ghost use Rattle.points_to.specs.Numbering.{numbered_part};
 ghost use Rattle.points_to.specs.ByTag.{IsByTag};
 
 use crate::by_tag::ByTag;
@@ -26,7 +26,7 @@ use std::alloc::{AllocError, Global};
 
 /// Parts that are numbered: the words of a vector, or the fields of a tag.
 #[derive(Clone, Copy, Debug, PartialEq, Eq)]
-pub enum Row {
+pub enum Numbering {
     Words,
     Fields(u32),
 }
@@ -92,29 +92,29 @@ fn elements_in(
     in_part(part, &words, out)
 }
 
-fn part_at(row: Row, j: u32) -> Part
-    ensures { result ≡ row_part row j }
+fn part_at(numbering: Numbering, j: u32) -> Part
+    ensures { result ≡ numbered_part numbering j }
 {
-    match row {
-        Row::Words => Part::Word(j),
-        Row::Fields(t) => Part::Field(t, j),
+    match numbering {
+        Numbering::Words => Part::Word(j),
+        Numbering::Fields(t) => Part::Field(t, j),
     }
 }
 
-// What a word stands for, at a number of a row.
+// What a word stands for, at a number.
 fn elements_at(
     alloc: Global,
     system: &FlowSystem,
     facts: &Facts,
-    row: Row,
+    numbering: Numbering,
     j: u32,
     w: Word,
     out: &mut ItemRuns,
 ) -> Result<(), AllocError>
     ensures { OnOk result (out.new ≡ out.old
-        ++ in_part (row_part row j) (elements (tables_of system.now) (held facts.now) w)) }
+        ++ in_part (numbered_part numbering j) (elements (tables_of system.now) (held facts.now) w)) }
 {
-    elements_in(alloc, system, facts, part_at(row, j), w, out)
+    elements_in(alloc, system, facts, part_at(numbering, j), w, out)
 }
 
 /// What words stand for, numbered from `first` on. More than can be numbered are want of memory.
@@ -122,17 +122,17 @@ pub fn numbered(
     alloc: Global,
     system: &FlowSystem,
     facts: &Facts,
-    row: Row,
+    numbering: Numbering,
     first: u32,
     words: &[Word],
     out: &mut ItemRuns,
 ) -> Result<(), AllocError>
     ensures { OnOk result (out.new ≡ out.old
-        ++ numbered (tables_of system.now) (held facts.now) (row_part row) first words.now) }
+        ++ numbered (tables_of system.now) (held facts.now) (numbered_part numbering) first words.now) }
 {
     let mut j = first;
     for word in words {
-        elements_at(alloc, system, facts, row, j, *word, out)?;
+        elements_at(alloc, system, facts, numbering, j, *word, out)?;
         j = j.checked_add(1).ok_or(AllocError)?;
     }
     Ok(())
@@ -157,14 +157,22 @@ pub fn value_items(
                 alloc,
                 system,
                 facts,
-                Row::Fields(t.0),
+                Numbering::Fields(t.0),
                 0,
                 words.as_slice(),
                 out,
             )?;
             Ok(())
         }
-        Val::Vector(words) => numbered(alloc, system, facts, Row::Words, 0, words.as_slice(), out),
+        Val::Vector(words) => numbered(
+            alloc,
+            system,
+            facts,
+            Numbering::Words,
+            0,
+            words.as_slice(),
+            out,
+        ),
         Val::One(w) => elements_in(alloc, system, facts, Part::Word(0), *w, out),
     }
 }
@@ -370,7 +378,7 @@ fn after_fields(
         ++ after_fields (tables_of system.now) (held facts.now) words.now m) }
 {
     match m {
-        Some(m) => numbered(alloc, system, facts, Row::Words, m, words, out),
+        Some(m) => numbered(alloc, system, facts, Numbering::Words, m, words, out),
         None => Ok(()),
     }
 }

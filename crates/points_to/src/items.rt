@@ -1,10 +1,13 @@
 // The items at a place, in rows of words: one row for each part where something stands.
 
-ghost use Rattle.std.specs.Prelude.{◌≡◌, [], ◌++◌, ◌↔◌, IsTrue, IfSome, OnOk, IfOk, false};
+ghost use Rattle.std.specs.Prelude.{◌≡◌, [], ◌++◌, ◌↔◌, IsTrue, OnOk, IfOk, false};
 ghost use Rattle.std.specs.List.{flat_map};
+ghost use Rattle.std.proofs.Props.{props};
 ghost use Rattle.flow_system.specs.Shown.{tables_of};
+ghost use Rattle.points_to.specs.Bits.{block_words};
 ghost use Rattle.points_to.specs.Held.{In, picked, done_items};
-ghost use Rattle.points_to.specs.Rows.{row_items, HasPart, GetsAll};
+ghost use Rattle.points_to.specs.PartOrder.{before, Ascending, Finds, IsPlace};
+ghost use Rattle.points_to.specs.Rows.{row_items, GetsAll};
 ghost use Rattle.points_to.specs.Runs.{run_items};
 
 use crate::bits::{Bits, number_of};
@@ -19,16 +22,17 @@ use std::marker::Model;
 
 /// The words in one part: a set of their numbers.
 #[derive(Drop)]
-pub struct Row {
-    pub(crate) part: Part,
-    pub(crate) words: Bits,
+struct Row {
+    part: Part,
+    words: Bits,
 }
 
 /// The items at a place. A contract sees their list, row by row; the code goes over one row alone
-/// where one part is asked for.
+/// where one part is asked for. The rows stand in the order of their parts.
 #[derive(Drop)]
 pub struct Items {
     rows: Vec<Row>,
+    ghost ascending: { Ascending rows.items } by { Prim.hlevel props },
 }
 
 impl Model for Items {
@@ -52,18 +56,14 @@ impl Items {
         }
     }
 
-    /// The rows.
-    pub fn rows(&self) -> &[Row]
-        ensures { flat_map row_items result.now ≡ self.now }
-    {
-        self.rows.as_slice()
-    }
-
     /// Whether an item is there.
     pub fn has(&self, item: Item) -> bool
         ensures { IsTrue result ↔ In item self.now }
     {
-        has_in(self.rows.as_slice(), item)
+        match find(self.rows.as_slice(), item.part) {
+            Ok(place) => self.rows[place].words.has(number_of(item.word)),
+            Err(_) => false,
+        }
     }
 
     /// Puts the items of a run there, and says whether some of them may be new. Where none is,
@@ -82,18 +82,28 @@ impl Items {
         append_rows(self.rows.as_slice(), out)
     }
 
+    /// The blocks of the words in one part.
+    pub fn blocks(&self, part: Part) -> &[(u32, u64)]
+        ensures { flat_map block_words result.now ≡ picked part self.now }
+    {
+        match find(self.rows.as_slice(), part) {
+            Ok(place) => self.rows[place].words.blocks.as_slice(),
+            Err(_) => &[],
+        }
+    }
+
     /// Puts the words in one part at the end of a list.
     pub fn append_words(&self, part: Part, out: &mut WordRuns) -> Result<(), AllocError>
         ensures { OnOk result (out.new ≡ out.old ++ picked part self.now) }
     {
-        append_picked(self.rows.as_slice(), part, out)
+        out.push_blocks(self.blocks(part))
     }
 
     /// Puts the words in one part, one by one, at the end of a list.
     pub fn list_words(&self, part: Part, out: &mut Seq<Element>) -> Result<(), AllocError>
         ensures { OnOk result (out.new ≡ out.old ++ picked part self.now) }
     {
-        list_picked(self.rows.as_slice(), part, out)
+        list_blocks(self.blocks(part), out)
     }
 
     /// Puts the items of evaluated nodes at the end of a list.
@@ -104,60 +114,92 @@ impl Items {
     }
 }
 
-fn row_has(row: &Row, item: Item) -> bool
-    ensures { IsTrue result ↔ In item (row_items row.now) }
+// Whether a part stands before another.
+fn is_before(a: Part, b: Part) -> bool
+    ensures { result ≡ before a b }
 {
-    if same_part(row.part, item.part) {
-        return row.words.has(number_of(item.word));
+    match a {
+        Part::Tags => match b {
+            Part::Tags => false,
+            Part::Field(_, _) => true,
+            Part::Word(_) => true,
+        },
+        Part::Field(t, i) => match b {
+            Part::Tags => false,
+            Part::Field(u, j) => {
+                if t == u {
+                    return i < j;
+                }
+                t < u
+            }
+            Part::Word(_) => true,
+        },
+        Part::Word(i) => match b {
+            Part::Tags => false,
+            Part::Field(_, _) => false,
+            Part::Word(j) => i < j,
+        },
     }
-    false
 }
 
-fn has_in(rows: &[Row], item: Item) -> bool
-    ensures { IsTrue result ↔ In item (flat_map row_items rows.now) }
+// The place of the first row whose part doesn't stand before this one.
+fn place_of(rows: &[Row], part: Part) -> usize
+    requires { Ascending rows.now }
+    ensures { IsPlace rows.now part result result }
 {
-    for row in rows {
-        if row_has(row, item) {
-            return true;
+    let mut low = 0;
+    let mut high = rows.len();
+    'halving: while low < high {
+        let middle = low + (high - low) / 2;
+        if is_before(rows[middle].part, part) {
+            low = middle + 1;
+        } else {
+            high = middle;
         }
     }
-    false
+    low
 }
 
-// A row of a part.
-fn row_of(rows: &[Row], part: Part) -> Option<usize>
-    ensures { IfSome result (λ k. HasPart rows.now k part) }
+// The place of the row of a part, or the place where it would go.
+fn find(rows: &[Row], part: Part) -> Result<usize, usize>
+    requires { Ascending rows.now }
+    ensures { Finds rows.now part result }
 {
-    for k in 0..rows.len() {
-        if same_part(rows[k].part, part) {
-            return Some(k);
-        }
+    let place = place_of(rows, part);
+    if place == rows.len() {
+        return Err(place);
     }
-    None
+    if same_part(rows[place].part, part) {
+        return Ok(place);
+    }
+    Err(place)
 }
 
 fn add_block(row: &mut Row, run: ItemRun) -> Result<bool, AllocError>
     requires { row.old.part ≡ run.part }
     ensures gets { OnOk result (GetsAll (row_items row.old) (row_items row.new) (run_items run)) }
     ensures still { IfOk result (λ added. added ≡ false → row.new ≡ row.old) }
+    ensures same_part { row.new.part ≡ row.old.part }
 {
     row.words.add_new(run.block)
 }
 
 fn add_new_in(alloc: Global, rows: &mut Vec<Row>, run: ItemRun) -> Result<bool, AllocError>
+    requires { Ascending rows.old.items }
+    ensures ascending { Ascending rows.new.items }
     ensures gets { OnOk result (GetsAll (flat_map row_items rows.old.items)
         (flat_map row_items rows.new.items) (run_items run)) }
     ensures still { IfOk result (λ added. added ≡ false → rows.new.items ≡ rows.old.items) }
 {
-    match row_of(rows.as_slice(), run.part) {
-        Some(k) => add_block(&mut rows[k], run),
-        None => {
+    match find(rows.as_slice(), run.part) {
+        Ok(place) => add_block(&mut rows[place], run),
+        Err(place) => {
             let mut row = Row {
                 part: run.part,
                 words: Bits::new(alloc),
             };
             add_block(&mut row, run)?;
-            rows.push(row)?;
+            rows.insert(place, row)?;
             Ok(true)
         }
     }
@@ -177,43 +219,6 @@ fn append_rows(rows: &[Row], out: &mut ItemRuns) -> Result<(), AllocError>
 {
     for row in rows {
         append_row(row, out)?;
-    }
-    Ok(())
-}
-
-fn append_row_picked(row: &Row, part: Part, out: &mut WordRuns) -> Result<(), AllocError>
-    ensures { OnOk result (out.new ≡ out.old ++ picked part (row_items row.now)) }
-{
-    if same_part(part, row.part) {
-        return out.push_blocks(row.words.blocks.as_slice());
-    }
-    Ok(())
-}
-
-/// Puts the words in one part of rows at the end of a list.
-pub fn append_picked(rows: &[Row], part: Part, out: &mut WordRuns) -> Result<(), AllocError>
-    ensures { OnOk result (out.new ≡ out.old ++ picked part (flat_map row_items rows.now)) }
-{
-    for row in rows {
-        append_row_picked(row, part, out)?;
-    }
-    Ok(())
-}
-
-fn list_row_picked(row: &Row, part: Part, out: &mut Seq<Element>) -> Result<(), AllocError>
-    ensures { OnOk result (out.new ≡ out.old ++ picked part (row_items row.now)) }
-{
-    if same_part(part, row.part) {
-        return list_blocks(row.words.blocks.as_slice(), out);
-    }
-    Ok(())
-}
-
-fn list_picked(rows: &[Row], part: Part, out: &mut Seq<Element>) -> Result<(), AllocError>
-    ensures { OnOk result (out.new ≡ out.old ++ picked part (flat_map row_items rows.now)) }
-{
-    for row in rows {
-        list_row_picked(row, part, out)?;
     }
     Ok(())
 }

@@ -99,11 +99,6 @@ site_found (k ∷ ks) s m = elim (among_cases s k.site (sites_at ks) m) [
   | inr there ↦ let t = site_found ks s there in (suc t.0, (t.1.0, t.1.1))
 ]
 
-sites_get : (ks : List CallSite) (i : ℕ) (k : CallSite) → slice_get ks i ≡ Some k → slice_get (sites_at ks) i ≡ Some k.site
-sites_get [] i k e = cc
-sites_get (j ∷ ks) zero k e = ap (λ z. Some z.site) (same_Some j k e)
-sites_get (j ∷ ks) (suc i) k e = sites_get ks i k e
-
 points_get : (ps : List After) (i : ℕ) (p : After) → slice_get ps i ≡ Some p → slice_get (sites_of (sites_of_points ps)) i ≡ Some p.site
 points_get [] i p e = cc
 points_get (r ∷ ps) zero p e = ap (λ z. Some z.site) (same_Some r p e)

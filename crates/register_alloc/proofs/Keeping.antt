@@ -26,9 +26,6 @@ no_slot r k e = cc
 same_slot : (k j : ℕ) → Slot k ≡ Slot j → k ≡ j
 same_slot k j e = cc
 
-same_held : (d e : Option Holder) → Some d ≡ Some e → d ≡ e
-same_held d e h = same_Some d e h
-
 -- ---- those that are still used
 
 module _ (used : List ℕ) (from to : ℕ) (old new : List (Option Holder)) where

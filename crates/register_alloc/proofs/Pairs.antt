@@ -1,5 +1,5 @@
 -- Lists of holders that are made one after another.
-use Rattle.std.proofs.Common.{◌≡◌, ◌↔◌, ℕ, ◌+◌, ◌<◌, true, List, [], ◌∷◌, ◌++◌, length, Option, Some, None, slice_get, MatchOption, inl, inr, refl, sym, ap, ◌∙◌, subst, arith}
+use Rattle.std.proofs.Common.{◌≡◌, ◌↔◌, ◌⊎◌, ◌||◌, ℕ, ◌+◌, ◌<◌, Bool, true, false, List, [], ◌∷◌, ◌++◌, length, Option, Some, None, slice_get, MatchOption, inl, inr, refl, sym, ap, ◌∙◌, subst, arith}
 use Rattle.std.proofs.lemmas.Bool.{cases_lt}
 use Rattle.register_alloc.specs.Fits.{Ascending}
 use Rattle.register_alloc.specs.Holders.{Held, Pairwise, AreRegisters}
@@ -7,6 +7,14 @@ use Rattle.register_alloc.specs.declared.holders.Holder.{Holder}
 use Rattle.register_alloc.proofs.Lists.{among_first, among_either}
 use Rattle.seq.specs.Lists.{is_among}
 use Rattle.seq.proofs.Counted.{among_cases, among_left, among_right}
+
+pub either_is : (a b : Bool) (B : Type 0) → ((b ≡ true) ↔ B) → ((a || b) ≡ true) ↔ ((a ≡ true) ⊎ B)
+either_is true b B h = (λ e. inl refl, λ w. refl)
+either_is false b B h = (λ e. inr (h.0 e), λ w. other w)
+  where
+    other : (false ≡ true) ⊎ B → b ≡ true
+    other (inl e) = cc
+    other (inr x) = h.1 x
 
 pub record UpTo (R : Option Holder → Option Holder → Type 0) (k : ℕ) (old new : List (Option Holder)) : Type 0 where
   pub many : length new ≡ k

@@ -1,140 +1,153 @@
--- The uses of variables, found by their keys.
-use Rattle.std.proofs.Common.{◌≡◌, ◌↔◌, ◌⊎◌, ℕ, zero, suc, ◌+◌, ◌^◌, ◌<◌, ◌≤◌, true, nat_lt, Ok, Err, List, [], ◌∷◌, ◌++◌, length, length-append, slice_index_or, inl, inr, refl, sym, ap, ◌∙◌, subst, arith}
-use Rattle.std.specs.List.Sorted.{IsPermutation, IsNonDecreasing, apply_swaps}
+-- The uses of variables, found by their order.
+use Rattle.std.proofs.Common.{◌≡◌, ◌↔◌, ◌⊎◌, ℕ, zero, suc, ◌+◌, ◌<◌, ◌≤◌, Bool, true, false, List, [], ◌∷◌, ◌++◌, length, length-append, Some, slice_get, slice_index_or, inl, inr, refl, sym, ap, ◌∙◌, subst, arith}
+use Rattle.std.specs.List.Sorted.{IsPermutation, IsSorted, IsPartitionedBy, IsPartitionPoint, apply_swaps}
+use Rattle.std.specs.Ordering.{is_lt, is_some_and, partial_lt, nat_cmp, ordering_then, partial_ordering_then, ordering_index}
+use Rattle.register_alloc.specs.contracts.uses.UsePartialOrd.TheImpl as use_partial_ord
+use Rattle.std.specs.declared.cmp.Ordering.{Ordering}
+use Rattle.std.specs.declared.cmp.Ordering.TheVariants.{Less, Equal, Greater}
 use Rattle.std.proofs.lemmas.Grind.{get_or_moved}
-use Rattle.std.proofs.lemmas.List.Sorted.{IsPermutation-sym}
+use Rattle.std.proofs.lemmas.List.Sorted.{IsPermutation-sym, searchable_from_sorted}
+use Rattle.std.specs.Cmp.{IsTotalOrder}
+use Rattle.std.proofs.lemmas.Cmp.{nat_cmp_total, on_total, then_total}
 use Rattle.std.proofs.lemmas.Bool.{cases_lt}
 use Rattle.std.proofs.lemmas.Bool.Decides.{nat_tests}
-use Rattle.std.proofs.lemmas.List.Sorted.{searched}
-use Rattle.std.specs.List.Sorted.{IsBinarySearchResult}
-use Rattle.std.specs.Ordering.{nat_cmp}
+use Rattle.std.proofs.lemmas.Option.{same_Some, slice_get_within, slice_get-get_or, get_or_from_slice_get}
+use Rattle.register_alloc.specs.declared.uses.Use.{Use}
 use Rattle.register_alloc.specs.declared.uses.Uses.{Uses}
-use Rattle.register_alloc.specs.Uses.{AreUses, IsUsedWithin, key, used_at}
+use Rattle.register_alloc.specs.Uses.{AreUses, IsUsedWithin, in_order, used_at}
 
--- ---- keys
+-- ---- the order
 
-lower_variable : (x y p q : ℕ) → p < 2 ^ 32 → key x p < key y q → q < 2 ^ 32 → x ≤ y
-lower_variable x y p q hp lt hq = omega arith
+in_order_total : IsTotalOrder in_order
+in_order_total = then_total (on_total (λ u. u.variable) nat_cmp_total) (on_total (λ u. u.at) nat_cmp_total)
 
-between : (x y p from to : ℕ) → p < 2 ^ 32 → from < 2 ^ 32 → to < 2 ^ 32 → key x from < key y p → key y p < key x to → (y ≡ x) × ((from ≤ p) × (p < to))
-between x y p from to hp hf ht lower upper = (omega arith, (omega arith, omega arith))
+abbrev pub is_before : Use → Use → Bool
+is_before v u = is_lt (in_order u v)
 
-same_key : (x y p q : ℕ) → p < 2 ^ 32 → q < 2 ^ 32 → key x p ≡ key y q → (x ≡ y) × (p ≡ q)
-same_key x y p q hp hq e = (omega arith, omega arith)
+-- what `<` answers
+pub before_is : (v u : Use) → partial_lt use_partial_ord.partial_cmp-value.it u v ≡ is_before v u
+before_is v u = both (nat_cmp u.variable v.variable) (nat_cmp u.at v.at)
+  where
+    both : (a b : Ordering) → is_some_and is_lt (partial_ordering_then (Some a) (Some b)) ≡ is_lt (ordering_then a b)
+    both Less b = refl
+    both Equal b = refl
+    both Greater b = refl
 
--- ---- what a search tells
+-- what comes before a use comes before it in a sorted list
+pub parted : (us : List Use) (v : Use) → IsSorted in_order us → IsPartitionedBy (is_before v) us
+parted us v sorted i j d le lt before =
+    let rise : ordering_index (in_order (slice_index_or us i d) v) ≤ ordering_index (in_order (slice_index_or us j d) v) = searchable_from_sorted in_order_total (λ u. u) us v sorted i j d le lt in
+    lower (in_order (slice_index_or us i d) v) (in_order (slice_index_or us j d) v) rise before
+  where
+    lower : (a b : Ordering) → ordering_index a ≤ ordering_index b → is_lt b ≡ true → is_lt a ≡ true
+    lower Less b h e = refl
+    lower Equal Less h e = absurd (omega arith)
+    lower Greater Less h e = absurd (omega arith)
+    lower Equal Equal h e = cc
+    lower Equal Greater h e = cc
+    lower Greater Equal h e = cc
+    lower Greater Greater h e = cc
 
-module _ (used : List ℕ) (u : Uses) (h : AreUses used u) (x from to : ℕ) (hf : from < 2 ^ 32) (ht : to < 2 ^ 32) where
-  -- the key at `from` is there
-  pub found : (i : ℕ) → i < length u.keys.items → slice_index_or u.keys.items i 0 ≡ key x from → from < to → IsUsedWithin used x from to
-  found i lt e small =
-      let o = h.only i lt in
-      let few = h.few in
-      let s = same_key x (used_at used o.0) from o.0 hf (omega arith) (sym e ∙ o.1.1) in
-      (o.0, (omega arith, (omega arith, (o.1.0, sym s.0))))
+-- of two positions of one variable the lower one comes before
+lower_first : (x p q : ℕ) → p < q → is_before (record { variable = x; at = q }) (record { variable = x; at = p }) ≡ true
+lower_first x p q lt = grind (arith, nat_tests)
 
-  -- the first key past `from` is that of the same variable, before `to`
-  pub next_within : (i : ℕ) → i < length u.keys.items → key x from < slice_index_or u.keys.items i 0 → slice_index_or u.keys.items i 0 < key x to → IsUsedWithin used x from to
-  next_within i lt lower upper =
-      let o = h.only i lt in
-      let few = h.few in
-      let b = between x (used_at used o.0) o.0 from to (omega arith) hf ht (omega (arith, o.1.1)) (omega (arith, o.1.1)) in
-      (o.0, (b.1.0, (b.1.1, (o.1.0, b.0))))
+not_first : (x p q : ℕ) → q ≤ p → is_before (record { variable = x; at = q }) (record { variable = x; at = p }) ≡ false
+not_first x p q le = grind (arith, nat_tests)
 
-  pub not_within : to ≤ from → IsUsedWithin used x from to → ⊥
-  not_within le w = omega arith
+-- what lies between two positions of a variable is a use of it
+between : (u : Use) (x from to : ℕ) → is_before (record { variable = x; at = from }) u ≡ false → is_before (record { variable = x; at = to }) u ≡ true
+    → (u.variable ≡ x) × ((from ≤ u.at) × (u.at < to))
+between u x from to a b = grind (arith, nat_tests)
 
-  -- where x is used within, the keys from the i-th on, past `from`, begin before `to`
-  pub then_next : IsUsedWithin used x from to → (i : ℕ) → ((k : ℕ) → k < i → slice_index_or u.keys.items k 0 < key x from) → (i < length u.keys.items) × (slice_index_or u.keys.items i 0 < key x to)
-  then_next w i below =
-      let e = h.each w.0 w.1.1.1.0 in
-      let is : slice_index_or u.keys.items e.0 0 ≡ key x w.0 = e.1.1 ∙ ap (λ y. key y w.0) w.1.1.1.1 in
-      elim (cases_lt e.0 i) [
-        | inl lt ↦ absurd (let b = below e.0 lt in omega (arith, is))
-        | inr ge ↦
-            let rise : slice_index_or u.keys.items i 0 ≤ slice_index_or u.keys.items e.0 0 = h.ascending i e.0 0 ge e.1.0 in
-            (omega arith, omega (arith, is, rise))
-      ]
+-- ---- uses in another order
 
--- ---- keys in another order
+moved : (us vs : List Use) → IsPermutation us vs → (k : ℕ) (v : Use) → slice_get vs k ≡ Some v → (j : ℕ) × (slice_get us j ≡ Some v)
+moved us vs h k v there =
+    let lt : k < length vs = slice_get_within vs k v there in
+    let at : k < length (apply_swaps us h.moves) = subst (λ zs. k < length zs) h.is lt in
+    let m = (get_or_moved us h.moves k v h.below at).1 in
+    let is : slice_index_or us m.0 v ≡ v = sym (ap (λ zs. slice_index_or zs k v) h.is ∙ m.2) ∙ get_or_from_slice_get vs k v v there in
+    (m.0, slice_get-get_or us m.0 v m.1 ∙ ap Some is)
 
-moved : (xs ys : List ℕ) → IsPermutation xs ys → (k : ℕ) → k < length ys → (j : ℕ) × ((j < length xs) × (slice_index_or ys k 0 ≡ slice_index_or xs j 0))
-moved xs ys h k lt =
-    let at : k < length (apply_swaps xs h.moves) = subst (λ zs. k < length zs) h.is lt in
-    let m = (get_or_moved xs h.moves k 0 h.below at).1 in
-    (m.0, (m.1, ap (λ zs. slice_index_or zs k 0) h.is ∙ m.2))
-
-pub are_uses : (used keys : List ℕ) (u : Uses) → length keys ≡ length used → ((k : ℕ) → k < length used → slice_index_or keys k 0 ≡ key (used_at used k) k) → IsPermutation keys u.keys.items → IsNonDecreasing u.keys.items → length used < 2 ^ 32 → AreUses used u
-are_uses used keys u count is p ascending few = record {
+pub are_uses : (used : List ℕ) (us : List Use) (u : Uses) → ((p : ℕ) → p < length used → slice_get us p ≡ Some (record { variable = used_at used p; at = p })) → length us ≡ length used
+    → IsPermutation us u.uses.items → IsSorted in_order u.uses.items → AreUses used u
+are_uses used us u is count p ascending = record {
   ascending = ascending;
-  each = λ k lt. let m = moved u.keys.items keys (IsPermutation-sym keys u.keys.items p) k (omega arith) in (m.0, (m.1.0, sym m.1.1 ∙ is k lt));
-  only = λ i lt. let m = moved keys u.keys.items p i lt in (m.0, (omega arith, m.1.1 ∙ is m.0 (omega arith)));
-  few = few;
+  each = λ k lt. moved u.uses.items us (IsPermutation-sym us u.uses.items p) k _ (is k lt);
+  only = λ i v there.
+      let m = moved us u.uses.items p i v there in
+      let lt : m.0 < length used = subst (λ n. m.0 < n) count (slice_get_within us m.0 v m.1) in
+      let same : v ≡ record { variable = used_at used m.0; at = m.0 } = same_Some _ _ (sym m.1 ∙ is m.0 lt) in
+      (subst (λ w. w.at < length used) (sym same) lt, subst (λ w. used_at used w.at ≡ w.variable) (sym same) refl);
 }
 
--- one more key
-index_before : (zs : List ℕ) (v j : ℕ) → j < length zs → slice_index_or (zs ++ (v ∷ [])) j 0 ≡ slice_index_or zs j 0
-index_before [] v j h = absurd (omega arith)
-index_before (z ∷ zs) v zero h = refl
-index_before (z ∷ zs) v (suc j) h = index_before zs v j (omega arith)
+-- one more use
+get_before : (us : List Use) (v : Use) (j : ℕ) → j < length us → slice_get (us ++ (v ∷ [])) j ≡ slice_get us j
+get_before [] v j h = absurd (omega arith)
+get_before (u ∷ us) v zero h = refl
+get_before (u ∷ us) v (suc j) h = get_before us v j (omega arith)
 
-index_last : (zs : List ℕ) (v j : ℕ) → j ≡ length zs → slice_index_or (zs ++ (v ∷ [])) j 0 ≡ v
-index_last [] v zero h = refl
-index_last [] v (suc j) h = absurd (omega arith)
-index_last (z ∷ zs) v zero h = absurd (omega arith)
-index_last (z ∷ zs) v (suc j) h = index_last zs v j (omega arith)
+get_last : (us : List Use) (v : Use) (j : ℕ) → j ≡ length us → slice_get (us ++ (v ∷ [])) j ≡ Some v
+get_last [] v zero h = refl
+get_last [] v (suc j) h = absurd (omega arith)
+get_last (u ∷ us) v zero h = absurd (omega arith)
+get_last (u ∷ us) v (suc j) h = get_last us v j (omega arith)
 
-pub keys_next : (used keys new : List ℕ) (at v : ℕ) → new ≡ keys ++ (v ∷ []) → length keys ≡ at → v ≡ key (used_at used at) at
-    → ((k : ℕ) → k < at → slice_index_or keys k 0 ≡ key (used_at used k) k) → (k : ℕ) → k < at + 1 → slice_index_or new k 0 ≡ key (used_at used k) k
-keys_next used keys new at v is count this each k lt = ap (λ l. slice_index_or l k 0) is ∙ at_last (cases_lt k at)
+pub uses_next : (used : List ℕ) (us new : List Use) (at : ℕ) (v : Use) → new ≡ us ++ (v ∷ []) → length us ≡ at → v.variable ≡ used_at used at → v.at ≡ at
+    → ((p : ℕ) → p < at → slice_get us p ≡ Some (record { variable = used_at used p; at = p })) → (p : ℕ) → p < at + 1 → slice_get new p ≡ Some (record { variable = used_at used p; at = p })
+uses_next used us new at v is count variable place each p lt = ap (λ l. slice_get l p) is ∙ at_last (cases_lt p at)
   where
-    at_last : (k < at) ⊎ (at ≤ k) → slice_index_or (keys ++ (v ∷ [])) k 0 ≡ key (used_at used k) k
-    at_last (inl below) = index_before keys v k (omega arith) ∙ each k below
+    at_last : (p < at) ⊎ (at ≤ p) → slice_get (us ++ (v ∷ [])) p ≡ Some (record { variable = used_at used p; at = p })
+    at_last (inl below) = get_before us v p (omega arith) ∙ each p below
     at_last (inr past) =
-        let here : k ≡ at = omega arith in
-        index_last keys v k (here ∙ sym count) ∙ this ∙ ap (λ j. key (used_at used j) j) (sym here)
+        let here : p ≡ at = omega arith in
+        let this : v ≡ record { variable = used_at used at; at = at } = λ i. record { variable = variable i; at = place i } in
+        get_last us v p (here ∙ sym count) ∙ ap Some this ∙ ap (λ j. Some (record { variable = used_at used j; at = j })) (sym here)
 
-pub keys_many : (keys new : List ℕ) (at v : ℕ) → new ≡ keys ++ (v ∷ []) → length keys ≡ at → length new ≡ at + 1
-keys_many keys new at v is count = ap length is ∙ omega (arith, length-append keys (v ∷ []), count)
+pub uses_many : (us new : List Use) (at : ℕ) (v : Use) → new ≡ us ++ (v ∷ []) → length us ≡ at → length new ≡ at + 1
+uses_many us new at v is count = ap length is ∙ omega (arith, length-append us (v ∷ []), count)
 
 -- ---- what the search answers
 
-module _ (used : List ℕ) (u : Uses) (h : AreUses used u) (x from to : ℕ) (hf : from < 2 ^ 32) (ht : to < 2 ^ 32) (keys : List ℕ) (are : keys ≡ u.keys.items)
-    (first : ℕ) (begins : first ≡ key x from) where
-  ascending : (i j : ℕ) → i ≤ j → j < length keys → slice_index_or keys i 0 ≤ slice_index_or keys j 0
-  ascending i j le lt = subst (λ ks. slice_index_or ks i 0 ≤ slice_index_or ks j 0) (sym are) (h.ascending i j 0 le (subst (λ ks. j < length ks) are lt))
+module _ (used : List ℕ) (u : Uses) (h : AreUses used u) (x from to next : ℕ)
+    (point : IsPartitionPoint (λ v. is_before (record { variable = x; at = from }) v ≡ true) (λ v. is_before (record { variable = x; at = from }) v ≡ false) u.uses.items next) where
+  -- the first use from `from` on is before `to`
+  next_within : (v : Use) → slice_get u.uses.items next ≡ Some v → is_before (record { variable = x; at = to }) v ≡ true → IsUsedWithin used x from to
+  next_within v there below =
+      let after : is_before (record { variable = x; at = from }) v ≡ false =
+      subst (λ w. is_before (record { variable = x; at = from }) w ≡ false) (get_or_from_slice_get u.uses.items next v v there) (point.1 next v (omega arith) (slice_get_within u.uses.items next v there)) in
+      let b = between v x from to after below in
+      let o = h.only next v there in
+      (v.at, (b.1.0, (b.1.1, (o.0, o.1 ∙ b.0))))
 
-  pub within_found : (i : ℕ) → IsBinarySearchResult (λ y. nat_cmp y first) keys (Ok i) → (nat_lt from to ≡ true) ↔ IsUsedWithin used x from to
-  within_found i r =
-      let s = searched keys first (Ok i) r ascending in (
-        λ e.
-            let small : from < to = grind (arith, nat_tests) in
-            found used u h x from to hf ht i (subst (λ ks. i < length ks) are s.0) (subst (λ ks. slice_index_or ks i 0 ≡ first) are s.1 ∙ begins) small,
-        λ w. let small : from < to = omega arith in grind (arith, nat_tests),
-      )
+  -- where x is used within, there is a use from `from` on, and the first one is before `to`
+  then_next : IsUsedWithin used x from to → (next < length u.uses.items) × ((d : Use) → is_before (record { variable = x; at = to }) (slice_index_or u.uses.items next d) ≡ true)
+  then_next w =
+      let e = h.each w.0 w.1.1.1.0 in
+      let v : Use = record { variable = x; at = w.0 } in
+      let is : slice_get u.uses.items e.0 ≡ Some v = e.1 ∙ ap (λ y. Some (record { variable = y; at = w.0 })) w.1.1.1.1 in
+      let lt : e.0 < length u.uses.items = slice_get_within u.uses.items e.0 v is in
+      let late : is_before (record { variable = x; at = from }) v ≡ false = not_first x w.0 from w.1.0 in
+      let soon : is_before (record { variable = x; at = to }) v ≡ true = lower_first x w.0 to w.1.1.0 in
+      elim (cases_lt e.0 next) [
+        | inl less ↦
+            let early : is_before (record { variable = x; at = from }) v ≡ true =
+            subst (λ y. is_before (record { variable = x; at = from }) y ≡ true) (get_or_from_slice_get u.uses.items e.0 v v is) (point.0 e.0 v (omega arith) less) in
+            let wrong : true ≡ false = sym early ∙ late in
+            cc
+        | inr ge ↦ (
+          omega arith,
+          λ d. parted u.uses.items (record { variable = x; at = to }) h.ascending next e.0 d ge lt
+              (subst (λ y. is_before (record { variable = x; at = to }) y ≡ true) (sym (get_or_from_slice_get u.uses.items e.0 v d is)) soon),
+        )
+      ]
 
-  pub within_next : (i last v : ℕ) → IsBinarySearchResult (λ y. nat_cmp y first) keys (Err i) → i < length keys → v ≡ slice_index_or keys i 0 → last ≡ key x to
-      → (nat_lt v last ≡ true) ↔ IsUsedWithin used x from to
-  within_next i last v r lt is ends =
-      let s = searched keys first (Err i) r ascending in
-      let v_is : v ≡ slice_index_or u.keys.items i 0 = subst (λ ks. v ≡ slice_index_or ks i 0) are is in
-      let past : first < slice_index_or keys i 0 = s.2 i (omega arith) lt in (
-        λ e.
-            let small : v < last = grind (arith, nat_tests) in
-            next_within used u h x from to hf ht i (subst (λ ks. i < length ks) are lt)
-            (subst (λ n. n < slice_index_or u.keys.items i 0) begins (subst (λ ks. first < slice_index_or ks i 0) are past)) (subst (λ n. n < key x to) v_is (subst (λ n. v < n) ends small)),
-        λ w.
-            let t = then_next used u h x from to hf ht w i (λ k below. subst (λ n. slice_index_or u.keys.items k 0 < n) begins (subst (λ ks. slice_index_or ks k 0 < first) are (s.1 k below))) in
-            let small : v < last = subst (λ n. n < last) (sym v_is) (subst (λ n. slice_index_or u.keys.items i 0 < n) (sym ends) t.1) in
-            grind (arith, nat_tests),
-      )
+  pub within_next : (v : Use) → slice_get u.uses.items next ≡ Some v → (is_before (record { variable = x; at = to }) v ≡ true) ↔ IsUsedWithin used x from to
+  within_next v there = (
+    λ below. next_within v there below,
+    λ w. subst (λ y. is_before (record { variable = x; at = to }) y ≡ true) (get_or_from_slice_get u.uses.items next v v there) ((then_next w).1 v),
+  )
 
-  pub within_past : (i many : ℕ) → IsBinarySearchResult (λ y. nat_cmp y first) keys (Err i) → many ≡ length keys → many ≤ i → (nat_lt i many ≡ true) ↔ IsUsedWithin used x from to
-  within_past i many r is past =
-      let s = searched keys first (Err i) r ascending in (
-        λ e. let small : i < many = grind (arith, nat_tests) in absurd (omega (arith, small, past)),
-        λ w.
-            let t = then_next used u h x from to hf ht w i (λ k below. subst (λ n. slice_index_or u.keys.items k 0 < n) begins (subst (λ ks. slice_index_or ks k 0 < first) are (s.1 k below))) in
-            let small : i < many = subst (λ n. i < n) (sym (is ∙ ap length are)) t.0 in
-            absurd (omega (arith, small, past)),
-      )
+  pub within_past : length u.uses.items ≤ next → IsUsedWithin used x from to → ⊥
+  within_past past w = let t = (then_next w).0 in omega arith

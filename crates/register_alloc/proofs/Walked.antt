@@ -2,8 +2,6 @@
 use Rattle.std.proofs.Common.{◌≡◌, ℕ, zero, suc, ◌≤◌, List, [], ◌∷◌, ◌++◌, map, drop, length, Some, slice_get, refl, sym, ap, ◌∙◌, arith}
 use Rattle.low_code.specs.declared.program.LowStmt.{LowStmt}
 use Rattle.low_code.specs.declared.program.LowArm.{LowArm}
-use Rattle.register_alloc.specs.declared.walk.Call.{Call}
-use Rattle.register_alloc.specs.Calls.{sites_of_calls}
 use Rattle.low_code.specs.declared.program.LowTest.{LowTest}
 use Rattle.low_code.proofs.TreeOf.{arm_of-parts}
 use Rattle.low_code.specs.Tree.{Code, Arms, arm, code_of, before_of, arm_of, all_before, arms_before}
@@ -19,10 +17,6 @@ in_front x (z ∷ xs) ys = ap (λ l. z ∷ l) (in_front x xs ys)
 pub grouped : {A : Type 0} (xs ys zs : List A) → xs ++ (ys ++ zs) ≡ (xs ++ ys) ++ zs
 grouped [] ys zs = refl
 grouped (x ∷ xs) ys zs = ap (λ l. x ∷ l) (grouped xs ys zs)
-
-pub one_call : (cs : List Call) (c : Call) → sites_of_calls (cs ++ (c ∷ [])) ≡ sites_of_calls cs ++ ((c.site, c.proc) ∷ [])
-one_call [] c = refl
-one_call (x ∷ cs) c = ap (λ l. (x.site, x.proc) ∷ l) (one_call cs c)
 
 -- ---- the statements and arms that are still to come
 

@@ -5,7 +5,6 @@ pub mod Fits
 pub mod Reach
 pub mod Rounds
 pub mod Results
-pub mod Calls
 pub mod Gathered
 pub mod Uses
 pub mod Inner

@@ -1,10 +1,11 @@
 // The variables that hold the registers x8 to x31 at a point of a procedure.
 
-ghost use Rattle.std.specs.Prelude.{◌≡◌, ◌||◌, ◌<◌, ◌++◌, ◌∷◌, [], ℕ, true, false, List, length, slice_get, slice_set, Some, None, Option, vec_len, IfOk, OnOk, MatchOption};
+ghost use Rattle.std.specs.Prelude.{◌≡◌, ◌<◌, ◌++◌, ◌∷◌, [], ℕ, true, false, List, length, slice_get, slice_set, Some, None, Option, vec_len, IfOk, OnOk, MatchOption};
 ghost use Rattle.register_alloc.specs.Uses.{AreUses};
 ghost use Rattle.register_alloc.specs.Holders.{Held, AreStillUsed, AreEntering, AllFree, AreRegisters, IsStill, IsMarked, Pairwise, new_holder};
 ghost use Rattle.register_alloc.specs.declared.holders.Holder.{Holder};
 
+use crate::either::either;
 use crate::uses::Uses;
 use seq::Seq;
 use std::alloc::{AllocError, Global};
@@ -21,12 +22,6 @@ pub struct Holder {
 pub struct Holders {
     pub of: Vec<Option<Holder>>,
     ghost many: { vec_len of ≡ 24 },
-}
-
-fn either(a: bool, b: bool) -> bool
-    ensures { result ≡ (a || b) }
-{
-    a || b
 }
 
 impl Holders {

@@ -5,6 +5,7 @@ ghost use Rattle.std.specs.Prelude.{◌≡◌, ◌<◌, length};
 ghost use Rattle.register_alloc.specs.Assignment.{place_of, mask_of, saves_at, words_at};
 
 mod assign;
+mod either;
 mod holders;
 mod registers;
 mod scan;
@@ -16,7 +17,7 @@ pub use assign::allocate;
 use parallel_move::Spot;
 use seq::Seq;
 use std::marker::Model;
-pub use walk::{Call, Walk};
+pub use walk::Walk;
 
 /// Where the variables of a program stand, which registers each procedure may change, which of them
 /// are saved at each call site, and the words of each frame.

@@ -1,14 +1,22 @@
 // Where the variables of a procedure are used, by positions in the order of its text.
+#![tactic(auto)]
 
 ghost use Rattle.std.specs.Prelude.{◌≡◌, ◌↔◌, ◌<◌, ◌≤◌, ◌^◌, ℕ, List, true, length, IfOk};
-ghost use Rattle.register_alloc.specs.Uses.{AreUses, IsUsedWithin, key};
+ghost use Rattle.register_alloc.specs.Uses.{AreUses, IsUsedWithin};
 
 use std::alloc::{AllocError, Global};
 
-/// The uses of variables, each as one number: the variable and then the position. They ascend.
+/// A use of a variable. Uses are ordered by their variables, and those of one by their positions.
+#[derive(Clone, Copy, Debug, PartialEq, Eq, PartialOrd, Ord)]
+pub struct Use {
+    pub variable: u32,
+    pub at: u32,
+}
+
+/// The uses of a procedure's variables. They ascend.
 #[derive(Drop)]
 pub struct Uses {
-    keys: Vec<u64>,
+    uses: Vec<Use>,
 }
 
 impl Uses {
@@ -17,12 +25,15 @@ impl Uses {
         requires { length used.now < 2 ^ 32 }
         ensures { IfOk result (AreUses used.now) }
     {
-        let mut keys = Vec::with_capacity(alloc, used.len())?;
+        let mut uses = Vec::with_capacity(alloc, used.len())?;
         for (at, variable) in used.iter().enumerate() {
-            keys.push(key(*variable, at as u32))?;
+            uses.push(Use {
+                variable: *variable,
+                at: at as u32,
+            })?;
         }
-        keys.sort_unstable();
-        Ok(Uses { keys })
+        uses.sort_unstable();
+        Ok(Uses { uses })
     }
 
     /// Whether a variable is used at a position from `from` on and before `to`.
@@ -30,16 +41,9 @@ impl Uses {
         ensures { (used : List ℕ) → AreUses used self.now → (result ≡ true)
             ↔ IsUsedWithin used variable from to }
     {
-        let first = key(variable, from);
-        match self.keys.binary_search(&first) {
-            Ok(_) => from < to,
-            Err(at) => at < self.keys.len() && self.keys[at] < key(variable, to),
-        }
+        let first = Use { variable, at: from };
+        let end = Use { variable, at: to };
+        let next = self.uses.partition_point(|used| *used < first);
+        next < self.uses.len() && self.uses[next] < end
     }
-}
-
-fn key(variable: u32, position: u32) -> u64
-    ensures { result ≡ key variable position }
-{
-    variable as u64 * 4294967296 + position as u64
 }

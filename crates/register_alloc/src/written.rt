@@ -1,10 +1,11 @@
 // The registers that each procedure may change: its own, and those of the procedures that it calls.
 
-ghost use Rattle.std.specs.Prelude.{◌≡◌, ◌<◌, ◌||◌, true, false, length};
+ghost use Rattle.std.specs.Prelude.{◌≡◌, ◌<◌, true, false, length};
 ghost use Rattle.std.proofs.Common.{set};
 ghost use Rattle.register_alloc.specs.Reach.{AreLeast};
 ghost use Rattle.register_alloc.specs.Rounds.{mask_at, joined, Grows, AreWhole, room};
 
+use crate::either::either;
 use seq::Seq;
 
 pub(crate) fn mask_at(masks: &[u32], proc: u32) -> u32
@@ -41,12 +42,6 @@ fn grow(masks: &mut Vec<u32>, proc: usize, called: &[u32]) -> bool
     let all = joined(masks.as_slice(), old, called);
     masks[proc] = all;
     all != old
-}
-
-fn either(a: bool, b: bool) -> bool
-    ensures { result ≡ (a || b) }
-{
-    a || b
 }
 
 /// Adds to the mask of each procedure those of the procedures that it calls. Whether there was

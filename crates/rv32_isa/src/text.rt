@@ -12,7 +12,7 @@ use std::marker::Model;
 
 /// The text of an instruction, as `addi x1, x2, -5`: the name, then the operands in decimal with
 /// the target register first. A store has the stored register first; a load, a store and JALR have
-/// their base as `8(x2)`.
+/// their base as `8(x2)`. `AllocError` where memory is wanting.
 #[tactic(auto, unfolding(crate::specs::Text::text_of))]
 pub fn show(alloc: Global, instr: Instr) -> Result<Vec<u8>, AllocError>
     ensures { IfOk result (λ text. text.items ≡ text_of instr) }

@@ -1,5 +1,5 @@
 -- Where items stand, in words from the first one of the code, and the ways that they go.
-use Rattle.std.specs.Prelude.{◌≡◌, ℕ, zero, suc, ◌+◌, ◌^◌, ◌<◌, ◌≤◌, List, [], ◌∷◌, ◌++◌, Option, Some, None, IsSome, slice_get, unwrap_or}
+use Rattle.std.specs.Prelude.{◌≡◌, ℕ, zero, suc, ◌+◌, ◌^◌, ◌<◌, ◌≤◌, List, [], ◌∷◌, ◌++◌, Option, Some, None, IsSome, length, slice_get, unwrap_or}
 use Rattle.rv32_isa.specs.declared.instr.Instr.{Instr}
 use Rattle.rv32_isa.specs.Table.{instr_of}
 use Rattle.rv32_items.specs.declared.Item.{Item}
@@ -76,6 +76,13 @@ Encode [] [] = Unit {0}
 Encode [] (w ∷ ws) = ⊥
 Encode (i ∷ is) [] = ⊥
 Encode (i ∷ is) (w ∷ ws) = (instr_of w ≡ Some i) × ((w < 2 ^ 32) × Encode is ws)
+
+-- words in which no item is longer than the shortest by the longest ways: they encode the code of
+-- the items by ways that are short
+pub record IsShort (items : List Item) (words : List ℕ) : Type 0 where
+  pub ways : List Way
+  pub short : AllShort items ways
+  pub encode : Encode (code ways items (length items)) words
 
 -- each of these words is that of an instruction
 abbrev pub AllDecode : (words : List ℕ) → Type 0

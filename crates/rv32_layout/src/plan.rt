@@ -45,7 +45,7 @@ impl Plan {
     }
 
     /// The plan with the longest ways.
-    fn long(alloc: Global, items: &[Item]) -> Result<Plan, AllocError>
+    pub fn long(alloc: Global, items: &[Item]) -> Result<Plan, AllocError>
         requires { size_of items.now ≤ 268435456 }
         ensures plan { IfOk result (IsPlan items.now) }
         ensures long { IfOk result (λ plan. plan.ways.items ≡ []) }

@@ -1,5 +1,5 @@
 -- The segments at the start of a program share no address.
-use Rattle.std.proofs.Common.{◌≡◌, ℕ, ◌+◌, ◌-◌, ◌%◌, ◌<◌, ◌≤◌, List, [], ◌++◌, length, take, replicate, Bool, true, false, All, refl, sym, ap, ◌∙◌, subst, arith}
+use Rattle.std.proofs.Common.{◌≡◌, ℕ, ◌+◌, ◌-◌, ◌%◌, ◌<◌, ◌≤◌, List, [], ◌++◌, length, take, replicate, Bool, true, false, Option, All, refl, sym, ap, ◌∙◌, subst, arith}
 use Rattle.std.specs.Prelude.{map, nat_le, nat_lt, ◌&&◌, slice_index_or, AllPairs, ◌⊎◌}
 use mathlib.Core.Logic.{inl, inr}
 use Rattle.std.proofs.lemmas.Bool.{leb-true, ltb-true, ltb-false, cases_eq}
@@ -9,6 +9,7 @@ use Rattle.elf32.specs.Image.{Part, IsPart, HasAddress, Apart}
 use Rattle.rv32_machine.specs.declared.store.Decoded.{Decoded}
 use Rattle.rv32_machine.specs.Memory.{Stretch, stretch_of, is_in, end_of, segment_at}
 use Rattle.rv32_machine.specs.Decoded.{AreApart, IsStore}
+use Rattle.rv32_machine.specs.Starts.{Starts}
 
 abbrev no_part : Part
 no_part = record { addr = 0; size = 0; bytes = []; write = false; exec = false }
@@ -81,9 +82,10 @@ module _ (parts : List Part) (are : All IsPart parts) (apart : AllPairs Apart pa
           apart n m no_part less (below m hm) address hn hm
 
   -- nothing is kept yet
-  pub begun : (memory : List Stretch) (empty : Decoded) → memory ≡ map stretch_of parts → empty.address ≡ 1 → (decoded : List Decoded) → decoded ≡ replicate 65536 empty → IsStore memory decoded
-  begun memory empty is odd decoded full = record {
+  pub begun : (memory : List Stretch) (empty : Decoded) → memory ≡ map stretch_of parts → empty.address ≡ 1 → (starts : ℕ → Option ℕ) → Starts memory (length memory) starts → (decoded : List Decoded) → decoded ≡ replicate 65536 empty → IsStore memory starts decoded
+  begun memory empty is odd starts begin decoded full = record {
     apart = subst AreApart (sym is) begun_apart;
+    starts = begin;
     places = ap length full ∙ length-replicate 65536 empty;
     kept = λ k d lt aligned. absurd (go k d lt aligned);
   }

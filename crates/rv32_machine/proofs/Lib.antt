@@ -4,5 +4,6 @@ pub mod Loops
 pub mod Advanced
 pub mod Division
 pub mod Stores
+pub mod Searched
 pub mod Begun
 pub mod Registers

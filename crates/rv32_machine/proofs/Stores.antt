@@ -1,6 +1,6 @@
 -- Instructions that are kept decoded stay right: a store changes only segments that may be written.
 use Rattle.std.proofs.Common.{◌≡◌, ◌≢◌, ℕ, zero, suc, ◌+◌, ◌-◌, ◌%◌, ◌<◌, ◌≤◌, List, [], ◌∷◌, ◌++◌, length, take, Bool, true, false, Option, Some, None, refl, sym, ap, ◌∙◌, subst, arith}
-use Rattle.std.specs.Prelude.{drop, ◌^◌, nat_le, nat_lt, ◌&&◌, slice_index_or, slice_get, slice_set, if◌then◌else◌}
+use Rattle.std.specs.Prelude.{IsSome, drop, ◌^◌, nat_le, nat_lt, ◌&&◌, slice_index_or, slice_get, slice_set, if◌then◌else◌}
 use Rattle.std.proofs.lemmas.Bool.{cases_eq, leb-true, ltb-true}
 use Rattle.std.proofs.lemmas.Grind.{common_steps}
 use Rattle.std.proofs.lemmas.Option.{get_or_from_slice_get, same_Some}
@@ -14,12 +14,13 @@ use Rattle.rv32_machine.specs.declared.memory.Access.TheVariants.{At, Outside}
 use Rattle.rv32_machine.specs.declared.store.Decoded.{Decoded}
 use Rattle.rv32_machine.specs.Memory.{Stretch, no_stretch, allows, is_in, end_of, place_from, segment_at, within, at_place, access, put_over, with_bytes, stored_at, little_endian, IsPlace, IsInside, IsAllowed}
 use Rattle.rv32_machine.specs.Decoded.{IsDecoded, AreApart, IsStore}
+use Rattle.rv32_machine.specs.Starts.{Starts}
 
 over_length : (old : List ℕ) (offset : ℕ) (new : List ℕ) → length (put_over old offset new) ≡ length old
 over_length old offset [] = refl
 over_length old offset (b ∷ bs) = over_length (slice_set old offset b) (offset + 1) bs ∙ length-set old offset b
 
-and_left : (a b : Bool) → a && b ≡ true → a ≡ true
+pub and_left : (a b : Bool) → a && b ≡ true → a ≡ true
 and_left true b h = refl
 and_left false b h = let c : false ≡ true = h in absurd cc
 
@@ -97,24 +98,38 @@ module _ (memory : List Stretch) (m offset : ℕ) (new : List ℕ) (there : m < 
         apart : h.segment ≢ m
         apart e = let c : true ≡ false = sym writes ∙ ap (λ n. (segment_at memory n).write) (sym e) ∙ h.fixed in absurd cc
 
-    pub store_kept : (decoded : List Decoded) → IsStore memory decoded → IsStore after decoded
-    store_kept decoded s = record {
+    same_length : length after ≡ length memory
+    same_length = length-set memory m changed
+
+    first_kept : (n : ℕ) → (segment_at after n).first ≡ (segment_at memory n).first
+    first_kept = kept (λ s. s.first) refl
+
+    starts_kept : (starts : ℕ → Option ℕ) → Starts memory (length memory) starts → Starts after (length after) starts
+    starts_kept starts s = record {
+      found = λ a n e. in_kept a n ∙ s.found a n e;
+      listed = λ n a lt h. subst (λ f. IsSome (starts f)) (sym (first_kept n)) (s.listed n a (omega (arith, lt, same_length)) (sym (in_kept a n) ∙ h));
+    }
+
+    pub store_kept : (starts : ℕ → Option ℕ) (decoded : List Decoded) → IsStore memory starts decoded → IsStore after starts decoded
+    store_kept starts decoded s = record {
       apart = λ address i j a b. s.apart address i j (sym (in_kept address i) ∙ a) (sym (in_kept address j) ∙ b);
+      starts = starts_kept starts s.starts;
       places = s.places;
       kept = λ k x lt aligned. decoded_kept (slice_index_or decoded k x) (s.kept k x lt aligned);
     }
 
 -- one more is kept
-pub store_more : (memory : List Stretch) (decoded : List Decoded) (place : ℕ) (d : Decoded) → IsStore memory decoded → IsDecoded memory d → IsStore memory (slice_set decoded place d)
-store_more memory decoded place d s h = record {
+pub store_more : (memory : List Stretch) (starts : ℕ → Option ℕ) (decoded : List Decoded) (place : ℕ) (d : Decoded) → IsStore memory starts decoded → IsDecoded memory d → IsStore memory starts (slice_set decoded place d)
+store_more memory starts decoded place d s h = record {
   apart = s.apart;
+  starts = s.starts;
   places = length-set decoded place d ∙ s.places;
   kept = All-set (λ d. d.address % 4 ≡ 0 → IsDecoded memory d) decoded place d (λ _. h) s.kept;
 }
 
 -- ---- the segment that has an address is the one that an access finds
 
-and_right : (a b : Bool) → a && b ≡ true → b ≡ true
+pub and_right : (a b : Bool) → a && b ≡ true → b ≡ true
 and_right true b h = h
 and_right false b h = let c : false ≡ true = h in absurd cc
 

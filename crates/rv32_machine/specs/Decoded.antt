@@ -1,5 +1,5 @@
 -- Instructions that are kept decoded, each with its address.
-use Rattle.std.specs.Prelude.{◌≡◌, ℕ, ◌%◌, List, All, false, true, Some, None, length}
+use Rattle.std.specs.Prelude.{◌≡◌, ℕ, ◌%◌, List, All, false, true, Option, Some, None, length}
 use Rattle.rv32_isa.specs.Table.{instr_of}
 use Rattle.rv32_machine.specs.declared.memory.Right.TheVariants.{Execute}
 use Rattle.rv32_machine.specs.declared.memory.Access.TheVariants.{At, Outside as outside}
@@ -7,6 +7,7 @@ use Rattle.rv32_machine.specs.declared.store.Decoded.{Decoded}
 use Rattle.rv32_machine.specs.declared.store.Fetched.{Fetched}
 use Rattle.rv32_machine.specs.declared.store.Fetched.TheVariants.{Instr, Illegal, Outside}
 use Rattle.rv32_machine.specs.Memory.{Stretch, access, segment_at, bytes_at, little_endian, is_in}
+use Rattle.rv32_machine.specs.Starts.{Starts}
 
 -- so many bytes at a place of memory are the word that an instruction is fetched from
 abbrev pub IsWordAt : List Stretch → (address word : ℕ) → (segment offset : ℕ) → Type 0
@@ -38,9 +39,11 @@ AreApart memory =
     (address m n : ℕ) → is_in address (segment_at memory m) ≡ true
     → is_in address (segment_at memory n) ≡ true → m ≡ n
 
--- the segments, and so many instructions that are kept; a place with an address that is no multiple
--- of four is empty
-pub record IsStore (memory : List Stretch) (decoded : List Decoded) : Type 0 where
+-- the segments, where they begin, and so many instructions that are kept; a place with an address
+-- that is no multiple of four is empty
+pub record IsStore (memory : List Stretch) (begins : ℕ → Option ℕ) (decoded : List Decoded)
+    : Type 0 where
   pub apart : AreApart memory
+  pub starts : Starts memory (length memory) begins
   pub places : length decoded ≡ 65536
   pub kept : All (λ d. d.address % 4 ≡ 0 → IsDecoded memory d) decoded

@@ -1,5 +1,6 @@
 pub mod Arithmetic
 pub mod Memory
+pub mod Starts
 pub mod Decoded
 pub mod Steps
 pub mod Runs

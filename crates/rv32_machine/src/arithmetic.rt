@@ -1,9 +1,9 @@
 //! What the operations compute, on words of 32 bits.
 
 ghost use Rattle.std.specs.Prelude.{◌≡◌, ◌<◌, ◌^◌, ◌*ℤ◌, pos};
-ghost use Rattle.rv32_machine.specs.Arithmetic.{op_value, divided, left_over, imm_value, shift_value, is_taken, load_size, load_value, store_size, shift_right_signed, less_signed, plus, signed, pattern, high_half, bit};
+ghost use Rattle.rv32_machine.specs.Arithmetic.{op_value, divided, left_over, imm_value, shift_value, is_taken, load_size, load_value, shift_right_signed, less_signed, plus, signed, pattern, high_half, bit};
 
-use rv32_isa::{BranchKind, ImmKind, LoadKind, OpKind, ShiftKind, StoreKind};
+use rv32_isa::{BranchKind, ImmKind, LoadKind, OpKind, ShiftKind};
 
 /// The sum of two words, modulo 2^32.
 #[inline(always)]
@@ -149,17 +149,6 @@ pub fn is_taken(kind: BranchKind, a: u32, b: u32) -> bool
     }
 }
 
-/// How many bytes a load reads.
-pub fn load_size(kind: LoadKind) -> u32
-    ensures { result ≡ load_size kind }
-{
-    match kind {
-        LoadKind::Lb | LoadKind::Lbu => 1,
-        LoadKind::Lh | LoadKind::Lhu => 2,
-        LoadKind::Lw => 4,
-    }
-}
-
 /// The word that a load makes of the bytes that it reads, `v` being their number.
 #[inline(always)]
 pub fn load_value(kind: LoadKind, v: u32) -> u32
@@ -170,16 +159,5 @@ pub fn load_value(kind: LoadKind, v: u32) -> u32
         LoadKind::Lb => { if v < 128 { v } else { v + 4294967040 } }
         LoadKind::Lh => { if v < 32768 { v } else { v + 4294901760 } }
         LoadKind::Lw | LoadKind::Lbu | LoadKind::Lhu => v,
-    }
-}
-
-/// How many bytes a store writes.
-pub fn store_size(kind: StoreKind) -> u32
-    ensures { result ≡ store_size kind }
-{
-    match kind {
-        StoreKind::Sb => 1,
-        StoreKind::Sh => 2,
-        StoreKind::Sw => 4,
     }
 }

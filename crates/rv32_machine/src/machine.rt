@@ -89,7 +89,7 @@ impl Model for Machine {
 
 impl Machine {
     /// The machine at the start of a program: all registers are zero, and each segment's bytes are
-    /// followed by zeros.
+    /// followed by zeros. `AllocError` where memory is wanting.
     pub fn load(alloc: Global, image: &Loaded) -> Result<Machine, AllocError>
         ensures { IfOk result (λ m. IsAt m (start_of image.now) false false) }
     {

@@ -1,12 +1,16 @@
 //! Memory: segments of bytes with rights.
 
 ghost use Rattle.std.specs.Prelude.{◌≡◌, ◌&&◌, ◌^◌, ◌++◌, ◌-◌, replicate, IfOk, OnOk, ◌+◌, ◌<◌, ◌≤◌, length, take, drop, slice_index, ◌⊎◌};
+ghost use Rattle.std.specs.Ordering.{nat_cmp};
+ghost use Rattle.std.specs.BTreeMap.{get};
 ghost use Rattle.elf32.specs.Image.{IsPart};
 ghost use Rattle.rv32_machine.specs.declared.memory.Access.{Access};
 ghost use Rattle.rv32_machine.specs.Memory.{allows, IsAllowed, IsPlace, is_in, within, access, little_endian, bytes_of, with_bytes, put_over, IsInside, stretch_of, bytes_at, stored_at};
+ghost use Rattle.rv32_machine.specs.Starts.{Starts};
 
 use elf32::Segment;
 use std::alloc::{AllocError, Global};
+use std::collections::BTreeMap;
 use std::marker::Model;
 
 /// What an access is for.
@@ -197,6 +201,19 @@ pub fn place(regions: &[Region], right: Right, address: u32) -> usize
     regions.len()
 }
 
+/// The numbers of the segments that have addresses, by the first one.
+pub fn starts(alloc: Global, regions: &[Region]) -> Result<BTreeMap<u64, usize>, AllocError>
+    ensures { IfOk result (λ s. Starts regions.now (length regions.now) (get nat_cmp s)) }
+{
+    let mut starts = BTreeMap::new(alloc);
+    for (number, region) in regions.iter().enumerate() {
+        if region.is_in(region.first) {
+            starts.insert(region.first as u64, number)?;
+        }
+    }
+    Ok(starts)
+}
+
 /// Where an access goes that begins in the segment of this number, or in none where there is no
 /// such segment.
 #[inline(always)]
@@ -211,16 +228,6 @@ pub fn access_at(regions: &[Region], number: usize, right: Right, address: u32, 
         Some(region) => region.within(address, len, number),
         None => Access::Outside(address),
     }
-}
-
-/// Where an access goes, in a list of segments.
-pub fn locate(regions: &[Region], right: Right, address: u32, len: u32) -> Access
-    requires { 0 < len }
-    ensures found { result ≡ access right regions.now address len }
-    ensures inside { IsInside regions.now len result }
-    ensures allowed { IsAllowed right regions.now result }
-{
-    access_at(regions, place(regions, right, address), right, address, len)
 }
 
 /// The number that stands at a place.

@@ -1,20 +1,26 @@
 //! The memory of a machine: the segments of its program, and instructions that are kept decoded.
 
-ghost use Rattle.std.specs.Prelude.{◌≡◌, ◌+◌, ◌%◌, ◌<◌, ◌≤◌, ◌^◌, Some, IsSome, true, map, length, take, drop, IfOk, OnOk, All, ◌⊎◌};
+ghost use Rattle.std.specs.Prelude.{◌≡◌, ℕ, ◌+◌, ◌%◌, ◌<◌, ◌≤◌, ◌^◌, Some, IsSome, true, map, length, take, drop, IfOk, OnOk, All, ◌⊎◌};
+ghost use Rattle.std.specs.Ordering.{nat_cmp};
+ghost use Rattle.std.specs.BTreeMap.{get};
 ghost use Rattle.elf32.specs.Image.{IsPart};
 ghost use Rattle.rv32_machine.specs.declared.memory.Access.{Access};
 ghost use Rattle.rv32_machine.specs.declared.memory.Right.{Right};
-ghost use Rattle.rv32_machine.specs.Memory.{access, range_bytes, stretch_of, segment_at, IsInside, IsAllowed, IsPlace, bytes_of, little_endian, bytes_at, stored_at};
+ghost use Rattle.rv32_machine.specs.Memory.{access, range_bytes, stretch_of, segment_at, IsInside, IsAllowed, IsPlace, bytes_of, little_endian, bytes_at, stored_at, is_in};
 ghost use Rattle.rv32_machine.specs.Decoded.{Fetches, IsDecoded};
 
-use crate::memory::{Access, Region, Right, access_at, locate, place, read, write};
+use crate::memory::{Access, Region, Right, access_at, place, read, starts, write};
 use elf32::{Loaded, Segment};
 use rv32_isa::{Instr, decode};
 use std::alloc::{AllocError, Global};
+use std::collections::BTreeMap;
 use std::marker::Model;
 
 /// How many instructions are kept decoded.
 const PLACES: usize = 65536;
+
+/// So many segments are searched one by one.
+const FEW: usize = 8;
 
 /// An instruction, and the address where it stands.
 #[derive(Clone, Copy, Drop)]
@@ -37,16 +43,19 @@ pub enum Fetched {
 ///
 /// Instructions in segments that can't be written are decoded once, and kept at a place that their
 /// address gives; another one with the same place takes it over. The segment of the last access is
-/// tried first at the next one.
+/// tried first at the next one; many segments are found by where they begin.
 #[derive(Drop)]
 pub struct Memory {
     regions: Vec<Region>,
+    starts: BTreeMap<u64, usize>,
     decoded: Vec<Decoded>,
     last: usize,
 }
 
 impl Model for Memory {
     ghost use Rattle.std.specs.Prelude.{List};
+    ghost use Rattle.std.specs.Ordering.{nat_cmp};
+    ghost use Rattle.std.specs.BTreeMap.{get};
     ghost use Rattle.rv32_machine.specs.Memory.{Stretch};
     ghost use Rattle.rv32_machine.specs.Decoded.{IsStore};
 
@@ -54,7 +63,7 @@ impl Model for Memory {
 
     ghost view = { λ m. m.regions.items };
 
-    ghost invariant = { λ m. IsStore m.regions.items m.decoded.items };
+    ghost invariant = { λ m. IsStore m.regions.items (get nat_cmp m.starts) m.decoded.items };
 }
 
 /// The segments at the start of a program.
@@ -75,6 +84,7 @@ impl Memory {
         ensures { IfOk result (λ m. m ≡ map stretch_of image.now.segments) }
     {
         let regions = regions(alloc, image.segments.as_slice())?;
+        let starts = starts(alloc, &regions)?;
         let mut decoded = Vec::new(alloc);
         let empty = Decoded {
             address: 1,
@@ -83,6 +93,7 @@ impl Memory {
         decoded.resize(PLACES, empty)?;
         Ok(Memory {
             regions,
+            starts,
             decoded,
             last: 0,
         })
@@ -109,7 +120,7 @@ impl Memory {
         ensures same { self.new ≡ self.old }
         ensures fetched { Fetches self.old address result }
     {
-        match locate(&self.regions, Right::Execute, address, 4) {
+        match self.locate(Right::Execute, address, 4) {
             Access::Outside(outside) => Fetched::Outside(outside),
             Access::At(region, offset) => {
                 let word = read(&self.regions, region, offset, 4);
@@ -168,8 +179,52 @@ impl Memory {
         ensures same { self.new ≡ self.old }
         ensures place { IsPlace right address self.old result }
     {
-        self.last = place(&self.regions, right, address);
+        self.last = self.number(right, address);
         self.last
+    }
+
+    /// The same, found among all segments.
+    fn number(&self, right: Right, address: u32) -> usize
+        ensures { IsPlace right address self.now result }
+    {
+        if self.regions.len() <= FEW {
+            return place(&self.regions, right, address);
+        }
+        let number = self.candidate(address);
+        if let Some(region) = self.regions.get(number) {
+            if region.serves(right, address) {
+                return number;
+            }
+        }
+        self.regions.len()
+    }
+
+    /// The number of the segment that begins last, of those that begin at the address or before: no
+    /// other one has the address.
+    fn candidate(&self, address: u32) -> usize
+        ensures { (n : ℕ) → is_in address (segment_at self.now n) ≡ true → n ≡ result }
+    {
+        let limit = address as u64 + 1;
+        match self.starts.range(..limit).next_back() {
+            Some((_, number)) => *number,
+            None => self.regions.len(),
+        }
+    }
+
+    /// Where an access goes, without regard to the last one.
+    fn locate(&self, right: Right, address: u32, len: u32) -> Access
+        requires { 0 < len }
+        ensures found { result ≡ access right self.now address len }
+        ensures inside { IsInside self.now len result }
+        ensures allowed { IsAllowed right self.now result }
+    {
+        access_at(
+            &self.regions,
+            self.number(right, address),
+            right,
+            address,
+            len,
+        )
     }
 
     /// The bytes of a range that may be read.
@@ -178,7 +233,7 @@ impl Memory {
         requires range { IsSome (range_bytes self.now address len) }
         ensures { range_bytes self.now address len ≡ Some result.now }
     {
-        match locate(&self.regions, Right::Read, address, len) {
+        match self.locate(Right::Read, address, len) {
             Access::At(region, offset) => self.regions[region].slice(offset, len as usize),
             Access::Outside(_) => unreachable!(),
         }

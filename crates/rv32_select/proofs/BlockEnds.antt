@@ -150,9 +150,9 @@ module _ (l : Program) (a : Assignment) (cells stack : ℕ) (lay : Layout) (item
 
   -- the operands of a statement are read as their words
   pub record OperandsRead (os : List Operand) (vs : List Word) (d : Data) : Type 0 where
-    pub readable : AllReadable lay.code (bases stack) j pf.slots (sources l a cells stack os)
-    pub are : EachIs l.width (read lay.code (bases stack) j pf.slots d) (sources l a cells stack os) vs
-    pub as_many : length (sources l a cells stack os) ≡ length vs
+    pub readable : AllReadable lay.code (bases stack) j pf.slots (sources l a os)
+    pub are : EachIs l.width (read lay.code (bases stack) j pf.slots d) (sources l a os) vs
+    pub as_many : length (sources l a os) ≡ length vs
 
   pub operands_read : (c0 : Code) (scope : List ℕ) (env : Env) (Must : ℕ → Word → Type 0) (d : Data) (w : World) (os : List Operand) (vs : List Word) → Stood l a cells stack lay f j pf.slots d0 (lay.address m) (Needed c0 env Must) d w
       → ((x : ℕ) (v : Word) → env x ≡ Some v → is_among x scope ≡ true) → ((x : ℕ) → is_among x scope ≡ true → IsOwn l a f (slots_of (place_of a) (variables q)) (place_of a x))
@@ -169,7 +169,7 @@ module _ (l : Program) (a : Assignment) (cells stack : ℕ) (lay : Layout) (item
           let more = rest ws e2 in
           record {
             readable = (one.0, more.readable);
-            are = subst (λ x. EachIs l.width (read lay.code (bases stack) j pf.slots d) (sources l a cells stack (o ∷ os)) x) is (one.1, more.are);
+            are = subst (λ x. EachIs l.width (read lay.code (bases stack) j pf.slots d) (sources l a (o ∷ os)) x) is (one.1, more.are);
             as_many = ap suc more.as_many ∙ ap length is;
           }
 

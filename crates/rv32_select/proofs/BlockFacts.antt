@@ -26,7 +26,7 @@ use Rattle.rv32_select.proofs.FrameViews.{spots, Outside, Kept}
 use Rattle.rv32_select.proofs.OperandsRead.{IsPlace}
 use Rattle.rv32_select.proofs.Gathering.{AllPlaces}
 use Rattle.rv32_select.proofs.Relation.{bases, regs_of, word_of, AllHold, HoldsCells, HoldsWorld, Keeps, Stood, Back, Does', Given, Needed}
-use Rattle.rv32_select.proofs.PlaceFacts.{NotAmong, Different, IsOwn, AllOwn, Binds, Fine}
+use Rattle.rv32_select.proofs.PlaceFacts.{NotAmong, AllApart, IsOwn, AllOwn, Binds, Fine}
 use Rattle.seq.specs.Lists.{is_among}
 use Rattle.seq.proofs.Counted.{among_left, among_right}
 
@@ -91,7 +91,7 @@ module _ (l : Program) (a : Assignment) where
   clear_different x [] h = tt
   clear_different x (y ∷ ys) h = ((λ e. h.0 (sym e)), clear_different x ys h.1)
 
-  pub apart_different : (scope xs : List ℕ) (c : Code) (later : List ℕ) → Apart (place_of a) scope xs c later → Different (map (place_of a) xs)
+  pub apart_different : (scope xs : List ℕ) (c : Code) (later : List ℕ) → Apart (place_of a) scope xs c later → AllApart (map (place_of a) xs)
   apart_different scope [] c later h = tt
   apart_different scope (x ∷ xs) c later h = (clear_different x xs h.1.0, apart_different scope xs c later h.1.1)
 
@@ -224,14 +224,14 @@ module _ (l : Program) (a : Assignment) (cells stack : ℕ) (lay : Layout) (item
       pub emits : Emitted
       pub stands : Stands items pos block
       pub ready : Ready way (pos + length block)
-      pub above : first_label l a cells stack ≤ k
+      pub above : first_label l ≤ k
       pub fine : Fitting
       pub scoped : (x : ℕ) (v : Word) → env x ≡ Some v → is_among x scope ≡ true
       pub owned : (x : ℕ) → is_among x scope ≡ true → IsOwn l a f (slots_of (place_of a) (variables q)) (place_of a x)
       pub must : (x : ℕ) (v : Word) → Must x v → (is_among x scope ≡ true) × (is_among x later ≡ true)
       pub clear : (x : ℕ) (v : Word) → Must x v → NotAmong (place_of a x) to
       pub to_own : AllOwn l a f (slots_of (place_of a) (variables q)) to
-      pub to_differ : Different to
+      pub to_differ : AllApart to
       pub in_registers : InRegisters way to
       pub stood : Stood l a cells stack lay f j slots d0 (lay.address m) Needs d w
       pub left : w.left ≤ n

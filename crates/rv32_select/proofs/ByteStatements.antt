@@ -75,7 +75,7 @@ module _ (l : Program) (a : Assignment) (cells stack : ℕ) (lay : Layout) (item
       go : (r : Option ℕ) → number_in l (words_at a) env o ≡ r → Does' lay items begins (Given l a cells stack lay items f j pf.slots d0 m outer to way Must) (at (bases stack) lay items p d) (m ∷ outer) w (need r w (λ v. code l (words_at a) (room l a cells stack lay items begins) calls_n env top under c (written v w)))
       go None e = tt
       go (Some v) e =
-          let src = source l a cells stack o in
+          let src = source l a o in
           let r = operand_read l a cells stack lay items begins s calls_n n f q pf j m outer d0 u (put o c) scope env Must d w o (number v) b.stood b.scoped b.owned (λ y h. among_left y (used_by o) (uses c) h) b.fine.0 (number_there (operand l (words_at a) env o) v e) in
           let h = b.stood.world in
           let g = h.good in
@@ -95,10 +95,10 @@ module _ (l : Program) (a : Assignment) (cells stack : ℕ) (lay : Layout) (item
           let A = aside_done lay.code (bases stack) 1 64 e2 S1.good (omega arith) (omega arith) in
           let e3 = at_call 1 64 e2 in
           let before = Load Lw 1 2 (pos 0) ∷ (hold 5 src ++ (Store Sw (held 5 src) 2 (pos 0) ∷ (aside ++ four 1 64))) in
-          let after = back (heap_end l a cells stack) ++ Store Sw 1 2 (pos 0) ∷ [] in
-          let whole : before ++ (Ecall ∷ after) ≡ put_code (heap_end l a cells stack) src = ap (λ x. Load Lw 1 2 (pos 0) ∷ x) (append_assoc (hold 5 src) (Store Sw (held 5 src) 2 (pos 0) ∷ (aside ++ four 1 64)) (Ecall ∷ after)) in
-          let parts = cut items p (plain (put_code (heap_end l a cells stack) src)) b.emits.0 block b.emits.1 b.stands in
-          let call = called_parts items p before after (put_code (heap_end l a cells stack) src) whole parts.first in
+          let after = back (heap_end l cells) ++ Store Sw 1 2 (pos 0) ∷ [] in
+          let whole : before ++ (Ecall ∷ after) ≡ put_code (heap_end l cells) src = ap (λ x. Load Lw 1 2 (pos 0) ∷ x) (append_assoc (hold 5 src) (Store Sw (held 5 src) 2 (pos 0) ∷ (aside ++ four 1 64)) (Ecall ∷ after)) in
+          let parts = cut items p (plain (put_code (heap_end l cells) src)) b.emits.0 block b.emits.1 b.stands in
+          let call = called_parts items p before after (put_code (heap_end l cells) src) whole parts.first in
           let does1 : Does lay.code (bases stack) before d e3 = does_on lay.code (bases stack) L (does_on lay.code (bases stack) H.does (does_on lay.code (bases stack) S1 A)) in
           let ran1 = plain_ran l a cells stack lay items begins before p d e3 (m ∷ outer) w g does1 call.first in
           let pe = p + length (plain before) in
@@ -112,12 +112,12 @@ module _ (l : Program) (a : Assignment) (cells stack : ℕ) (lay : Layout) (item
           let good4 = good_reg lay.code (bases stack) e3 10 1 A.good (omega arith) in
           let end_lt = end_small d w h in
           let twelve : d.regs 12 < 2 ^ 32 = g.small 12 (omega arith) in
-          let B = back_done lay.code (bases stack) (heap_end l a cells stack) e4 good4 end_lt twelve in
-          let e5 = brought_back (heap_end l a cells stack) e4 in
+          let B = back_done lay.code (bases stack) (heap_end l cells) e4 good4 end_lt twelve in
+          let e5 = brought_back (heap_end l cells) e4 in
           let S2 = does_store_stack lay.code (bases stack) 1 2 (pos 0) j link e5 B.good (omega arith) place (omega arith) refl in
           let e6 = with_stack e5 (set_at (set_at d.stack j v) j link) in
           let ran3 = plain_ran l a cells stack lay items begins after (suc pe) e4 e6 (m ∷ outer) w' good4 (does_on lay.code (bases stack) B S2) call.second in
-          let regs_back = all_back (heap_end l a cells stack) e4 d refl refl refl refl (λ r lo n10 n11 n12 n17. set_there e3.regs 10 1 r n10 ∙ aside_other 1 64 r e2 lo n10 n11 n12 n17 ∙ set_there (set_reg d1.regs 7 H.seven) 5 H.own r (omega arith) ∙ set_there d1.regs 7 H.seven r (omega arith) ∙ set_there d.regs 1 link r (omega arith)) in
+          let regs_back = all_back (heap_end l cells) e4 d refl refl refl refl (λ r lo n10 n11 n12 n17. set_there e3.regs 10 1 r n10 ∙ aside_other 1 64 r e2 lo n10 n11 n12 n17 ∙ set_there (set_reg d1.regs 7 H.seven) 5 H.own r (omega arith) ∙ set_there d1.regs 7 H.seven r (omega arith) ∙ set_there d.regs 1 link r (omega arith)) in
           let words = λ (t : ℕ). word_back d.stack j v t (omega arith) in
           let longer2 = length-set (set_at d.stack j v) j link in
           let same_length : length e6.stack ≡ length d.stack = longer2 ∙ longer in
@@ -133,13 +133,13 @@ module _ (l : Program) (a : Assignment) (cells stack : ℕ) (lay : Layout) (item
             stack_words = ap (λ x. 4 * x) same_length ∙ h.stack_words;
           } in
           let stood = stood_same l a cells stack lay f j pf.slots (slots_of (place_of a) (variables q)) d0 (lay.address m) (Needed (put o c) env Must) (Needed c env Must) d e6 w w' pf.enough b.stood world refl same_length words (seen_back e6 regs_back words) needs in
-          let plain_pos : suc pe + length (plain after) ≡ p + length (plain (put_code (heap_end l a cells stack) src)) = count_calls p before after (put_code (heap_end l a cells stack) src) whole in
+          let plain_pos : suc pe + length (plain after) ≡ p + length (plain (put_code (heap_end l cells) src)) = count_calls p before after (put_code (heap_end l cells) src) whole in
           let ran = ran_on lay items begins ran1 (ran_on lay items begins ran2 (subst (λ y. Ran lay items begins (at (bases stack) lay items (suc pe) e4) (m ∷ outer) w' (at (bases stack) lay items y e6) (m ∷ outer) w') plain_pos ran3)) in
           does_after lay items begins (Given l a cells stack lay items f j pf.slots d0 m outer to way Must) (code l (words_at a) (room l a cells stack lay items begins) calls_n env top under c w') ran
-          (more w' b.emits.0 (p + length (plain (put_code (heap_end l a cells stack) src))) e6 (record {
+          (more w' b.emits.0 (p + length (plain (put_code (heap_end l cells) src))) e6 (record {
             emits = b.emits.2;
             stands = parts.more;
-            ready = ready_at l a cells stack lay items begins way (p + length block) (p + length (plain (put_code (heap_end l a cells stack) src)) + length b.emits.0) parts.end b.ready;
+            ready = ready_at l a cells stack lay items begins way (p + length block) (p + length (plain (put_code (heap_end l cells) src)) + length b.emits.0) parts.end b.ready;
             above = b.above;
             fine = b.fine.1;
             scoped = b.scoped;
@@ -185,7 +185,7 @@ module _ (l : Program) (a : Assignment) (cells stack : ℕ) (lay : Layout) (item
     pub others : (t : Spot) → IsPlace lay.code (bases stack) j pf.slots t → t ≢ place_of a x → spots lay.code (bases stack) j pf.slots to' t ≡ spots lay.code (bases stack) j pf.slots d t
     pub sp : to'.regs 2 ≡ d.regs 2
     pub next : to'.regs 3 ≡ d.regs 3
-    pub end : to'.regs 4 ≡ heap_end l a cells stack
+    pub end : to'.regs 4 ≡ heap_end l cells
     pub heap : to'.heap ≡ d.heap
     pub words : length to'.stack ≡ length d.stack
     pub outside : (t : ℕ) → Outside lay.code (bases stack) j pf.slots t → get_or to'.stack t 0 ≡ get_or d.stack t 0
@@ -223,7 +223,7 @@ module _ (l : Program) (a : Assignment) (cells stack : ℕ) (lay : Layout) (item
       → Good lay.code (bases stack) e → e.regs 1 ≡ get_or d.stack j 0 → e.regs 2 ≡ d.regs 2 → e.regs 3 ≡ d.regs 3 → e.regs 5 ≡ d.regs 10 → e.regs 6 ≡ d.regs 11 → e.regs 7 ≡ d.regs 12 → e.regs 4 ≡ d.regs 17 → e.regs 10 ≡ ten
       → ((r : ℕ) → 8 ≤ r → r ≢ 10 → r ≢ 11 → r ≢ 12 → r ≢ 17 → e.regs r ≡ d.regs r) → e.heap ≡ d.heap → length e.stack ≡ length d.stack → ((t : ℕ) → t ≢ j → get_or e.stack t 0 ≡ get_or d.stack t 0)
       → get_or e.stack j 0 ≡ byte → plus (plus ten 4294967295) byte ≡ v → v < 2 ^ 32
-      → Finished x v d e (Load Lw 17 2 (pos 0) ∷ Store Sw 1 2 (pos 0) ∷ OpImm Addi 10 10 (negsuc 0) ∷ Op op.Add 1 10 17 ∷ (back (heap_end l a cells stack) ++ move_to (place_of a x) (Reg 1)))
+      → Finished x v d e (Load Lw 17 2 (pos 0) ∷ Store Sw 1 2 (pos 0) ∷ OpImm Addi 10 10 (negsuc 0) ∷ Op op.Add 1 10 17 ∷ (back (heap_end l cells) ++ move_to (place_of a x) (Reg 1)))
   finished x byte ten v d e w h fr o g one two three five six seven four' ten_is others heap len words byte_is sum small =
       let sp = fr.sp in
       let in_stack = fr.room in
@@ -242,12 +242,12 @@ module _ (l : Program) (a : Assignment) (cells stack : ℕ) (lay : Layout) (item
       let end_lt = end_small d w h in
       let twelve : d.regs 12 < 2 ^ 32 = h.good.small 12 (omega arith) in
       let seven_small : f4.regs 7 < 2 ^ 32 = subst (λ y. y < 2 ^ 32) (sym seven) twelve in
-      let B = back_done lay.code (bases stack) (heap_end l a cells stack) f4 A.good end_lt seven_small in
-      let f5 = brought_back (heap_end l a cells stack) f4 in
+      let B = back_done lay.code (bases stack) (heap_end l cells) f4 A.good end_lt seven_small in
+      let f5 = brought_back (heap_end l cells) f4 in
       let longer = length-set e.stack j link in
       let frame5 : InFrame lay.code (bases stack) j pf.slots f5 = record { sp = two ∙ sp; room = omega arith } in
       let M = moved_to (place_of a x) f5 B.good frame5 o in
-      let regs_back = all_back (heap_end l a cells stack) f4 d five six seven four'
+      let regs_back = all_back (heap_end l cells) f4 d five six seven four'
       (λ r lo n10 n11 n12 n17. set_there f3.regs 1 v r (omega arith) ∙ set_there f2.regs 10 (plus ten 4294967295) r n10 ∙ set_there e.regs 17 (get_or e.stack j 0) r n17 ∙ others r lo n10 n11 n12 n17) in
       record {
         to' = M.to';
@@ -314,14 +314,14 @@ module _ (l : Program) (a : Assignment) (cells stack : ℕ) (lay : Layout) (item
           does_on lay.code (bases stack) L (does_on lay.code (bases stack) S A)
 
       code_is : List Instr
-      code_is = get_code (heap_end l a cells stack) (place_of a x)
+      code_is = get_code (heap_end l cells) (place_of a x)
 
-      parts : Cut items p (plain (get_code (heap_end l a cells stack) (place_of a x))) b.emits.0 block
-      parts = cut items p (plain (get_code (heap_end l a cells stack) (place_of a x))) b.emits.0 block b.emits.1 b.stands
+      parts : Cut items p (plain (get_code (heap_end l cells) (place_of a x))) b.emits.0 block
+      parts = cut items p (plain (get_code (heap_end l cells) (place_of a x))) b.emits.0 block b.emits.1 b.stands
 
-      call : Called' items p (Load Lw 1 2 (pos 0) ∷ Store Sw 0 2 (pos 0) ∷ (aside ++ four 0 63)) (Load Lw 17 2 (pos 0) ∷ Store Sw 1 2 (pos 0) ∷ OpImm Addi 10 10 (negsuc 0) ∷ Op op.Add 1 10 17 ∷ (back (heap_end l a cells stack) ++ move_to (place_of a x) (Reg 1)))
-      call = called_parts items p (Load Lw 1 2 (pos 0) ∷ Store Sw 0 2 (pos 0) ∷ (aside ++ four 0 63)) (Load Lw 17 2 (pos 0) ∷ Store Sw 1 2 (pos 0) ∷ OpImm Addi 10 10 (negsuc 0) ∷ Op op.Add 1 10 17 ∷ (back (heap_end l a cells stack) ++ move_to (place_of a x) (Reg 1))) (get_code (heap_end l a cells stack) (place_of a x)) refl
-          (cut items p (plain (get_code (heap_end l a cells stack) (place_of a x))) b.emits.0 block b.emits.1 b.stands).first
+      call : Called' items p (Load Lw 1 2 (pos 0) ∷ Store Sw 0 2 (pos 0) ∷ (aside ++ four 0 63)) (Load Lw 17 2 (pos 0) ∷ Store Sw 1 2 (pos 0) ∷ OpImm Addi 10 10 (negsuc 0) ∷ Op op.Add 1 10 17 ∷ (back (heap_end l cells) ++ move_to (place_of a x) (Reg 1)))
+      call = called_parts items p (Load Lw 1 2 (pos 0) ∷ Store Sw 0 2 (pos 0) ∷ (aside ++ four 0 63)) (Load Lw 17 2 (pos 0) ∷ Store Sw 1 2 (pos 0) ∷ OpImm Addi 10 10 (negsuc 0) ∷ Op op.Add 1 10 17 ∷ (back (heap_end l cells) ++ move_to (place_of a x) (Reg 1))) (get_code (heap_end l cells) (place_of a x)) refl
+          (cut items p (plain (get_code (heap_end l cells) (place_of a x))) b.emits.0 block b.emits.1 b.stands).first
 
       count_is : (before after whole : List Instr) → before ++ (Ecall ∷ after) ≡ whole → suc (p + length (plain before)) + length (plain after) ≡ p + length (plain whole)
       count_is before after whole e = counted (ap (λ x. length (plain x)) (sym e) ∙ ap length (plain_append before (Ecall ∷ after)) ∙ length-append (plain before) (Plain Ecall ∷ plain after))
@@ -332,20 +332,20 @@ module _ (l : Program) (a : Assignment) (cells stack : ℕ) (lay : Layout) (item
       -- from the call's answer on
       answered : (i : List ℕ) (byte ten v : ℕ) (e : Data) → w.input ≡ i → IsBytes (byte_taken i w).input → v ≡ next_byte i → v < 2 ^ 32
           → Goes lay items 1 i (at (bases stack) lay items (p + length (plain (Load Lw 1 2 (pos 0) ∷ Store Sw 0 2 (pos 0) ∷ (aside ++ four 0 63)))) (at_call 0 63 (with_stack (with_reg d 1 (get_or d.stack j 0)) (set_at d.stack j 0)))) (m ∷ outer) [] [] (drop 1 i) (at (bases stack) lay items (suc (p + length (plain (Load Lw 1 2 (pos 0) ∷ Store Sw 0 2 (pos 0) ∷ (aside ++ four 0 63))))) e) (m ∷ outer)
-          → Finished x v d e (Load Lw 17 2 (pos 0) ∷ Store Sw 1 2 (pos 0) ∷ OpImm Addi 10 10 (negsuc 0) ∷ Op op.Add 1 10 17 ∷ (back (heap_end l a cells stack) ++ move_to (place_of a x) (Reg 1))) → Good lay.code (bases stack) e
+          → Finished x v d e (Load Lw 17 2 (pos 0) ∷ Store Sw 1 2 (pos 0) ∷ OpImm Addi 10 10 (negsuc 0) ∷ Op op.Add 1 10 17 ∷ (back (heap_end l cells) ++ move_to (place_of a x) (Reg 1))) → Good lay.code (bases stack) e
           → (byte_taken i w).cells ≡ w.cells → (byte_taken i w).left ≡ w.left
           → Does' lay items begins (Given l a cells stack lay items f j pf.slots d0 m outer to way Must) (at (bases stack) lay items p d) (m ∷ outer) w (code l (words_at a) (room l a cells stack lay items begins) calls_n (with_var x (number (next_byte i)) env) top under c (byte_taken i w))
       answered i byte ten v e is bytes value_is' small step z good cells_same left_same =
           let h = b.stood.world in
           let before = Load Lw 1 2 (pos 0) ∷ Store Sw 0 2 (pos 0) ∷ (aside ++ four 0 63) in
-          let after = Load Lw 17 2 (pos 0) ∷ Store Sw 1 2 (pos 0) ∷ OpImm Addi 10 10 (negsuc 0) ∷ Op op.Add 1 10 17 ∷ (back (heap_end l a cells stack) ++ move_to (place_of a x) (Reg 1)) in
+          let after = Load Lw 17 2 (pos 0) ∷ Store Sw 1 2 (pos 0) ∷ OpImm Addi 10 10 (negsuc 0) ∷ Op op.Add 1 10 17 ∷ (back (heap_end l cells) ++ move_to (place_of a x) (Reg 1)) in
           let pe = p + length (plain before) in
           let w' = byte_taken i w in
           let env' = with_var x (number (next_byte i)) env in
           let ran1 = plain_ran l a cells stack lay items begins before p d (at_call 0 63 (with_stack (with_reg d 1 (get_or d.stack j 0)) (set_at d.stack j 0))) (m ∷ outer) w h.good ready_to_call call.first in
           let ran2 = took lay items begins i w is step in
           let ran3 = plain_ran l a cells stack lay items begins after (suc pe) e z.to' (m ∷ outer) w' good z.does call.second in
-          let end_is = count_is before after (get_code (heap_end l a cells stack) (place_of a x)) refl in
+          let end_is = count_is before after (get_code (heap_end l cells) (place_of a x)) refl in
           let ran = ran_on lay items begins ran1 (ran_on lay items begins ran2 (subst (λ y. Ran lay items begins (at (bases stack) lay items (suc pe) e) (m ∷ outer) w' (at (bases stack) lay items y z.to') (m ∷ outer) w') end_is ran3)) in
           let count = ap length cells_same in
           let world : HoldsWorld l a cells stack lay z.to' w' = record {
@@ -368,10 +368,10 @@ module _ (l : Program) (a : Assignment) (cells stack : ℕ) (lay : Layout) (item
           } in
           let stood = stood_bound l a cells stack lay f j pf.slots (slots_of (place_of a) (variables q)) d0 (lay.address m) (get x c) c (x ∷ []) (number (next_byte i) ∷ []) scope later env (with_var x (number (next_byte i)) env) Must d z.to' w w' pf.enough b.stood world ch refl b.fine.0 (λ y z. z) b.scoped b.must b.owned in
           does_after lay items begins (Given l a cells stack lay items f j pf.slots d0 m outer to way Must) (code l (words_at a) (room l a cells stack lay items begins) calls_n (with_var x (number (next_byte i)) env) top under c w') ran
-          (more (number (next_byte i)) w' b.emits.0 (p + length (plain (get_code (heap_end l a cells stack) (place_of a x)))) z.to' (record {
+          (more (number (next_byte i)) w' b.emits.0 (p + length (plain (get_code (heap_end l cells) (place_of a x)))) z.to' (record {
             emits = b.emits.2;
             stands = parts.more;
-            ready = ready_at l a cells stack lay items begins way (p + length block) (p + length (plain (get_code (heap_end l a cells stack) (place_of a x))) + length b.emits.0) parts.end b.ready;
+            ready = ready_at l a cells stack lay items begins way (p + length block) (p + length (plain (get_code (heap_end l cells) (place_of a x))) + length b.emits.0) parts.end b.ready;
             above = b.above;
             fine = b.fine.1;
             scoped = still_scoped (x ∷ []) (number (next_byte i) ∷ []) scope env (with_var x (number (next_byte i)) env) refl b.scoped;

@@ -22,7 +22,7 @@ use Rattle.rv32_select.proofs.OperandsRead.{read}
 use Rattle.rv32_select.proofs.Gathering.{AllReadable, gathered, between_are, no_numbers}
 use Rattle.rv32_select.proofs.SavedRegisters.{save_keeps_register, save_keeps_slot, restore_keeps_slot, restore_keeps_register, saved_word, restored, index_inside, saves_ok, restores_ok}
 use Rattle.rv32_select.proofs.Relation.{bases, regs_of, word_of, AllHold}
-use Rattle.rv32_select.proofs.PlaceFacts.{NotAmong, Different, IsOwn, AllOwn, AllFree}
+use Rattle.rv32_select.proofs.PlaceFacts.{NotAmong, AllApart, IsOwn, AllOwn, AllFree}
 use Rattle.rv32_select.proofs.BlockFacts.{own_place, own_places}
 use Rattle.rv32_select.proofs.BlockEnds.{EachIs, all_hold}
 use Rattle.seq.specs.Lists.{is_among}
@@ -107,7 +107,7 @@ module _ (l : Program) (a : Assignment) (lay : Layout) (stack f j slots saved : 
     pub keeps : Kept lay.code (bases stack) j slots d to
 
   pub restored_all : (g count : ℕ) (xs : List ℕ) (steps : List Move) (vs : List Word) (d : Data) → Good lay.code (bases stack) d → InFrame lay.code (bases stack) j slots d → Ascending rs → IsOrder steps (moves_between (map (place_of a) xs) (result_spots 10 count)) → AllFree l a g (result_spots 10 count)
-      → AllOwn l a f saved (map (place_of a) xs) → Different (map (place_of a) xs) → ((r : ℕ) → is_among r rs ≡ true → NotAmong (Reg r) (map (place_of a) xs)) → AllHold l.width (result_spots 10 count) vs (regs_of d) → length vs ≡ count → Restored xs steps vs d
+      → AllOwn l a f saved (map (place_of a) xs) → AllApart (map (place_of a) xs) → ((r : ℕ) → is_among r rs ≡ true → NotAmong (Reg r) (map (place_of a) xs)) → AllHold l.width (result_spots 10 count) vs (regs_of d) → length vs ≡ count → Restored xs steps vs d
   restored_all g count xs steps vs d good fr ascending order free own df apart hold many =
       let to_places = map (place_of a) xs in
       let from = result_spots 10 count in

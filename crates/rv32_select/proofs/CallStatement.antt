@@ -147,15 +147,15 @@ module _ (l : Program) (a : Assignment) (cells stack : ℕ) (lay : Layout) (item
     in_range r among = let y = b.fine.1.1.0.is_live r among in let o = subst (λ x. IsOwn l a f (slots_of (place_of a) (variables q)) x) y.1.1 (b.owned y.0 y.1.0.0) in (o.0, o.1.0)
 
     abbrev first_code : List Instr
-    first_code = moves_code (save_moves (slots_of (place_of a) (variables q)) (saves_at a site)) ++ (moves_code b.emits.0 ++ number_moves (argument_spots 0 (map (place_of a) fit.called.params)) (sources l a cells stack os))
+    first_code = moves_code (save_moves (slots_of (place_of a) (variables q)) (saves_at a site)) ++ (moves_code b.emits.0 ++ number_moves (argument_spots 0 (map (place_of a) fit.called.params)) (sources l a os))
 
     abbrev second_code : List Instr
     second_code = moves_code b.emits.1 ++ moves_code (restore_moves (slots_of (place_of a) (variables q)) (saves_at a site))
 
     block_is : block ≡ (plain first_code ++ Jump 1 g ∷ plain second_code) ++ b.emits.4.0
     block_is =
-        let args_are : argument_spots_of l a cells stack g ≡ argument_spots 0 (map (place_of a) fit.called.params) = ap (params_of l a cells stack) fit.is_called in
-        subst (λ x. block ≡ (plain (moves_code (save_moves (slots_of (place_of a) (variables q)) (saves_at a site)) ++ (moves_code b.emits.0 ++ number_moves x (sources l a cells stack os))) ++ Jump 1 g ∷ plain second_code) ++ b.emits.4.0) args_are b.emits.4.1
+        let args_are : argument_spots_of l a g ≡ argument_spots 0 (map (place_of a) fit.called.params) = ap (params_of a) fit.is_called in
+        subst (λ x. block ≡ (plain (moves_code (save_moves (slots_of (place_of a) (variables q)) (saves_at a site)) ++ (moves_code b.emits.0 ++ number_moves x (sources l a os))) ++ Jump 1 g ∷ plain second_code) ++ b.emits.4.0) args_are b.emits.4.1
 
     parts : Cut items p (plain first_code ++ Jump 1 g ∷ plain second_code) b.emits.4.0 block
     parts = cut items p (plain first_code ++ Jump 1 g ∷ plain second_code) b.emits.4.0 block block_is b.stands
@@ -188,9 +188,9 @@ module _ (l : Program) (a : Assignment) (cells stack : ℕ) (lay : Layout) (item
         let c0 = call g site os xs c in
         let g_fine = s.fine g fit.called fit.is_called in
         let to_args = argument_spots 0 (map (place_of a) fit.called.params) in
-        let args_are : argument_spots_of l a cells stack g ≡ argument_spots 0 (map (place_of a) fit.called.params) = ap (params_of l a cells stack) fit.is_called in
-        let ss = sources l a cells stack os in
-        let order = subst (λ x. IsOrder b.emits.0 (spot_moves x (sources l a cells stack os))) args_are b.emits.2 in
+        let args_are : argument_spots_of l a g ≡ argument_spots 0 (map (place_of a) fit.called.params) = ap (params_of a) fit.is_called in
+        let ss = sources l a os in
+        let order = subst (λ x. IsOrder b.emits.0 (spot_moves x (sources l a os))) args_are b.emits.2 in
         let s1 = front items p (plain first_code) (Jump 1 g ∷ plain second_code) parts.first in
         let A = saved_all l a lay stack f j pf.slots (slots_of (place_of a) (variables q)) pf.enough (saves_at a site) in_range sv.room d b.stood.world.good b.stood.frame in
         let frame1 = in_frame lay.code (bases stack) j pf.slots b.stood.frame A.keeps in
@@ -247,7 +247,7 @@ module _ (l : Program) (a : Assignment) (cells stack : ℕ) (lay : Layout) (item
     ended rs env' e v x world sp left hold many bind more =
         let binds = b.fine.1.1.1.0 in
         let g_fine = s.fine g fit.called fit.is_called in
-        let results_are : result_spots_of l a cells stack g ≡ result_spots 10 fit.called.results = ap (λ o. result_spots 10 (results_of l a cells stack o)) fit.is_called in
+        let results_are : result_spots_of l g ≡ result_spots 10 fit.called.results = ap (λ o. result_spots 10 (results_of o)) fit.is_called in
         let order = subst (λ x. IsOrder b.emits.1 (moves_between (map (place_of a) xs) x)) results_are b.emits.3 in
         let frame1 : InFrame lay.code (bases stack) j pf.slots e = record { sp = sp ∙ b.stood.frame.sp; room = let r = b.stood.frame.room in let n1 = world.stack_words in let n2 = b.stood.world.stack_words in omega arith } in
         let R = restored_all l a lay stack f j pf.slots (slots_of (place_of a) (variables q)) pf.enough (saves_at a site) in_range sv.room g fit.called.results xs b.emits.1 rs e world.good frame1 sv.ascending order g_fine.results binds.1

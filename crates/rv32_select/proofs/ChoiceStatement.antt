@@ -75,7 +75,7 @@ module _ (l : Program) (a : Assignment) (cells stack : ℕ) (lay : Layout) (item
   -- where tests hold the machine is behind them, and else at the label
   TestsDone : (c0 : Code) (env : Env) (Must : ℕ → Word → Type 0) (next p t : ℕ) (ts : List LowTest) (d : Data) (w : World) → Bool → Type 0
   TestsDone c0 env Must next p t ts d w true =
-      (e : Data) × (Ran lay items begins (at (bases stack) lay items p d) (m ∷ outer) w (at (bases stack) lay items (p + length (tests_items l a cells stack next ts)) e) (m ∷ outer) w × Stood l a cells stack lay f j pf.slots d0 (lay.address m) (Needed c0 env Must) e w)
+      (e : Data) × (Ran lay items begins (at (bases stack) lay items p d) (m ∷ outer) w (at (bases stack) lay items (p + length (tests_items l a next ts)) e) (m ∷ outer) w × Stood l a cells stack lay f j pf.slots d0 (lay.address m) (Needed c0 env Must) e w)
   TestsDone c0 env Must next p t ts d w false =
       (e : Data) × (Ran lay items begins (at (bases stack) lay items p d) (m ∷ outer) w (at (bases stack) lay items t e) (m ∷ outer) w × Stood l a cells stack lay f j pf.slots d0 (lay.address m) (Needed c0 env Must) e w)
 
@@ -83,17 +83,17 @@ module _ (l : Program) (a : Assignment) (cells stack : ℕ) (lay : Layout) (item
   record OneTest (c0 : Code) (env : Env) (Must : ℕ → Word → Type 0) (next p t : ℕ) (x : LowTest) (d : Data) (w : World) (k : ℕ) : Type 0 where
     pub to' : Data
     pub stood : Stood l a cells stack lay f j pf.slots d0 (lay.address m) (Needed c0 env Must) to' w
-    pub same : nat_eq k x.right ≡ true → Ran lay items begins (at (bases stack) lay items p d) (m ∷ outer) w (at (bases stack) lay items (p + length (test_items next (source l a cells stack x.left) x.right)) to') (m ∷ outer) w
+    pub same : nat_eq k x.right ≡ true → Ran lay items begins (at (bases stack) lay items p d) (m ∷ outer) w (at (bases stack) lay items (p + length (test_items next (source l a x.left) x.right)) to') (m ∷ outer) w
     pub far : Data
     pub stood_far' : Stood l a cells stack lay f j pf.slots d0 (lay.address m) (Needed c0 env Must) far w
     pub other : nat_eq k x.right ≡ false → Ran lay items begins (at (bases stack) lay items p d) (m ∷ outer) w (at (bases stack) lay items t far) (m ∷ outer) w
 
-  one_test : (c0 : Code) (scope later : List ℕ) (env : Env) (Must : ℕ → Word → Type 0) (next p t : ℕ) (x : LowTest) (d : Data) (w : World) (k : ℕ) → Stands items p (test_items next (source l a cells stack x.left) x.right) → label_from 0 items next ≡ Some t
+  one_test : (c0 : Code) (scope later : List ℕ) (env : Env) (Must : ℕ → Word → Type 0) (next p t : ℕ) (x : LowTest) (d : Data) (w : World) (k : ℕ) → Stands items p (test_items next (source l a x.left) x.right) → label_from 0 items next ≡ Some t
       → Stood l a cells stack lay f j pf.slots d0 (lay.address m) (Needed c0 env Must) d w
       → ((y : ℕ) (v : Word) → env y ≡ Some v → is_among y scope ≡ true) → ((y : ℕ) → is_among y scope ≡ true → IsOwn l a f (slots_of (place_of a) (variables q)) (place_of a y)) → ((y : ℕ) (v : Word) → Must y v → (is_among y scope ≡ true) × (is_among y later ≡ true))
       → ((y : ℕ) → is_among y (used_by x.left) ≡ true → is_among y (uses c0) ≡ true) → TestsSmall (x ∷ []) → number_in l (words_at a) env x.left ≡ Some k → OneTest c0 env Must next p t x d w k
   one_test c0 scope later env Must next p t x d w k stands to_label st scoped owned must incl small e =
-      let src = source l a cells stack x.left in
+      let src = source l a x.left in
       let r = operand_read l a cells stack lay items begins s calls_n n f q pf j m outer d0 u c0 scope env Must d w x.left (number k) st scoped owned incl small.0.0 (number_there (operand l (words_at a) env x.left) k e) in
       let h = held_by lay.code (bases stack) j pf.slots 5 src d st.world.good st.frame (omega arith) (omega arith) r.0 in
       let e1 = with_reg (with_reg d 7 h.seven) 5 h.own in
@@ -116,7 +116,7 @@ module _ (l : Program) (a : Assignment) (cells stack : ℕ) (lay : Layout) (item
       let own = λ (y : ℕ) (v : Word) (z : Needed c0 env Must y v). owned_of y v z in
       let st2 = stood_same l a cells stack lay f j pf.slots (slots_of (place_of a) (variables q)) d0 (lay.address m) (Needed c0 env Must) (Needed c0 env Must) d e2 w w pf.enough st world k2.frame k2.words (λ y. refl) seen (λ y v z. (z, owned_of y v z)) in
       let compare : nat_eq (value e2.regs (held 5 src)) (value e2.regs (held 6 (Number x.right))) ≡ nat_eq k x.right = λ i. nat_eq (left_is i) (h'.value_is' i) in
-      let behind : suc pb ≡ p + length (test_items next (source l a cells stack x.left) x.right) = let y = length-append (plain is) (branch ∷ []) in omega arith in
+      let behind : suc pb ≡ p + length (test_items next (source l a x.left) x.right) = let y = length-append (plain is) (branch ∷ []) in omega arith in
       record {
         to' = e2;
         stood = st2;
@@ -134,7 +134,7 @@ module _ (l : Program) (a : Assignment) (cells stack : ℕ) (lay : Layout) (item
       owned_of y v (inl h) = owned y (scoped y v h.1)
       owned_of y v (inr h) = owned y (must y v h).0
 
-  tests_done : (c0 : Code) (scope later : List ℕ) (env : Env) (Must : ℕ → Word → Type 0) (next t : ℕ) (ts : List LowTest) (p : ℕ) (d : Data) (w : World) → Stands items p (tests_items l a cells stack next ts) → label_from 0 items next ≡ Some t
+  tests_done : (c0 : Code) (scope later : List ℕ) (env : Env) (Must : ℕ → Word → Type 0) (next t : ℕ) (ts : List LowTest) (p : ℕ) (d : Data) (w : World) → Stands items p (tests_items l a next ts) → label_from 0 items next ≡ Some t
       → Stood l a cells stack lay f j pf.slots d0 (lay.address m) (Needed c0 env Must) d w
       → ((y : ℕ) (v : Word) → env y ≡ Some v → is_among y scope ≡ true) → ((y : ℕ) → is_among y scope ≡ true → IsOwn l a f (slots_of (place_of a) (variables q)) (place_of a y)) → ((y : ℕ) (v : Word) → Must y v → (is_among y scope ≡ true) × (is_among y later ≡ true))
       → ((y : ℕ) → is_among y (used_by_tests ts) ≡ true → is_among y (uses c0) ≡ true) → TestsSmall ts → (b : Bool) → holds l (words_at a) env ts ≡ Some b → TestsDone c0 env Must next p t ts d w b
@@ -148,7 +148,7 @@ module _ (l : Program) (a : Assignment) (cells stack : ℕ) (lay : Layout) (item
       by_number (λ d' p' st' stands' e'. tests_done c0 scope later env Must next t ts p' d' w stands' to_label st' scoped owned must (λ y h. incl y (among_right y (used_by x.left) (used_by_tests ts) h)) small.1 b e')
       (number_in l (words_at a) env x.left) refl e
     where
-      by_same : ((d' : Data) (p' : ℕ) → Stood l a cells stack lay f j pf.slots d0 (lay.address m) (Needed c0 env Must) d' w → Stands items p' (tests_items l a cells stack next ts) → holds l (words_at a) env ts ≡ Some b → TestsDone c0 env Must next p' t ts d' w b)
+      by_same : ((d' : Data) (p' : ℕ) → Stood l a cells stack lay f j pf.slots d0 (lay.address m) (Needed c0 env Must) d' w → Stands items p' (tests_items l a next ts) → holds l (words_at a) env ts ≡ Some b → TestsDone c0 env Must next p' t ts d' w b)
           → (k : ℕ) → OneTest c0 env Must next p t x d w k → (z : Bool) → nat_eq k x.right ≡ z → elim z [ true ↦ holds l (words_at a) env ts | false ↦ Some false ] ≡ Some b → TestsDone c0 env Must next p t (x ∷ ts) d w b
       by_same more k T false z e' = last b e'
         where
@@ -156,23 +156,23 @@ module _ (l : Program) (a : Assignment) (cells stack : ℕ) (lay : Layout) (item
           last false e = (T.far, (T.other z, T.stood_far'))
           last true e = absurd (cc)
       by_same more k T true z e' =
-          let first = test_items next (source l a cells stack x.left) x.right in
-          let rest = tests_items l a cells stack next ts in
-          joined b (more T.to' (p + length (test_items next (source l a cells stack x.left) x.right)) T.stood (back items p (test_items next (source l a cells stack x.left) x.right) (tests_items l a cells stack next ts) stands) e')
+          let first = test_items next (source l a x.left) x.right in
+          let rest = tests_items l a next ts in
+          joined b (more T.to' (p + length (test_items next (source l a x.left) x.right)) T.stood (back items p (test_items next (source l a x.left) x.right) (tests_items l a next ts) stands) e')
         where
-          joined : (b : Bool) → TestsDone c0 env Must next (p + length (test_items next (source l a cells stack x.left) x.right)) t ts T.to' w b → TestsDone c0 env Must next p t (x ∷ ts) d w b
+          joined : (b : Bool) → TestsDone c0 env Must next (p + length (test_items next (source l a x.left) x.right)) t ts T.to' w b → TestsDone c0 env Must next p t (x ∷ ts) d w b
           joined false h = (h.0, (ran_on lay items begins (T.same z) h.1.0, h.1.1))
           joined true h =
-              let first = test_items next (source l a cells stack x.left) x.right in
-              let rest = tests_items l a cells stack next ts in
+              let first = test_items next (source l a x.left) x.right in
+              let rest = tests_items l a next ts in
               let end : p + length first + length rest ≡ p + length (first ++ rest) = let y = length-append first rest in omega arith in
               (h.0, (subst (λ y. Ran lay items begins (at (bases stack) lay items p d) (m ∷ outer) w (at (bases stack) lay items y h.0) (m ∷ outer) w) end (ran_on lay items begins (T.same z) h.1.0), h.1.1))
 
-      by_number : ((d' : Data) (p' : ℕ) → Stood l a cells stack lay f j pf.slots d0 (lay.address m) (Needed c0 env Must) d' w → Stands items p' (tests_items l a cells stack next ts) → holds l (words_at a) env ts ≡ Some b → TestsDone c0 env Must next p' t ts d' w b)
+      by_number : ((d' : Data) (p' : ℕ) → Stood l a cells stack lay f j pf.slots d0 (lay.address m) (Needed c0 env Must) d' w → Stands items p' (tests_items l a next ts) → holds l (words_at a) env ts ≡ Some b → TestsDone c0 env Must next p' t ts d' w b)
           → (r : Option ℕ) → number_in l (words_at a) env x.left ≡ r → and_then r (λ k. elim (nat_eq k x.right) [ true ↦ holds l (words_at a) env ts | false ↦ Some false ]) ≡ Some b → TestsDone c0 env Must next p t (x ∷ ts) d w b
       by_number more None e1 e2 = absurd (cc)
       by_number more (Some k) e1 e2 =
-          let T = one_test c0 scope later env Must next p t x d w k (front items p (test_items next (source l a cells stack x.left) x.right) (tests_items l a cells stack next ts) stands) to_label st scoped owned must (λ y h. incl y (among_left y (used_by x.left) (used_by_tests ts) h)) (small.0, tt) e1 in
+          let T = one_test c0 scope later env Must next p t x d w k (front items p (test_items next (source l a x.left) x.right) (tests_items l a next ts) stands) to_label st scoped owned must (λ y h. incl y (among_left y (used_by x.left) (used_by_tests ts) h)) (small.0, tt) e1 in
           by_same more k T (nat_eq k x.right) refl e2
 
   -- ---- arms
@@ -195,21 +195,21 @@ module _ (l : Program) (a : Assignment) (cells stack : ℕ) (lay : Layout) (item
   module _ (ts : List LowTest) (c : Code) (as' : Arms) (to : List Spot) (way : Way) (Must : ℕ → Word → Type 0) (k k' : ℕ) (block : List Item) (p : ℕ) (scope later : List ℕ) (env : Env) (top : ℕ) (under : Option ℕ) (d : Data) (w : World)
       (b : ArmsBlock (arm ts c as') to way Must k k' block p scope later env top under d w) where
     tests : List Item
-    tests = tests_items l a cells stack k ts
+    tests = tests_items l a k ts
 
-    parts : Cut items p (tests_items l a cells stack k ts ++ (b.emits.1 ++ Label k ∷ [])) b.emits.3.0 block
-    parts = cut items p (tests_items l a cells stack k ts ++ (b.emits.1 ++ Label k ∷ [])) b.emits.3.0 block b.emits.3.1 b.stands
+    parts : Cut items p (tests_items l a k ts ++ (b.emits.1 ++ Label k ∷ [])) b.emits.3.0 block
+    parts = cut items p (tests_items l a k ts ++ (b.emits.1 ++ Label k ∷ [])) b.emits.3.0 block b.emits.3.1 b.stands
 
-    behind_tests : Stands items (p + length (tests_items l a cells stack k ts)) (b.emits.1 ++ Label k ∷ [])
-    behind_tests = back items p (tests_items l a cells stack k ts) (b.emits.1 ++ Label k ∷ []) parts.first
+    behind_tests : Stands items (p + length (tests_items l a k ts)) (b.emits.1 ++ Label k ∷ [])
+    behind_tests = back items p (tests_items l a k ts) (b.emits.1 ++ Label k ∷ []) parts.first
 
-    label_here : slice_get items (p + length (tests_items l a cells stack k ts) + length b.emits.1) ≡ Some (Label k)
-    label_here = (back items (p + length (tests_items l a cells stack k ts)) b.emits.1 (Label k ∷ []) behind_tests).0
+    label_here : slice_get items (p + length (tests_items l a k ts) + length b.emits.1) ≡ Some (Label k)
+    label_here = (back items (p + length (tests_items l a k ts)) b.emits.1 (Label k ∷ []) behind_tests).0
 
-    pub arm_simulated : ((d' : Data) → Block l a cells stack lay items begins f q pf.slots j m outer d0 u n c to (further way) Must (suc k) b.emits.0 b.emits.1 (p + length (tests_items l a cells stack k ts)) scope later env top under d' w
-        → Simulates l a cells stack lay items begins f q pf.slots j m outer d0 u n calls_n c to (further way) Must (p + length (tests_items l a cells stack k ts)) env top under d' w)
-        → ((d' : Data) → ArmsBlock as' to way Must b.emits.0 k' b.emits.3.0 (p + length (tests_items l a cells stack k ts ++ (b.emits.1 ++ Label k ∷ []))) scope later env top under d' w
-        → ArmsSimulates as' to way Must (p + length (tests_items l a cells stack k ts ++ (b.emits.1 ++ Label k ∷ []))) env top under d' w)
+    pub arm_simulated : ((d' : Data) → Block l a cells stack lay items begins f q pf.slots j m outer d0 u n c to (further way) Must (suc k) b.emits.0 b.emits.1 (p + length (tests_items l a k ts)) scope later env top under d' w
+        → Simulates l a cells stack lay items begins f q pf.slots j m outer d0 u n calls_n c to (further way) Must (p + length (tests_items l a k ts)) env top under d' w)
+        → ((d' : Data) → ArmsBlock as' to way Must b.emits.0 k' b.emits.3.0 (p + length (tests_items l a k ts ++ (b.emits.1 ++ Label k ∷ []))) scope later env top under d' w
+        → ArmsSimulates as' to way Must (p + length (tests_items l a k ts ++ (b.emits.1 ++ Label k ∷ []))) env top under d' w)
         → ArmsSimulates (arm ts c as') to way Must p env top under d w
     unfolding arms TestsDone
     arm_simulated block_done more = by_holds (holds l (words_at a) env ts) refl
@@ -222,13 +222,13 @@ module _ (l : Program) (a : Assignment) (cells stack : ℕ) (lay : Layout) (item
 
         taken : holds l (words_at a) env ts ≡ Some true → Does' lay items begins (Given l a cells stack lay items f j pf.slots d0 m outer to way Must) (at (bases stack) lay items p d) (m ∷ outer) w (code l (words_at a) (room l a cells stack lay items begins) calls_n env top under c w)
         taken e =
-            let T = tests_done (choose (arm ts c as')) scope later env Must k (p + length (tests_items l a cells stack k ts) + length b.emits.1) ts p d w (front items p (tests_items l a cells stack k ts) (b.emits.1 ++ Label k ∷ []) parts.first)
-            (s.once (p + length (tests_items l a cells stack k ts) + length b.emits.1) k label_here) b.stood b.scoped b.owned b.must (λ y h. among_left y (used_by_tests ts) (uses c ++ arms_uses as') h) b.fine.0 true e in
+            let T = tests_done (choose (arm ts c as')) scope later env Must k (p + length (tests_items l a k ts) + length b.emits.1) ts p d w (front items p (tests_items l a k ts) (b.emits.1 ++ Label k ∷ []) parts.first)
+            (s.once (p + length (tests_items l a k ts) + length b.emits.1) k label_here) b.stood b.scoped b.owned b.must (λ y h. among_left y (used_by_tests ts) (uses c ++ arms_uses as') h) b.fine.0 true e in
             let weaker = λ (y : ℕ) (v : Word) (h : Needed c env Must y v). weaken_code y v h in
             let done = block_done T.0 (record {
               emits = b.emits.2;
-              stands = front items (p + length (tests_items l a cells stack k ts)) b.emits.1 (Label k ∷ []) behind_tests;
-              ready = further_ready way (p + length block) (p + length (tests_items l a cells stack k ts) + length b.emits.1) b.ready;
+              stands = front items (p + length (tests_items l a k ts)) b.emits.1 (Label k ∷ []) behind_tests;
+              ready = further_ready way (p + length block) (p + length (tests_items l a k ts) + length b.emits.1) b.ready;
               above = let le = b.above in omega arith;
               fine = b.fine.1.0;
               scoped = b.scoped;
@@ -244,7 +244,7 @@ module _ (l : Program) (a : Assignment) (cells stack : ℕ) (lay : Layout) (item
               under_is = λ v z. let is = b.under_is v z in (is.0, ap further is.1);
             }) in
             does_after lay items begins (Given l a cells stack lay items f j pf.slots d0 m outer to way Must) (code l (words_at a) (room l a cells stack lay items begins) calls_n env top under c w) T.1.0
-            (does_map lay items begins (Given l a cells stack lay items f j pf.slots d0 m outer to (further way) Must) (Given l a cells stack lay items f j pf.slots d0 m outer to way Must) (at (bases stack) lay items (p + length (tests_items l a cells stack k ts)) T.0) (m ∷ outer) w
+            (does_map lay items begins (Given l a cells stack lay items f j pf.slots d0 m outer to (further way) Must) (Given l a cells stack lay items f j pf.slots d0 m outer to way Must) (at (bases stack) lay items (p + length (tests_items l a k ts)) T.0) (m ∷ outer) w
             (code l (words_at a) (room l a cells stack lay items begins) calls_n env top under c w) (further_given to way Must) done)
           where
             weaken_code : (y : ℕ) (v : Word) → Needed c env Must y v → Needed (choose (arm ts c as')) env Must y v
@@ -253,17 +253,17 @@ module _ (l : Program) (a : Assignment) (cells stack : ℕ) (lay : Layout) (item
 
         passed : holds l (words_at a) env ts ≡ Some false → Does' lay items begins (Given l a cells stack lay items f j pf.slots d0 m outer to way Must) (at (bases stack) lay items p d) (m ∷ outer) w (arms l (words_at a) (room l a cells stack lay items begins) calls_n env top under as' w)
         passed e =
-            let place = p + length (tests_items l a cells stack k ts) + length b.emits.1 in
-            let T = tests_done (choose (arm ts c as')) scope later env Must k (p + length (tests_items l a cells stack k ts) + length b.emits.1) ts p d w (front items p (tests_items l a cells stack k ts) (b.emits.1 ++ Label k ∷ []) parts.first)
-            (s.once (p + length (tests_items l a cells stack k ts) + length b.emits.1) k label_here) b.stood b.scoped b.owned b.must (λ y h. among_left y (used_by_tests ts) (uses c ++ arms_uses as') h) b.fine.0 false e in
+            let place = p + length (tests_items l a k ts) + length b.emits.1 in
+            let T = tests_done (choose (arm ts c as')) scope later env Must k (p + length (tests_items l a k ts) + length b.emits.1) ts p d w (front items p (tests_items l a k ts) (b.emits.1 ++ Label k ∷ []) parts.first)
+            (s.once (p + length (tests_items l a k ts) + length b.emits.1) k label_here) b.stood b.scoped b.owned b.must (λ y h. among_left y (used_by_tests ts) (uses c ++ arms_uses as') h) b.fine.0 false e in
             let pass = passes_label l a cells stack lay items begins s k place T.0 (m ∷ outer) w (let le = b.above in omega arith) label_here in
-            let behind : suc place ≡ p + length (tests_items l a cells stack k ts ++ (b.emits.1 ++ Label k ∷ [])) = let y = length-append (tests_items l a cells stack k ts) (b.emits.1 ++ Label k ∷ []) in let z = length-append b.emits.1 (Label k ∷ []) in omega arith in
+            let behind : suc place ≡ p + length (tests_items l a k ts ++ (b.emits.1 ++ Label k ∷ [])) = let y = length-append (tests_items l a k ts) (b.emits.1 ++ Label k ∷ []) in let z = length-append b.emits.1 (Label k ∷ []) in omega arith in
             let ran = ran_on lay items begins T.1.0 (subst (λ y. Ran lay items begins (at (bases stack) lay items place T.0) (m ∷ outer) w (at (bases stack) lay items y T.0) (m ∷ outer) w) behind pass) in
             does_after lay items begins (Given l a cells stack lay items f j pf.slots d0 m outer to way Must) (arms l (words_at a) (room l a cells stack lay items begins) calls_n env top under as' w) ran
             (more T.0 (record {
               emits = b.emits.3.2;
               stands = parts.more;
-              ready = ready_at l a cells stack lay items begins way (p + length block) (p + length (tests_items l a cells stack k ts ++ (b.emits.1 ++ Label k ∷ [])) + length b.emits.3.0) parts.end b.ready;
+              ready = ready_at l a cells stack lay items begins way (p + length block) (p + length (tests_items l a k ts ++ (b.emits.1 ++ Label k ∷ [])) + length b.emits.3.0) parts.end b.ready;
               above = let le = b.above in let up = emits_up l a cells stack (words_at a f) (slots_of (place_of a) (variables q)) c to (further way) (suc k) b.emits.0 b.emits.1 b.emits.2 in omega arith;
               fine = b.fine.1.1;
               scoped = b.scoped;

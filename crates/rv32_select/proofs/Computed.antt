@@ -24,10 +24,6 @@ use Rattle.rv32_select.proofs.Arithmetic.{operation_done, immediate_done, arithm
 use Rattle.rv32_machine.proofs.Registers.{set_there, set_here}
 
 module _ (c : Stretch) (b : Bases) (j slots : ℕ) where
-  -- the data behind the code of an operand
-  abbrev after_hold : (r : ℕ) (s : Source) (d : Data) → Held c b j slots r s d → Data
-  after_hold r s d h = with_reg (with_reg d 7 h.seven) r h.own
-
   pub hold_kept : (r : ℕ) (s : Source) (d : Data) (h : Held c b j slots r s d) → 5 ≤ r → Kept c b j slots d (with_reg (with_reg d 7 h.seven) r h.own)
   hold_kept r s d h lo = kept_on c b j slots (kept_reg c b j slots d 7 h.seven (omega arith)) (kept_reg c b j slots (with_reg d 7 h.seven) r h.own lo)
 

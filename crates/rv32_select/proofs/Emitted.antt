@@ -86,63 +86,63 @@ module _ (l : Program) (a : Assignment) (cells stack words saved : ℕ) (stmt : 
   done : (f : Code → Code) → before_of stmt ≡ f → Before l a cells stack words saved f old n new n → Done
   done f e h = rw e h
 
-  pub set_done : (x : ℕ) (b : Operand) (p : Spot) (s : Source) → stmt ≡ Set x b → p ≡ place_of a x → (s ≡ source l a cells stack b) × IsSource s → new ≡ old ++ plain (set_code p s) → Done
+  pub set_done : (x : ℕ) (b : Operand) (p : Spot) (s : Source) → stmt ≡ Set x b → p ≡ place_of a x → (s ≡ source l a b) × IsSource s → new ≡ old ++ plain (set_code p s) → Done
   set_done x b p s e at from is = done (set x b) (ap before_of e ∙ before_of-Set x b) (record {
-    items = plain (set_code (place_of a x) (source l a cells stack b));
+    items = plain (set_code (place_of a x) (source l a b));
     is = is ∙ (λ i. old ++ plain (set_code (at i) (from.0 i)));
     placed = λ c h. h.2;
     emits = λ to way c k rest h. (rest, refl, h);
   })
 
-  pub prim_done : (f : PrimOp) (x : ℕ) (b d : Operand) (p : Spot) (s t : Source) → stmt ≡ Prim f x b d → p ≡ place_of a x → (s ≡ source l a cells stack b) × IsSource s → (t ≡ source l a cells stack d) × IsSource t → new ≡ old ++ plain (prim_code f p s t) → Done
+  pub prim_done : (f : PrimOp) (x : ℕ) (b d : Operand) (p : Spot) (s t : Source) → stmt ≡ Prim f x b d → p ≡ place_of a x → (s ≡ source l a b) × IsSource s → (t ≡ source l a d) × IsSource t → new ≡ old ++ plain (prim_code f p s t) → Done
   prim_done f x b d p s t e at from and is = done (prim f x b d) (ap before_of e ∙ before_of-Prim f x b d) (record {
-    items = plain (prim_code f (place_of a x) (source l a cells stack b) (source l a cells stack d));
+    items = plain (prim_code f (place_of a x) (source l a b) (source l a d));
     is = is ∙ (λ i. old ++ plain (prim_code f (at i) (from.0 i) (and.0 i)));
     placed = λ c h. h.3;
     emits = λ to way c k rest h. (rest, refl, h);
   })
 
-  pub load_done : (x : ℕ) (b : Operand) (k : ℕ) (p : Spot) (s : Source) → stmt ≡ Load x b k → p ≡ place_of a x → (s ≡ source l a cells stack b) × IsSource s → new ≡ old ++ plain (load_code p s k) → Done
+  pub load_done : (x : ℕ) (b : Operand) (k : ℕ) (p : Spot) (s : Source) → stmt ≡ Load x b k → p ≡ place_of a x → (s ≡ source l a b) × IsSource s → new ≡ old ++ plain (load_code p s k) → Done
   load_done x b k p s e at from is = done (load x b k) (ap before_of e ∙ before_of-Load x b k) (record {
-    items = plain (load_code (place_of a x) (source l a cells stack b) k);
+    items = plain (load_code (place_of a x) (source l a b) k);
     is = is ∙ (λ i. old ++ plain (load_code (at i) (from.0 i) k));
     placed = λ c h. h.2;
     emits = λ to way c k rest h. (rest, refl, h);
   })
 
-  pub save_done : (b : Operand) (k : ℕ) (d : Operand) (s t : Source) → stmt ≡ Save b k d → (s ≡ source l a cells stack b) × IsSource s → (t ≡ source l a cells stack d) × IsSource t → new ≡ old ++ plain (save_code s k t) → Done
+  pub save_done : (b : Operand) (k : ℕ) (d : Operand) (s t : Source) → stmt ≡ Save b k d → (s ≡ source l a b) × IsSource s → (t ≡ source l a d) × IsSource t → new ≡ old ++ plain (save_code s k t) → Done
   save_done b k d s t e from and is = done (save b k d) (ap before_of e ∙ before_of-Save b k d) (record {
-    items = plain (save_code (source l a cells stack b) k (source l a cells stack d));
+    items = plain (save_code (source l a b) k (source l a d));
     is = is ∙ (λ i. old ++ plain (save_code (from.0 i) k (and.0 i)));
     placed = λ c h. h.2;
     emits = λ to way c k rest h. (rest, refl, h);
   })
 
-  pub take_done : (xs : List ℕ) → stmt ≡ Take xs → new ≡ old ++ take_items (4 * l.width) (heap_full l a cells stack) (map (place_of a) xs) → Done
+  pub take_done : (xs : List ℕ) → stmt ≡ Take xs → new ≡ old ++ take_items (4 * l.width) (heap_full l) (map (place_of a) xs) → Done
   take_done xs e is = done (take xs) (ap before_of e ∙ before_of-Take xs) (record {
-    items = take_items (4 * l.width) (heap_full l a cells stack) (places l a cells stack xs);
+    items = take_items (4 * l.width) (heap_full l) (places a xs);
     is = is;
     placed = λ c h. h.2;
     emits = λ to way c k rest h. (rest, refl, h);
   })
 
-  pub put_done : (b : Operand) (s : Source) (end : ℕ) → stmt ≡ Put b → (s ≡ source l a cells stack b) × IsSource s → end ≡ heap_end l a cells stack → new ≡ old ++ plain (put_code end s) → Done
+  pub put_done : (b : Operand) (s : Source) (end : ℕ) → stmt ≡ Put b → (s ≡ source l a b) × IsSource s → end ≡ heap_end l cells → new ≡ old ++ plain (put_code end s) → Done
   put_done b s end e from at is = done (put b) (ap before_of e ∙ before_of-Put b) (record {
-    items = plain (put_code (heap_end l a cells stack) (source l a cells stack b));
+    items = plain (put_code (heap_end l cells) (source l a b));
     is = is ∙ (λ i. old ++ plain (put_code (at i) (from.0 i)));
     placed = λ c h. h.1;
     emits = λ to way c k rest h. (rest, refl, h);
   })
 
-  pub get_done : (x : ℕ) (p : Spot) (end : ℕ) → stmt ≡ Get x → p ≡ place_of a x → end ≡ heap_end l a cells stack → new ≡ old ++ plain (get_code end p) → Done
+  pub get_done : (x : ℕ) (p : Spot) (end : ℕ) → stmt ≡ Get x → p ≡ place_of a x → end ≡ heap_end l cells → new ≡ old ++ plain (get_code end p) → Done
   get_done x p end e at ends is = done (get x) (ap before_of e ∙ before_of-Get x) (record {
-    items = plain (get_code (heap_end l a cells stack) (place_of a x));
+    items = plain (get_code (heap_end l cells) (place_of a x));
     is = is ∙ (λ i. old ++ plain (get_code (ends i) (at i)));
     placed = λ c h. h.1;
     emits = λ to way c k rest h. (rest, refl, h);
   })
 
-  pub call_done : (f site : ℕ) (as' : List Operand) (xs : List ℕ) → stmt ≡ Call f site as' xs → Called l a cells stack words saved f site as' xs old new → Done
+  pub call_done : (f site : ℕ) (as' : List Operand) (xs : List ℕ) → stmt ≡ Call f site as' xs → Called l a saved f site as' xs old new → Done
   call_done f site as' xs e c = done (call f site as' xs) (ap before_of e ∙ before_of-Call f site as' xs) (record {
     items = _;
     is = c.is;
@@ -160,7 +160,7 @@ join_done l a cells stack words saved stmt old new n m xs items b block (Err t) 
 pub join_made : (l : Program) (a : Assignment) (cells stack words saved : ℕ) (c : Code) (xs : List ℕ) (old mid new : List Item) (n label k m : ℕ) (to : List Spot) → to ≡ map (place_of a) xs → label ≡ n → k ≡ suc n
     → Emitted l a cells stack words saved to (Follows label) c old k mid m → new ≡ mid ++ Label label ∷ [] → Before l a cells stack words saved (join xs c) old n new m
 join_made l a cells stack words saved c xs old mid new n label k m to at is next e then' =
-    let block : Emits l a cells stack words saved (places l a cells stack xs) (Follows n) c (suc n) m e.items = rw (sym next, sym is, sym at) e.emits in
+    let block : Emits l a cells stack words saved (places a xs) (Follows n) c (suc n) m e.items = rw (sym next, sym is, sym at) e.emits in
     record {
       items = e.items ++ Label n ∷ [];
       is = then' ∙ ap (λ x. mid ++ Label x ∷ []) is ∙ ap (λ x. x ++ Label n ∷ []) e.is ∙ append_assoc old e.items (Label n ∷ []);
@@ -204,24 +204,24 @@ result_targets n made spots few e is = subst AreTargets (sym (e ∙ is)) (record
 pub result_spots_are : (low : Low) (a : Assignment) (procs : List LowProc) (f : ℕ) (q : LowProc) (spots : List Spot) → Writable (program_of low) a → f < length low.procs → procs ≡ low.procs → q ≡ get_or procs f q → spots ≡ result_spots 10 q.results → AreSpots spots
 result_spots_are low a procs f q spots w lt e is s = rw s (results_are 10 q.results (let few = few_results low a procs f q w lt e is in omega (arith, few)))
 
-pub results_taken : (low : Low) (a : Assignment) (cells stack : ℕ) (procs : List LowProc) (f : ℕ) (q : LowProc) (xs : List ℕ) (to from : List Spot) (old new : List Item) → f < length low.procs → procs ≡ low.procs → q ≡ get_or procs f q
+pub results_taken : (low : Low) (a : Assignment) (procs : List LowProc) (f : ℕ) (q : LowProc) (xs : List ℕ) (to from : List Spot) (old new : List Item) → f < length low.procs → procs ≡ low.procs → q ≡ get_or procs f q
     → (to ≡ map (place_of a) xs) × AreSpots to → from ≡ result_spots 10 q.results → Moved (moves_between to from) old new
-    → Moved (moves_between (map (place_of a) xs) (result_spots_of (program_of low) a cells stack f)) old new
-results_taken low a cells stack procs f q xs to from old new lt e is t r m =
-    let all : from ≡ result_spots_of (program_of low) a cells stack f = r ∙ ap (λ p. result_spots 10 (results_of (program_of low) a cells stack p)) (sym (result_at low procs f q lt e is)) in
+    → Moved (moves_between (map (place_of a) xs) (result_spots_of (program_of low) f)) old new
+results_taken low a procs f q xs to from old new lt e is t r m =
+    let all : from ≡ result_spots_of (program_of low) f = r ∙ ap (λ p. result_spots 10 (results_of p)) (sym (result_at low procs f q lt e is)) in
     rw (sym t.0, sym all) m
 
-pub called_by : (l : Program) (a : Assignment) (cells stack words saved f site : ℕ) (as' : List Operand) (xs : List ℕ) (registers : List ℕ) (old c1 c2 c3 c4 new : List Item) → registers ≡ saves_at a site → c1 ≡ old ++ plain (moves_code (save_moves saved registers))
-    → Sent (argument_spots_of l a cells stack f) (sources l a cells stack as') c1 c2 → c3 ≡ c2 ++ Jump 1 f ∷ [] → Moved (moves_between (map (place_of a) xs) (result_spots_of l a cells stack f)) c3 c4 → new ≡ c4 ++ plain (moves_code (restore_moves saved registers))
-    → Called l a cells stack words saved f site as' xs old new
-called_by l a cells stack words saved f site as' xs registers old c1 c2 c3 c4 new e one sent jump moved two =
+pub called_by : (l : Program) (a : Assignment) (saved f site : ℕ) (as' : List Operand) (xs : List ℕ) (registers : List ℕ) (old c1 c2 c3 c4 new : List Item) → registers ≡ saves_at a site → c1 ≡ old ++ plain (moves_code (save_moves saved registers))
+    → Sent (argument_spots_of l a f) (sources l a as') c1 c2 → c3 ≡ c2 ++ Jump 1 f ∷ [] → Moved (moves_between (map (place_of a) xs) (result_spots_of l f)) c3 c4 → new ≡ c4 ++ plain (moves_code (restore_moves saved registers))
+    → Called l a saved f site as' xs old new
+called_by l a saved f site as' xs registers old c1 c2 c3 c4 new e one sent jump moved two =
     let saves = plain (moves_code (save_moves saved (saves_at a site))) in
-    let words = plain (moves_code sent.steps ++ number_moves (argument_spots_of l a cells stack f) (sources l a cells stack as')) in
+    let words = plain (moves_code sent.steps ++ number_moves (argument_spots_of l a f) (sources l a as')) in
     let results = plain (moves_code moved.steps) in
     let restores = plain (moves_code (restore_moves saved (saves_at a site))) in
     let first : c3 ≡ ((old ++ saves) ++ words) ++ Jump 1 f ∷ [] = jump ∙ ap (λ x. x ++ Jump 1 f ∷ []) (sent.is ∙ ap (λ x. x ++ words) (one ∙ ap (λ rs. old ++ plain (moves_code (save_moves saved rs))) e)) in
     let whole : new ≡ ((((old ++ saves) ++ words) ++ Jump 1 f ∷ []) ++ results) ++ restores = two ∙ ap (λ rs. c4 ++ plain (moves_code (restore_moves saved rs))) e ∙ ap (λ x. x ++ restores) (moved.is ∙ ap (λ x. x ++ results) first) in
-    let left : plain (moves_code (save_moves saved (saves_at a site)) ++ (moves_code sent.steps ++ number_moves (argument_spots_of l a cells stack f) (sources l a cells stack as'))) ≡ saves ++ words = plain_append _ _ in
+    let left : plain (moves_code (save_moves saved (saves_at a site)) ++ (moves_code sent.steps ++ number_moves (argument_spots_of l a f) (sources l a as'))) ≡ saves ++ words = plain_append _ _ in
     let right : plain (moves_code moved.steps ++ moves_code (restore_moves saved (saves_at a site))) ≡ results ++ restores = plain_append _ _ in
     let shape : ((((old ++ saves) ++ words) ++ Jump 1 f ∷ []) ++ results) ++ restores ≡ old ++ ((saves ++ words) ++ Jump 1 f ∷ (results ++ restores)) = grind (arith, common_steps) in
     record {
@@ -237,13 +237,13 @@ called_by l a cells stack words saved f site as' xs registers old c1 c2 c3 c4 ne
 pub arm_placed : (l : Program) (a : Assignment) (t : LowArm) → ArmPlaced l a (arm_of t) → TestsPlaced l a t.tests × Placed l a (code_of t.block)
 arm_placed l a t h = subst (ArmPlaced l a) (arm_of-parts t) h
 
-pub arm_made : (l : Program) (a : Assignment) (cells stack words saved : ℕ) (to : List Spot) (way way' : Way) (t : LowArm) (old c1 mid new : List Item) (n label k m : ℕ) → label ≡ n → k ≡ suc n → way' ≡ further way → c1 ≡ old ++ tests_items l a cells stack label t.tests
+pub arm_made : (l : Program) (a : Assignment) (cells stack words saved : ℕ) (to : List Spot) (way way' : Way) (t : LowArm) (old c1 mid new : List Item) (n label k m : ℕ) → label ≡ n → k ≡ suc n → way' ≡ further way → c1 ≡ old ++ tests_items l a label t.tests
     → Emitted l a cells stack words saved to way' (code_of t.block) c1 k mid m → new ≡ mid ++ Label label ∷ []
     → ArmsBefore l a cells stack words saved to way (one_arm (arm_of t)) old n new m
 arm_made l a cells stack words saved to way way' t old c1 mid new n label k m is next w tested e then' =
     let block : Emits l a cells stack words saved to (further way) (code_of t.block) (suc n) m e.items = rw (sym w, sym next) e.emits in
-    let tests = tests_items l a cells stack n t.tests in
-    let all : new ≡ ((old ++ tests) ++ e.items) ++ Label n ∷ [] = then' ∙ (λ i. mid ++ Label (is i) ∷ []) ∙ ap (λ x. x ++ Label n ∷ []) (e.is ∙ ap (λ x. x ++ e.items) (tested ∙ ap (λ x. old ++ tests_items l a cells stack x t.tests) is)) in
+    let tests = tests_items l a n t.tests in
+    let all : new ≡ ((old ++ tests) ++ e.items) ++ Label n ∷ [] = then' ∙ (λ i. mid ++ Label (is i) ∷ []) ∙ ap (λ x. x ++ Label n ∷ []) (e.is ∙ ap (λ x. x ++ e.items) (tested ∙ ap (λ x. old ++ tests_items l a x t.tests) is)) in
     let shape : ((old ++ tests) ++ e.items) ++ Label n ∷ [] ≡ old ++ (tests ++ (e.items ++ Label n ∷ [])) = grind (arith, common_steps) in
     subst (λ p. ArmsBefore l a cells stack words saved to way (one_arm p) old n new m) (sym (arm_of-parts t)) (record {
       items = tests ++ (e.items ++ Label n ∷ []);
@@ -349,9 +349,9 @@ module _ (l : Program) (a : Assignment) (cells stack words saved : ℕ) where
 
   -- ---- ends
 
-  pub give_made : (e : LowEnd) (as' : List Operand) (to : List Spot) (way : Way) (old mid new : List Item) (n : ℕ) → e ≡ Give as' → Sent to (sources l a cells stack as') old mid → new ≡ mid ++ way_out words way → Emitted l a cells stack words saved to way (end_of e) old n new n
+  pub give_made : (e : LowEnd) (as' : List Operand) (to : List Spot) (way : Way) (old mid new : List Item) (n : ℕ) → e ≡ Give as' → Sent to (sources l a as') old mid → new ≡ mid ++ way_out words way → Emitted l a cells stack words saved to way (end_of e) old n new n
   give_made e as' to way old mid new n is s out =
-      let piece = plain (moves_code s.steps ++ number_moves to (sources l a cells stack as')) in
+      let piece = plain (moves_code s.steps ++ number_moves to (sources l a as')) in
       rw (ap end_of is ∙ end_of-Give as') (record {
         items = piece ++ way_out words way;
         is = out ∙ ap (λ x. x ++ way_out words way) s.is ∙ append_assoc old piece (way_out words way);
@@ -364,7 +364,7 @@ module _ (l : Program) (a : Assignment) (cells stack words saved : ℕ) where
   pub give_placed : (e : LowEnd) (as' : List Operand) → e ≡ Give as' → Placed l a (end_of e) → OperandsPlaced l a as'
   give_placed e as' is h = subst (Placed l a) (ap end_of is ∙ end_of-Give as') h
 
-  pub tail_made : (e : LowEnd) (f site : ℕ) (as' : List Operand) (to : List Spot) (way : Way) (old new : List Item) (n : ℕ) → e ≡ Tail f site as' → TailCalled l a cells stack words f as' old new → Emitted l a cells stack words saved to way (end_of e) old n new n
+  pub tail_made : (e : LowEnd) (f site : ℕ) (as' : List Operand) (to : List Spot) (way : Way) (old new : List Item) (n : ℕ) → e ≡ Tail f site as' → TailCalled l a words f as' old new → Emitted l a cells stack words saved to way (end_of e) old n new n
   tail_made e f site as' to way old new n is t = rw (ap end_of is ∙ end_of-Tail f site as') (record { items = _; is = t.is; emits = (refl, t.steps, t.order, refl) })
 
   pub choose_placed : (e : LowEnd) (arms : List LowArm) (b : Box LowBlock Global) → e ≡ Choose arms b → Placed l a (end_of e) → ArmsPlaced l a (arms_before (map arm_of arms) (code_of b.value))
@@ -374,8 +374,8 @@ module _ (l : Program) (a : Assignment) (cells stack words saved : ℕ) where
       → Emitted l a cells stack words saved to way (end_of e) old n new m
   choose_made e arms b to way old new n m is t = rw (ap end_of is ∙ end_of-Choose arms b) (record { items = t.items; is = t.is; emits = t.emits })
 
-  pub fail_made : (e : LowEnd) (to : List Spot) (way : Way) (old new : List Item) (n : ℕ) → e ≡ Fail → new ≡ old ++ Jump 0 (no_alternative l a cells stack) ∷ [] → Emitted l a cells stack words saved to way (end_of e) old n new n
-  fail_made e to way old new n is put' = rw (ap end_of is ∙ end_of-Fail) (record { items = Jump 0 (no_alternative l a cells stack) ∷ []; is = put'; emits = (refl, refl) })
+  pub fail_made : (e : LowEnd) (to : List Spot) (way : Way) (old new : List Item) (n : ℕ) → e ≡ Fail → new ≡ old ++ Jump 0 (no_alternative l) ∷ [] → Emitted l a cells stack words saved to way (end_of e) old n new n
+  fail_made e to way old new n is put' = rw (ap end_of is ∙ end_of-Fail) (record { items = Jump 0 (no_alternative l) ∷ []; is = put'; emits = (refl, refl) })
 
 pub chosen_placed : (l : Program) (a : Assignment) (e : LowEnd) (arms items : List LowArm) (b : Box LowBlock Global) (block : LowBlock) → e ≡ Choose arms b → items ≡ arms → block ≡ b.value → Placed l a (end_of e) → ArmsPlaced l a (arms_before (map arm_of items) (code_of block))
 chosen_placed l a e arms items b block is are same h =

@@ -23,7 +23,7 @@ module _ (l : Program) (a : Assignment) (cells stack words saved : ℕ) where
     emits_up (get x c) to way n m items h = emits_up c to way n m h.0 h.2
     emits_up (call f site os xs c) to way n m items h = emits_up c to way n m h.4.0 h.4.2
     emits_up (join xs b c) to way n m items h =
-        let first = emits_up b (places l a cells stack xs) (Follows n) (suc n) h.0 h.1 h.2 in
+        let first = emits_up b (places a xs) (Follows n) (suc n) h.0 h.1 h.2 in
         let second = emits_up c to way h.0 m h.3.0 h.3.2 in
         omega arith
     emits_up (give os) to way n m items h = let e = h.0 in omega arith

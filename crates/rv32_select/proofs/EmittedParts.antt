@@ -56,30 +56,30 @@ module _ (l : Program) (a : Assignment) (cells stack : ℕ) where
     abbrev ArmsBlock : (way : Way) → Arms → (n m : ℕ) → List Item → Type 0
     ArmsBlock way as' n m items = Part procs (Outer way) n m (arms_most as') (ArmsFewTests as') items
 
-    sources_length : (os : List Operand) → length (sources l a cells stack os) ≡ length os
-    sources_length os = length-map os (source l a cells stack)
+    sources_length : (os : List Operand) → length (sources l a os) ≡ length os
+    sources_length os = length-map os (source l a)
 
-    places_length : (xs : List ℕ) → length (places l a cells stack xs) ≡ length xs
+    places_length : (xs : List ℕ) → length (places a xs) ≡ length xs
     places_length xs = length-map xs (place_of a)
 
     call_part : (way : Way) (Few : Type 0) (f site : ℕ) (os : List Operand) (xs : List ℕ) (arguments results : List Move) (n : ℕ) → f < procs → length (saves_at a site) ≤ 24
-        → IsOrder arguments (spot_moves (argument_spots_of l a cells stack f) (sources l a cells stack os))
-        → IsOrder results (moves_between (places l a cells stack xs) (result_spots_of l a cells stack f))
-        → Part procs (Outer way) n n (147 + 6 * length os + 6 * length xs) Few (call_items l a cells stack words saved f os (saves_at a site) arguments results)
+        → IsOrder arguments (spot_moves (argument_spots_of l a f) (sources l a os))
+        → IsOrder results (moves_between (places a xs) (result_spots_of l f))
+        → Part procs (Outer way) n n (147 + 6 * length os + 6 * length xs) Few (call_items l a saved f os (saves_at a site) arguments results)
     call_part way Few f site os xs arguments results n lt few order results_order =
         let rs = saves_at a site in
-        let to = argument_spots_of l a cells stack f in
-        let from = sources l a cells stack os in
+        let to = argument_spots_of l a f in
+        let from = sources l a os in
         let e1 = sources_length os in
         let e2 = places_length xs in
         let before = moves_code (save_moves saved rs) ++ (moves_code arguments ++ number_moves to from) in
         let behind = moves_code results ++ moves_code (restore_moves saved rs) in
         let p = piece_append (3 * length rs) (6 * length from) (moves_code (save_moves saved rs)) (moves_code arguments ++ number_moves to from) (save_piece saved rs) (sent_code arguments to from order) in
-        let q = piece_append (6 * length (places l a cells stack xs)) (3 * length rs) (moves_code results) (moves_code (restore_moves saved rs)) (between_code results (places l a cells stack xs) (result_spots_of l a cells stack f) results_order) (restore_piece saved rs) in
-        part_more procs (Outer way) Few n n (3 * length rs + 6 * length from + (3 + (6 * length (places l a cells stack xs) + 3 * length rs))) (147 + 6 * length os + 6 * length xs) _ (omega (arith, few, e1, e2))
-        (part_append procs (Outer way) Few n n n (3 * length rs + 6 * length from) (3 + (6 * length (places l a cells stack xs) + 3 * length rs)) (plain before) (Jump 1 f ∷ plain behind)
+        let q = piece_append (6 * length (places a xs)) (3 * length rs) (moves_code results) (moves_code (restore_moves saved rs)) (between_code results (places a xs) (result_spots_of l f) results_order) (restore_piece saved rs) in
+        part_more procs (Outer way) Few n n (3 * length rs + 6 * length from + (3 + (6 * length (places a xs) + 3 * length rs))) (147 + 6 * length os + 6 * length xs) _ (omega (arith, few, e1, e2))
+        (part_append procs (Outer way) Few n n n (3 * length rs + 6 * length from) (3 + (6 * length (places a xs) + 3 * length rs)) (plain before) (Jump 1 f ∷ plain behind)
         (code_part procs (Outer way) Few n _ before p)
-        (part_append procs (Outer way) Few n n n 3 (6 * length (places l a cells stack xs) + 3 * length rs) (Jump 1 f ∷ []) (plain behind)
+        (part_append procs (Outer way) Few n n n 3 (6 * length (places a xs) + 3 * length rs) (Jump 1 f ∷ []) (plain behind)
         (jump_part procs (Outer way) Few n 1 f (inl (omega (arith, lt))) (λ e. lt))
         (code_part procs (Outer way) Few n _ behind q)))
 
@@ -94,19 +94,19 @@ module _ (l : Program) (a : Assignment) (cells stack : ℕ) where
     out_part (Jumps k) Few n =
         part_more procs (Outer (Jumps k)) Few n n 3 5 _ (omega arith) (jump_part procs (Outer (Jumps k)) Few n 0 k (inr refl) (λ e. absurd (cc)))
 
-    give_part : (to : List Spot) (way : Way) (Few : Type 0) (os : List Operand) (steps : List Move) (n : ℕ) → IsOrder steps (spot_moves to (sources l a cells stack os))
-        → Part procs (Outer way) n n (6 * length os + 5) Few (plain (moves_code steps ++ number_moves to (sources l a cells stack os)) ++ way_out words way)
+    give_part : (to : List Spot) (way : Way) (Few : Type 0) (os : List Operand) (steps : List Move) (n : ℕ) → IsOrder steps (spot_moves to (sources l a os))
+        → Part procs (Outer way) n n (6 * length os + 5) Few (plain (moves_code steps ++ number_moves to (sources l a os)) ++ way_out words way)
     give_part to way Few os steps n order =
-        let from = sources l a cells stack os in
+        let from = sources l a os in
         let e = sources_length os in
         let p = piece_more (6 * length from) (6 * length os) _ (omega (arith, e)) (sent_code steps to from order) in
         part_append procs (Outer way) Few n n n (6 * length os) 5 (plain (moves_code steps ++ number_moves to from)) (way_out words way) (code_part procs (Outer way) Few n _ _ p) (out_part way Few n)
 
-    tail_part : (way : Way) (Few : Type 0) (f : ℕ) (os : List Operand) (steps : List Move) (n : ℕ) → f < procs → IsOrder steps (spot_moves (argument_spots_of l a cells stack f) (sources l a cells stack os))
-        → Part procs (Outer way) n n (6 * length os + 7) Few (plain (moves_code steps ++ (number_moves (argument_spots_of l a cells stack f) (sources l a cells stack os) ++ leave_code words)) ++ Jump 0 f ∷ [])
+    tail_part : (way : Way) (Few : Type 0) (f : ℕ) (os : List Operand) (steps : List Move) (n : ℕ) → f < procs → IsOrder steps (spot_moves (argument_spots_of l a f) (sources l a os))
+        → Part procs (Outer way) n n (6 * length os + 7) Few (plain (moves_code steps ++ (number_moves (argument_spots_of l a f) (sources l a os) ++ leave_code words)) ++ Jump 0 f ∷ [])
     tail_part way Few f os steps n lt order =
-        let to = argument_spots_of l a cells stack f in
-        let from = sources l a cells stack os in
+        let to = argument_spots_of l a f in
+        let from = sources l a os in
         let e = sources_length os in
         let sent = sent_code steps to from order in
         let p = piece_append (6 * length from) 4 (moves_code steps ++ number_moves to from) (leave_code words) sent (leave_piece words) in
@@ -117,12 +117,12 @@ module _ (l : Program) (a : Assignment) (cells stack : ℕ) where
         (code_part procs (Outer way) Few n _ _ q)
         (jump_part procs (Outer way) Few n 0 f (inl (omega (arith, lt))) (λ e. absurd (cc))))
 
-    tests_part : (Few : Type 0) (n next : ℕ) (ts : List LowTest) → Part procs (λ k. next ≡ k) n n (8 * length ts) Few (tests_items l a cells stack next ts)
+    tests_part : (Few : Type 0) (n next : ℕ) (ts : List LowTest) → Part procs (λ k. next ≡ k) n n (8 * length ts) Few (tests_items l a next ts)
     tests_part Few n next [] = record { counts = λ k. omega arith; goes = tt; size = λ f. omega arith }
     tests_part Few n next (t ∷ ts) =
         part_more procs (λ k. next ≡ k) Few n n (8 + 8 * length ts) (8 * length (t ∷ ts)) _ (omega arith)
-        (part_append procs (λ k. next ≡ k) Few n n n 8 (8 * length ts) (test_items next (source l a cells stack t.left) t.right) (tests_items l a cells stack next ts)
-        (test_part procs (λ k. next ≡ k) Few n next (source l a cells stack t.left) t.right refl)
+        (part_append procs (λ k. next ≡ k) Few n n n 8 (8 * length ts) (test_items next (source l a t.left) t.right) (tests_items l a next ts)
+        (test_part procs (λ k. next ≡ k) Few n next (source l a t.left) t.right refl)
         (tests_part Few n next ts))
 
     -- a statement's code, and the block behind it
@@ -154,11 +154,11 @@ module _ (l : Program) (a : Assignment) (cells stack : ℕ) where
 
     -- an arm, and the arms behind it
     chosen : (way : Way) (ts : List LowTest) (c : Code) (as' : Arms) (n k m : ℕ) (block rest items : List Item) → 3 + procs ≤ n → Block (further way) c (suc n) k block → ArmsBlock way as' k m rest
-        → items ≡ (tests_items l a cells stack n ts ++ (block ++ Label n ∷ [])) ++ rest → ArmsBlock way (arm ts c as') n m items
+        → items ≡ (tests_items l a n ts ++ (block ++ Label n ∷ [])) ++ rest → ArmsBlock way (arm ts c as') n m items
     chosen way ts c as' n k m block rest items le p q e =
         let Few = ArmsFewTests (arm ts c as') in
         let le' : procs ≤ n = omega (arith, le) in
-        let tests = tests_items l a cells stack n ts in
+        let tests = tests_items l a n ts in
         let both = length-append (calls_in c) (arms_calls as') in
         let closed = closed_part procs (Outer way) (FewTests c) (Outer (further way)) n k (most c) block le' (λ j h. inr (same_way way j h)) p in
         let t = tests_part Few n n ts in
@@ -171,30 +171,30 @@ module _ (l : Program) (a : Assignment) (cells stack : ℕ) where
     mutual
       pub block_part : (c : Code) (to : List Spot) (way : Way) (n m : ℕ) (items : List Item) → 3 + procs ≤ n → Placed l a c → Emits l a cells stack words saved to way c n m items → Block way c n m items
       block_part (set x b c) to way n m items le p h =
-          coded way n m 6 (most c) (most (set x b c)) (FewTests c) _ h.0 items (omega arith) (set_piece (place_of a x) (source l a cells stack b)) h.1 (block_part c to way n m h.0 le p.2 h.2)
+          coded way n m 6 (most c) (most (set x b c)) (FewTests c) _ h.0 items (omega arith) (set_piece (place_of a x) (source l a b)) h.1 (block_part c to way n m h.0 le p.2 h.2)
       block_part (prim f x b d c) to way n m items le p h =
-          coded way n m 11 (most c) (most (prim f x b d c)) (FewTests c) _ h.0 items (omega arith) (prim_piece f (place_of a x) (source l a cells stack b) (source l a cells stack d)) h.1 (block_part c to way n m h.0 le p.3 h.2)
+          coded way n m 11 (most c) (most (prim f x b d c)) (FewTests c) _ h.0 items (omega arith) (prim_piece f (place_of a x) (source l a b) (source l a d)) h.1 (block_part c to way n m h.0 le p.3 h.2)
       block_part (load x b k c) to way n m items le p h =
-          coded way n m 7 (most c) (most (load x b k c)) (FewTests c) _ h.0 items (omega arith) (load_word_piece (place_of a x) (source l a cells stack b) k) h.1 (block_part c to way n m h.0 le p.2 h.2)
+          coded way n m 7 (most c) (most (load x b k c)) (FewTests c) _ h.0 items (omega arith) (load_word_piece (place_of a x) (source l a b) k) h.1 (block_part c to way n m h.0 le p.2 h.2)
       block_part (save b k d c) to way n m items le p h =
-          coded way n m 7 (most c) (most (save b k d c)) (FewTests c) _ h.0 items (omega arith) (save_word_piece (source l a cells stack b) k (source l a cells stack d)) h.1 (block_part c to way n m h.0 le p.2 h.2)
+          coded way n m 7 (most c) (most (save b k d c)) (FewTests c) _ h.0 items (omega arith) (save_word_piece (source l a b) k (source l a d)) h.1 (block_part c to way n m h.0 le p.2 h.2)
       block_part (take xs c) to way n m items le p h =
           let e = places_length xs in
-          part_then procs (Outer way) (FewTests c) n n m (7 + 6 * length (places l a cells stack xs)) (most c) (most (take xs c)) (take_items (step l a cells stack) (heap_full l a cells stack) (places l a cells stack xs)) h.0 items h.1 (omega (arith, e))
-          (take_part procs (Outer way) (FewTests c) n (step l a cells stack) (heap_full l a cells stack) (places l a cells stack xs) (inl (omega arith)))
+          part_then procs (Outer way) (FewTests c) n n m (7 + 6 * length (places a xs)) (most c) (most (take xs c)) (take_items (step l) (heap_full l) (places a xs)) h.0 items h.1 (omega (arith, e))
+          (take_part procs (Outer way) (FewTests c) n (step l) (heap_full l) (places a xs) (inl (omega arith)))
           (block_part c to way n m h.0 le p.2 h.2)
       block_part (put b c) to way n m items le p h =
-          coded way n m 21 (most c) (most (put b c)) (FewTests c) _ h.0 items (omega arith) (put_piece (heap_end l a cells stack) (source l a cells stack b)) h.1 (block_part c to way n m h.0 le p.1 h.2)
+          coded way n m 21 (most c) (most (put b c)) (FewTests c) _ h.0 items (omega arith) (put_piece (heap_end l cells) (source l a b)) h.1 (block_part c to way n m h.0 le p.1 h.2)
       block_part (get x c) to way n m items le p h =
-          coded way n m 27 (most c) (most (get x c)) (FewTests c) _ h.0 items (omega arith) (get_piece (heap_end l a cells stack) (place_of a x)) h.1 (block_part c to way n m h.0 le p.1 h.2)
+          coded way n m 27 (most c) (most (get x c)) (FewTests c) _ h.0 items (omega arith) (get_piece (heap_end l cells) (place_of a x)) h.1 (block_part c to way n m h.0 le p.1 h.2)
       block_part (call f site os xs c) to way n m items le p h =
           let called = p.0 in
-          part_then procs (Outer way) (FewTests c) n n m (147 + 6 * length os + 6 * length xs) (most c) (most (call f site os xs c)) (call_items l a cells stack words saved f os (saves_at a site) h.0 h.1) h.4.0 items h.4.1 (omega arith)
+          part_then procs (Outer way) (FewTests c) n n m (147 + 6 * length os + 6 * length xs) (most c) (most (call f site os xs c)) (call_items l a saved f os (saves_at a site) h.0 h.1) h.4.0 items h.4.1 (omega arith)
           (call_part way (FewTests c) f site os xs h.0 h.1 n called.0 called.3 h.2 h.3)
           (block_part c to way n m h.4.0 le p.1 h.4.2)
       block_part (join xs b c) to way n m items le p h =
-          let up = emits_up l a cells stack words saved b (places l a cells stack xs) (Follows n) (suc n) h.0 h.1 h.2 in
-          let first = block_part b (places l a cells stack xs) (Follows n) (suc n) h.0 h.1 (omega (arith, le)) p.1 h.2 in
+          let up = emits_up l a cells stack words saved b (places a xs) (Follows n) (suc n) h.0 h.1 h.2 in
+          let first = block_part b (places a xs) (Follows n) (suc n) h.0 h.1 (omega (arith, le)) p.1 h.2 in
           let rest = block_part c to way h.0 m h.3.0 (omega (arith, le, up)) p.2 h.3.2 in
           joined way xs b c n h.0 m h.1 h.3.0 items le first rest h.3.1
       block_part (give os) to way n m items le p h =
@@ -206,7 +206,7 @@ module _ (l : Program) (a : Assignment) (cells stack : ℕ) where
       block_part (choose as') to way n m items le p h =
           part_more procs (Outer way) (ArmsFewTests as') n m (arms_most as') (most (choose as')) items (omega arith) (arms_part as' to way n m items le p h)
       block_part fail to way n m items le p h =
-          ended way n m 3 (most fail) (FewTests fail) _ items h.0 h.1 (omega arith) (jump_part procs (Outer way) (FewTests fail) n 0 (no_alternative l a cells stack) (inl (omega arith)) (λ e. absurd (cc)))
+          ended way n m 3 (most fail) (FewTests fail) _ items h.0 h.1 (omega arith) (jump_part procs (Outer way) (FewTests fail) n 0 (no_alternative l) (inl (omega arith)) (λ e. absurd (cc)))
 
       pub arms_part : (as' : Arms) (to : List Spot) (way : Way) (n m : ℕ) (items : List Item) → 3 + procs ≤ n → ArmsPlaced l a as' → EmitsArms l a cells stack words saved to way as' n m items → ArmsBlock way as' n m items
       arms_part (otherwise c) to way n m items le p h = block_part c to way n m items le p h

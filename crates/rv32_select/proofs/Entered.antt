@@ -33,10 +33,10 @@ few_spots low a q xs made spots p is e h =
     omega (arith, size, p.few_params)
 
 pub procedure_made : (low : Low) (a : Assignment) (cells stack : ℕ) (procs : List LowProc) (f : ℕ) (q : LowProc) (words saved full base : ℕ) (params results : List Spot) (old mid new : List Item) (n m : ℕ) → f < length low.procs → procs ≡ low.procs → q ≡ get_or procs f q
-    → words ≡ words_at a f → saved ≡ slots_of (place_of a) (variables (procedure_of q)) → (params ≡ map (place_of a) q.params) × AreSpots params → full ≡ stack_full (program_of low) a cells stack → base ≡ stack_end - stack → mid ≡ old ++ entry_items f words base full params → results ≡ result_spots 10 q.results
+    → words ≡ words_at a f → saved ≡ slots_of (place_of a) (variables (procedure_of q)) → (params ≡ map (place_of a) q.params) × AreSpots params → full ≡ stack_full (program_of low) → base ≡ stack_end - stack → mid ≡ old ++ entry_items f words base full params → results ≡ result_spots 10 q.results
     → Emitted (program_of low) a cells stack words saved results Returns (code_of q.body) mid n new m → EmittedProcedure (program_of low) a cells stack f old n new m
 procedure_made low a cells stack procs f q words saved full base params results old mid new n m lt e is at first_saved given fulls bases comes rs b =
-    let entry = entry_items f (words_at a f) (stack_end - stack) (stack_full (program_of low) a cells stack) (map (place_of a) q.params) in
+    let entry = entry_items f (words_at a f) (stack_end - stack) (stack_full (program_of low)) (map (place_of a) q.params) in
     let first : mid ≡ old ++ entry = comes ∙ (λ i. old ++ entry_items f (at i) (bases i) (fulls i) (given.0 i)) in
     record {
       items = entry ++ b.items;
@@ -74,11 +74,11 @@ module _ (l : Program) (a : Assignment) (cells stack : ℕ) where
       dropped (p ∷ qs) zero q e = ap (λ x. x ∷ qs) (same_Some p q e)
       dropped (p ∷ qs) (suc f) q e = dropped qs f q e
 
-pub full_label : (low : Low) (a : Assignment) (cells stack n : ℕ) → n ≡ length low.procs → 2 + n ≡ stack_full (program_of low) a cells stack
-full_label low a cells stack n e = ap (λ k. 2 + k) (e ∙ sym (length-map low.procs procedure_of))
+pub full_label : (low : Low) (n : ℕ) → n ≡ length low.procs → 2 + n ≡ stack_full (program_of low)
+full_label low n e = ap (λ k. 2 + k) (e ∙ sym (length-map low.procs procedure_of))
 
-pub own_labels : (low : Low) (a : Assignment) (cells stack n : ℕ) → n ≡ length low.procs → 3 + n ≡ first_label (program_of low) a cells stack
-own_labels low a cells stack n e = ap (λ k. 3 + k) (e ∙ sym (length-map low.procs procedure_of))
+pub own_labels : (low : Low) (n : ℕ) → n ≡ length low.procs → 3 + n ≡ first_label (program_of low)
+own_labels low n e = ap (λ k. 3 + k) (e ∙ sym (length-map low.procs procedure_of))
 
 pub next_procedure : (low : Low) (a : Assignment) (cells stack f f' count : ℕ) (old mid new : List Item) (n k m : ℕ) → count ≡ length low.procs → f < count → f' ≡ f + 1 → Procedures (program_of low) a cells stack (program_of low).procs f old n mid k
     → EmittedProcedure (program_of low) a cells stack f mid k new m → Procedures (program_of low) a cells stack (program_of low).procs f' old n new m
@@ -89,14 +89,14 @@ next_procedure low a cells stack f f' count old mid new n k m size lt next t p =
 
 -- all items of a program
 pub whole_made : (low : Low) (a : Assignment) (cells stack count f n m : ℕ) (empty started called last new : List Item) → count ≡ length low.procs → count ≤ f → empty ≡ []
-    → started ≡ empty ++ start_items stack_end heap_base (heap_end (program_of low) a cells stack) (step (program_of low) a cells stack) (heap_full (program_of low) a cells stack) low.globals
-    → called ≡ started ++ first_call (program_of low) a cells stack → n ≡ first_label (program_of low) a cells stack → Procedures (program_of low) a cells stack (program_of low).procs f called n last m
-    → new ≡ last ++ stop_items (no_alternative (program_of low) a cells stack) → IsSelected (program_of low) a cells stack new
+    → started ≡ empty ++ start_items stack_end heap_base (heap_end (program_of low) cells) (step (program_of low)) (heap_full (program_of low)) low.globals
+    → called ≡ started ++ first_call (program_of low) a → n ≡ first_label (program_of low) → Procedures (program_of low) a cells stack (program_of low).procs f called n last m
+    → new ≡ last ++ stop_items (no_alternative (program_of low)) → IsSelected (program_of low) a cells stack new
 whole_made low a cells stack count f n m empty started called last new size over none starts calls next t stops =
     let l = program_of low in
-    let head = start_items stack_end heap_base (heap_end l a cells stack) (step l a cells stack) (heap_full l a cells stack) low.globals in
-    let first = first_call l a cells stack in
-    let tail = stop_items (no_alternative l a cells stack) in
+    let head = start_items stack_end heap_base (heap_end l cells) (step l) (heap_full l) low.globals in
+    let first = first_call l a in
+    let tail = stop_items (no_alternative l) in
     let past : drop f l.procs ≡ [] = drop_past l.procs f (let e = length-map low.procs procedure_of in omega (arith, size, over, e)) in
     let all : EmitsProcedures l a cells stack 0 l.procs n m (t.items ++ []) = t.emits m [] (subst (λ qs. EmitsProcedures l a cells stack f qs m m []) (sym past) (refl, refl)) in
     let whole : new ≡ ((head ++ first) ++ t.items) ++ tail = stops ∙ ap (λ x. x ++ tail) (t.is ∙ ap (λ x. x ++ t.items) (calls ∙ ap (λ x. x ++ first) (starts ∙ ap (λ x. x ++ head) none))) in

@@ -18,7 +18,7 @@ use Rattle.register_alloc.specs.Fits.{IsPlace, IsSlot, IsRegister, ClearOf, Apar
 use Rattle.rv32_select.specs.Emit.{argument_spot, argument_spots, result_spots}
 use Rattle.low_code.specs.Literals.{Small, ArmsSmall}
 use Rattle.rv32_select.proofs.Relation.{Keeps}
-use Rattle.rv32_select.proofs.PlaceFacts.{NotAmong, Different, Free, IsOwn, AllOwn, AllFree, SavesFit, CallFits, Binds, Fine, ArmsFine, ProcedureFine}
+use Rattle.rv32_select.proofs.PlaceFacts.{NotAmong, AllApart, Free, IsOwn, AllOwn, AllFree, SavesFit, CallFits, Binds, Fine, ArmsFine, ProcedureFine}
 use Rattle.rv32_select.proofs.BlockFacts.{or_true}
 use Rattle.rv32_select.proofs.Among.{variables_within}
 use Rattle.register_alloc.proofs.AllFit.{distinct_left, distinct_right}
@@ -127,7 +127,7 @@ up_differ i j (suc n) lt = (other i j lt, up_differ i (suc j) n (omega arith))
     other : (i j : ℕ) → i < j → Reg i ≢ Reg j
     other i j lt e = let same : i ≡ j = cc in absurd (omega arith)
 
-results_apart : (r n : ℕ) → Different (result_spots r n)
+results_apart : (r n : ℕ) → AllApart (result_spots r n)
 results_apart r zero = tt
 results_apart r (suc n) = (up_differ r (suc r) n (omega arith), results_apart (suc r) n)
 
@@ -162,7 +162,7 @@ clear_differ : (place : ℕ → Spot) (x : ℕ) (ys : List ℕ) → ClearOf plac
 clear_differ place x [] h = tt
 clear_differ place x (y ∷ ys) h = ((λ e. h.0 (sym e)), clear_differ place x ys h.1)
 
-apart_differ : (place : ℕ → Spot) (scope xs : List ℕ) (c : Code) (later : List ℕ) → Apart place scope xs c later → Different (map place xs)
+apart_differ : (place : ℕ → Spot) (scope xs : List ℕ) (c : Code) (later : List ℕ) → Apart place scope xs c later → AllApart (map place xs)
 apart_differ place scope [] c later h = tt
 apart_differ place scope (x ∷ xs) c later h = (clear_differ place x xs h.1.0, apart_differ place scope xs c later h.1.1)
 
@@ -391,7 +391,7 @@ module _ (l : Program) (a : Assignment) (fits : Fits l a) (formed : Formed l) (n
 
   record Given (ss : List Spot) : Type 0 where
     pub own : AllFree l a f ss
-    pub differ : Different ss
+    pub differ : AllApart ss
 
   arguments_given : length q.params ≤ 16 → AllSlots l a ⊎ ParametersInRegisters l a → Given (argument_spots 0 (map (place_of a) q.params))
   arguments_given few (inl all) =

@@ -48,13 +48,6 @@ module _ (procs : ℕ) where
 
   -- ---- items and others behind them
 
-  inside_append : (xs ys : List Item) → Inside xs → Inside ys → Inside (xs ++ ys)
-  inside_append [] ys h k = k
-  inside_append (Label j ∷ xs) ys h k = (h.0, inside_append xs ys h.1 k)
-  inside_append (Plain i ∷ xs) ys h k = inside_append xs ys h k
-  inside_append (Branch c a b j ∷ xs) ys h k = inside_append xs ys h k
-  inside_append (Jump r j ∷ xs) ys h k = inside_append xs ys h k
-
   ahead_on : (l : ℕ) (xs ys : List Item) → Ahead l xs → Ahead l (xs ++ ys)
   ahead_on l [] ys h = absurd h
   ahead_on l (Label j ∷ xs) ys h = (h.0, elim h.1 [ inl e ↦ inl e | inr k ↦ inr (ahead_on l xs ys k) ])

@@ -16,7 +16,7 @@ use Rattle.rv32_select.specs.IsSelected.{IsOrder, moves_between}
 use Rattle.rv32_select.proofs.Straight.{Data, Good, Does, does_nothing, does_on}
 use Rattle.rv32_select.proofs.FrameViews.{spots, InFrame, Ok, Kept, kept, kept_on, in_frame, AllOk, moves_made}
 use Rattle.rv32_select.proofs.OperandsRead.{read, Readable, IsPlace, sets_number}
-use Rattle.rv32_select.proofs.PlaceFacts.{NotAmong, Different}
+use Rattle.rv32_select.proofs.PlaceFacts.{NotAmong, AllApart}
 use Rattle.parallel_move.proofs.Origins.{differ, same_itself}
 
 -- s goes to t
@@ -37,7 +37,7 @@ origin_later : (t u : Spot) (s : Source) (ms : List Move) → t ≢ u → origin
 origin_later t u (At p) ms ne = ap (λ x. cond x p (origin ms t)) (differ t u ne)
 origin_later t u (Number n) ms ne = refl
 
-pub origin_pair : (t p : Spot) (to : List Spot) (ss : List Source) → Different to → IsPair t (At p) to ss → origin (spot_moves to ss) t ≡ p
+pub origin_pair : (t p : Spot) (to : List Spot) (ss : List Source) → AllApart to → IsPair t (At p) to ss → origin (spot_moves to ss) t ≡ p
 origin_pair t p [] ss d h = absurd h
 origin_pair t p (u ∷ to) [] d h = absurd h
 origin_pair t p (u ∷ to) (x ∷ ss) d h = elim h [
@@ -122,7 +122,7 @@ module _ (c : Stretch) (b : Bases) (j slots : ℕ) where
   no_number : (p : Spot) (n : ℕ) → At p ≡ Number n → ⊥
   no_number p n e = cc
 
-  numbered : (to : List Spot) (ss : List Source) (d : Data) → Good c b d → InFrame c b j slots d → AllPlaces to → AllReadable ss → Different to → Numbered to ss d
+  numbered : (to : List Spot) (ss : List Source) (d : Data) → Good c b d → InFrame c b j slots d → AllPlaces to → AllReadable ss → AllApart to → Numbered to ss d
   numbered [] ss d g f h k df = record { data' = d; does = does_nothing c b d g; numbers = λ t n p. absurd p; moved' = λ t p o q. absurd q; others = λ s o n. refl; keeps = kept c b j slots d }
   numbered (t ∷ to) [] d g f h k df = record { data' = d; does = does_nothing c b d g; numbers = λ t n p. absurd p; moved' = λ t p o q. absurd q; others = λ s o n. refl; keeps = kept c b j slots d }
   numbered (t ∷ to) (At p ∷ ss) d g f h k df =
@@ -168,7 +168,7 @@ module _ (c : Stretch) (b : Bases) (j slots : ℕ) where
     pub others : (s : Spot) → IsPlace c b j slots s → NotAmong s to → spots c b j slots data' s ≡ spots c b j slots d s
     pub keeps : Kept c b j slots d data'
 
-  pub gathered : (steps : List Move) (to : List Spot) (ss : List Source) (d : Data) → IsOrder steps (spot_moves to ss) → Good c b d → InFrame c b j slots d → AllPlaces to → AllReadable ss → Different to → Gathered (moves_code steps ++ number_moves to ss) to ss d
+  pub gathered : (steps : List Move) (to : List Spot) (ss : List Source) (d : Data) → IsOrder steps (spot_moves to ss) → Good c b d → InFrame c b j slots d → AllPlaces to → AllReadable ss → AllApart to → Gathered (moves_code steps ++ number_moves to ss) to ss d
   gathered steps to ss d order g f places readable df =
       let u = spots c b j slots d in
       let m = moves_made c b j slots steps d g f (all_ok steps (order.among.stays is_ok refl (ends_ok to ss places readable))) in

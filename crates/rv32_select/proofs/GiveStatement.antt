@@ -119,7 +119,7 @@ module _ (l : Program) (a : Assignment) (cells stack : ℕ) (lay : Layout) (item
       go : (r : Option (List Word)) → operands l (words_at a) env os ≡ r → Does' lay items begins (Given l a cells stack lay items f j pf.slots d0 m outer to way Must) (at (bases stack) lay items p d) (m ∷ outer) w (need r w (λ vs. gives vs w))
       go None e = tt
       go (Some vs) e =
-          let ss = sources l a cells stack os in
+          let ss = sources l a os in
           let steps = b.emits.1 in
           let is = moves_code steps ++ number_moves to ss in
           let parts = cut items p (plain is) (way_out (words_at a f) way) block b.emits.3 b.stands in

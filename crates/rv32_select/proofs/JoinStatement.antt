@@ -113,7 +113,7 @@ module _ (l : Program) (a : Assignment) (cells stack : ℕ) (lay : Layout) (item
               under_is = b.under_is;
             }))
           where
-            up : first_label l a cells stack ≤ b.emits.0
+            up : first_label l ≤ b.emits.0
             up = let le = b.above in let more = emits_up l a cells stack (words_at a f) (slots_of (place_of a) (variables q)) bb (map (place_of a) xs) (Follows k) (suc k) b.emits.0 b.emits.1 b.emits.2 in omega arith
 
             vars : (e : Data) (rs : List Word) (env' : Env) → with_vars xs rs env ≡ Some env' → AllHold l.width (map (place_of a) xs) rs (spots lay.code (bases stack) j pf.slots e) → ((y : ℕ) (v : Word) → Needed c env Must y v → spots lay.code (bases stack) j pf.slots e (place_of a y) ≡ word_of l.width v) → (y : ℕ) (v : Word) → Needed c env' Must y v → spots lay.code (bases stack) j pf.slots e (place_of a y) ≡ word_of l.width v

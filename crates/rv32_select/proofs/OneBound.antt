@@ -75,7 +75,7 @@ module _ (l : Program) (a : Assignment) (cells stack : ℕ) (lay : Layout) (item
   pub operand_read : (c0 : Code) (scope : List ℕ) (env : Env) (Must : ℕ → Word → Type 0) (d : Data) (w : World) (o : Operand) (v : Word) → Stood l a cells stack lay f j pf.slots d0 (lay.address m) (Needed c0 env Must) d w
       → ((x : ℕ) (v : Word) → env x ≡ Some v → is_among x scope ≡ true) → ((x : ℕ) → is_among x scope ≡ true → IsOwn l a f (slots_of (place_of a) (variables q)) (place_of a x))
       → ((x : ℕ) → is_among x (used_by o) ≡ true → is_among x (uses c0) ≡ true) → IsSmall o → operand l (words_at a) env o ≡ Some v
-      → Readable lay.code (bases stack) j pf.slots (source l a cells stack o) × (read lay.code (bases stack) j pf.slots d (source l a cells stack o) ≡ word_of l.width v)
+      → Readable lay.code (bases stack) j pf.slots (source l a o) × (read lay.code (bases stack) j pf.slots d (source l a o) ≡ word_of l.width v)
   operand_read c0 scope env Must d w (Var x) v st scoped owned incl small e =
       let itself : is_among x (x ∷ []) ≡ true = let t : nat_eq x x ≡ true = grind (arith, nat_tests) in ap (λ b. b || false) t in
       (own_place l a lay stack f j pf.slots (slots_of (place_of a) (variables q)) (place_of a x) pf.enough (owned x (scoped x v e)), st.vars x v (inl (incl x itself, e)))
@@ -85,7 +85,7 @@ module _ (l : Program) (a : Assignment) (cells stack : ℕ) (lay : Layout) (item
   operand_read c0 scope env Must d w (Cell i) v st scoped owned incl small e = by_test (nat_lt i (length l.globals)) refl e
     where
       by_test : (t : Bool) → nat_lt i (length l.globals) ≡ t → cond t (Some (cell i)) None ≡ Some v
-          → Readable lay.code (bases stack) j pf.slots (source l a cells stack (Cell i)) × (read lay.code (bases stack) j pf.slots d (source l a cells stack (Cell i)) ≡ word_of l.width v)
+          → Readable lay.code (bases stack) j pf.slots (source l a (Cell i)) × (read lay.code (bases stack) j pf.slots d (source l a (Cell i)) ≡ word_of l.width v)
       by_test false t e = absurd (cc)
       by_test true t e =
           let lt : i < length l.globals = grind (arith, nat_tests) in
@@ -156,11 +156,11 @@ module _ (l : Program) (a : Assignment) (cells stack : ℕ) (lay : Layout) (item
       go : (r : Option Word) → operand l (words_at a) env o ≡ r → Does' lay items begins (Given l a cells stack lay items f j pf.slots d0 m outer to way Must) (at (bases stack) lay items pos d) (m ∷ outer) w (need r w (λ v. code l (words_at a) (room l a cells stack lay items begins) calls_n (with_var x v env) top under c w))
       go None e = tt
       go (Some v) e =
-          let is = set_code (place_of a x) (source l a cells stack o) in
+          let is = set_code (place_of a x) (source l a o) in
           let rest = b.emits.0 in
           let r = operand_read (set x o c) scope env Must d w o v b.stood b.scoped b.owned (λ y h. among_left y (used_by o) (uses c) h) b.fine.0 e in
           let t = own_place l a lay stack f j pf.slots (slots_of (place_of a) (variables q)) (place_of a x) pf.enough b.fine.1.0.1.0 in
-          let sets = sets_source lay.code (bases stack) j pf.slots (place_of a x) (source l a cells stack o) d b.stood.world.good b.stood.frame t r.0 in
+          let sets = sets_source lay.code (bases stack) j pf.slots (place_of a x) (source l a o) d b.stood.world.good b.stood.frame t r.0 in
           one_bound (set x o c) c is x v to way Must k k' block rest pos scope later env top under d w b b.emits.1 b.emits.2
           (subst (λ y. Sets lay.code (bases stack) j pf.slots is d (place_of a x) y) r.1 sets) b.fine.1.0 b.fine.1.1 (λ y h. among_right y (used_by o) (uses c) h)
           (λ d' b'. more v rest (pos + length (plain is)) d' b')

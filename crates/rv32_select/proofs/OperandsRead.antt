@@ -50,9 +50,6 @@ module _ (c : Stretch) (b : Bases) (j slots : ℕ) where
   nothing_done : (d : Data) (r : ℕ) → Good c b d → Does c b [] d (with_reg (with_reg d 7 (d.regs 7)) r (d.regs r))
   nothing_done d r g = does_to c b (does_nothing c b d g) (sym (untouched d r))
 
-  seven_same : (d : Data) (r : ℕ) → d ≡ with_reg (with_reg d 7 (d.regs 7)) r (d.regs r)
-  seven_same d r = sym (untouched d r)
-
   pub holds : (r : ℕ) (s : Source) (d : Data) → Good c b d → InFrame c b j slots d → 5 ≤ r → r < 7 → Readable s → Held r s d
   holds r (At (Reg q)) d g f lo hi ok =
       let low = ok.0.0 in

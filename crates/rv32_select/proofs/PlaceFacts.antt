@@ -21,14 +21,14 @@ use Rattle.rv32_select.proofs.Courses.{Stands}
 use Rattle.rv32_select.proofs.Relation.{Keeps}
 use Rattle.seq.specs.Lists.{is_among}
 
--- no spot twice
 abbrev pub NotAmong : Spot → List Spot → Type 0
 NotAmong s [] = Unit {0}
 NotAmong s (t ∷ ts) = (s ≢ t) × NotAmong s ts
 
-abbrev pub Different : List Spot → Type 0
-Different [] = Unit {0}
-Different (s ∷ ss) = NotAmong s ss × Different ss
+-- no spot stands twice in the list
+abbrev pub AllApart : List Spot → Type 0
+AllApart [] = Unit {0}
+AllApart (s ∷ ss) = NotAmong s ss × AllApart ss
 
 module _ (l : Program) (a : Assignment) where
   -- procedure f may change this register as far as its callers know
@@ -97,9 +97,9 @@ module _ (l : Program) (a : Assignment) where
     pub params : Binds f slots (slots_of (place_of a) (variables q)) [] q.params q.body []
     pub body : Fine f slots (slots_of (place_of a) (variables q)) q.params q.body []
     pub arguments : AllFree f (argument_spots 0 (map (place_of a) q.params))
-    pub arguments_differ : Different (argument_spots 0 (map (place_of a) q.params))
+    pub arguments_differ : AllApart (argument_spots 0 (map (place_of a) q.params))
     pub results : AllFree f (result_spots 10 q.results)
-    pub results_differ : Different (result_spots 10 q.results)
+    pub results_differ : AllApart (result_spots 10 q.results)
 
 -- where the items of a procedure stand
 pub record StandsAt (l : Program) (a : Assignment) (cells stack : ℕ) (items : List Item) (f : ℕ) (q : Procedure) : Type 0 where
@@ -109,7 +109,7 @@ pub record StandsAt (l : Program) (a : Assignment) (cells stack : ℕ) (items : 
   pub piece : List Item
   pub emits : EmitsProcedure l a cells stack f q first last piece
   pub stands : Stands items place piece
-  pub above : first_label l a cells stack ≤ first
+  pub above : first_label l ≤ first
 
 pub record Setting (l : Program) (a : Assignment) (cells stack : ℕ) (lay : Layout) (items : List Item) (begins : List ℕ) : Type 0 where
   pub width_some : 1 ≤ l.width

@@ -4,7 +4,6 @@ use Rattle.std.specs.Prelude.{pos, nat_lt, slice_get}
 use Rattle.std.proofs.lemmas.Bool.Decides.{nat_tests}
 use Rattle.std.proofs.lemmas.Option.{slice_get_within}
 use Rattle.std.proofs.Math.ListN.{length-set}
-use Rattle.rv32_isa.specs.declared.instr.Instr.{Instr}
 use Rattle.rv32_isa.specs.declared.instr.Instr.TheVariants.{Store}
 use Rattle.rv32_isa.specs.declared.instr.StoreKind.TheVariants.{Sw}
 use Rattle.rv32_machine.specs.Arithmetic.{plus, negated}
@@ -31,7 +30,7 @@ use Rattle.rv32_select.proofs.JumpStretches.{with_regs, passes, branches, goes_o
 use Rattle.rv32_select.proofs.FrameViews.{spots, InFrame, Kept, kept, kept_on, in_frame, stores}
 use Rattle.rv32_select.proofs.OperandsRead.{IsPlace, put_here, put_there}
 use Rattle.rv32_select.proofs.Relation.{bases, regs_of, word_of, AllHold, HoldsWorld, Stood, Ran, Ends, ran_on, ends_on, quiet, enters, Needed}
-use Rattle.rv32_select.proofs.PlaceFacts.{NotAmong, Different, AllOwn, AllFree, ProcedureFine, StandsAt, Setting}
+use Rattle.rv32_select.proofs.PlaceFacts.{NotAmong, AllApart, AllOwn, AllFree, ProcedureFine, StandsAt, Setting}
 use Rattle.rv32_select.proofs.BlockFacts.{bound_word, own_place, apart_different}
 use Rattle.rv32_select.proofs.OneBound.{plain_ran}
 use Rattle.rv32_select.proofs.Stops.{good_far, stack_full_stop}
@@ -59,7 +58,7 @@ module _ (l : Program) (a : Assignment) (lay : Layout) (stack f j slots saved : 
   nothing_put : (i : ℕ) (d : Data) → Good lay.code (bases stack) d → Parameters i [] [] d
   nothing_put i d g = record { to = d; does = does_nothing lay.code (bases stack) d g; hold = tt; others = λ t o ne. refl; registers = λ r lo hi. refl; keeps = kept lay.code (bases stack) j slots d }
 
-  parameters_put : (i : ℕ) (ss : List Spot) (vs : List Word) (d : Data) → Good lay.code (bases stack) d → InFrame lay.code (bases stack) j slots d → AllOwn l a f saved ss → Different ss → AllFree l a f (argument_spots i ss) → length ss ≡ length vs
+  parameters_put : (i : ℕ) (ss : List Spot) (vs : List Word) (d : Data) → Good lay.code (bases stack) d → InFrame lay.code (bases stack) j slots d → AllOwn l a f saved ss → AllApart ss → AllFree l a f (argument_spots i ss) → length ss ≡ length vs
       → AllHold l.width (argument_spots i ss) vs (regs_of d) → Parameters i ss vs d
   parameters_put i [] vs d g fr own df free len h =
       record { to = d; does = does_nothing lay.code (bases stack) d g; hold = tt; others = λ t o ne. refl; registers = λ r lo hi. refl; keeps = kept lay.code (bases stack) j slots d }
@@ -146,12 +145,6 @@ module _ (l : Program) (a : Assignment) (cells stack : ℕ) (lay : Layout) (item
       (sp : d.regs 2 ≡ (bases stack).stack + 4 * bound) (total : 4 * (bound + under) ≡ stack) (link : d.regs 1 ≡ lay.address m) (args : AllHold l.width (argument_spots 0 (map (place_of a) q.params)) vs (regs_of d)) (units : w.left ≡ suc left) where
     abbrev w' : World
     w' = spent f (under + words_at a f) left w
-
-    abbrev test_code : List Instr
-    test_code = add_to 2 2 (negated (4 * words_at a f)) ++ number_to 5 (stack_end - stack)
-
-    abbrev push_code : List Instr
-    push_code = Store Sw 1 2 (pos 0) ∷ parameters_code 0 (map (place_of a) q.params)
 
     abbrev branch : Item
     branch = Branch Ltu 2 5 (2 + length l.procs)

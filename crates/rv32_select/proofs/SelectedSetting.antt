@@ -71,7 +71,7 @@ small_at (r ∷ qs) (suc f) q e h = small_at qs f q e h.1
 -- ---- where procedures stand
 
 module _ (l : Program) (a : Assignment) (cells stack : ℕ) (items : List Item) where
-  procedures_stand : (qs : List Procedure) (g n m p : ℕ) (piece : List Item) → EmitsProcedures l a cells stack g qs n m piece → Stands items p piece → first_label l a cells stack ≤ n
+  procedures_stand : (qs : List Procedure) (g n m p : ℕ) (piece : List Item) → EmitsProcedures l a cells stack g qs n m piece → Stands items p piece → first_label l ≤ n
       → (f : ℕ) (q : Procedure) → slice_get qs f ≡ Some q → StandsAt l a cells stack items (g + f) q
   procedures_stand [] g n m p piece h at above f q e = absurd (cc)
   procedures_stand (r ∷ qs) g n m p piece h at above zero q e =
@@ -94,10 +94,10 @@ module _ (l : Program) (a : Assignment) (cells stack : ℕ) (items : List Item) 
 
 module _ (l : Program) (a : Assignment) (cells stack : ℕ) (items : List Item) (fine : Selectable l a cells stack) (s : IsSelected l a cells stack items) where
   abbrev start_piece : List Item
-  start_piece = start_items stack_end heap_base (heap_end l a cells stack) (step l a cells stack) (heap_full l a cells stack) l.globals ++ first_call l a cells stack
+  start_piece = start_items stack_end heap_base (heap_end l cells) (step l) (heap_full l) l.globals ++ first_call l a
 
   abbrev stops_piece : List Item
-  stops_piece = stop_items (no_alternative l a cells stack)
+  stops_piece = stop_items (no_alternative l)
 
   start_stands : Stands items 0 start_piece
   start_stands = front items 0 start_piece (s.procedures ++ stops_piece) (subst (λ is. Stands is 0 (start_piece ++ (s.procedures ++ stops_piece))) (sym s.is) (stands_behind [] (start_piece ++ (s.procedures ++ stops_piece))))
@@ -109,7 +109,7 @@ module _ (l : Program) (a : Assignment) (cells stack : ℕ) (items : List Item) 
   procedure_stands f q is =
       let none : 0 + f ≡ f = omega arith in
       subst (λ k. StandsAt l a cells stack items k q) none
-      (procedures_stand l a cells stack items l.procs 0 (first_label l a cells stack) s.last (length start_piece) s.procedures s.each
+      (procedures_stand l a cells stack items l.procs 0 (first_label l) s.last (length start_piece) s.procedures s.each
       (front items (length start_piece) s.procedures stops_piece behind_start) (omega arith) f q is)
 
   all_items : length items ≡ length start_piece + length s.procedures + 12
@@ -147,8 +147,8 @@ module _ (l : Program) (a : Assignment) (cells stack : ℕ) (items : List Item) 
   selected_started (Some q) e h = record {
     start = q;
     is_start = e;
-    stands = subst (λ (o : Option Procedure). Stands items 0 (start_items stack_end heap_base (heap_end l a cells stack) (step l a cells stack) (heap_full l a cells stack) l.globals
-        ++ (plain (number_moves (params_of l a cells stack o) (sources l a cells stack (start_argument l a cells stack l.argument))) ++ Jump 1 l.start ∷ exit_with 0))) e start_stands;
+    stands = subst (λ (o : Option Procedure). Stands items 0 (start_items stack_end heap_base (heap_end l cells) (step l) (heap_full l) l.globals
+        ++ (plain (number_moves (params_of a o) (sources l a (start_argument l.argument))) ++ Jump 1 l.start ∷ exit_with 0))) e start_stands;
     argument = λ i is. global l.argument i is h;
     tags = fine.formed.literals.tags;
     few = fine.globals;

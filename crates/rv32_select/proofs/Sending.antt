@@ -159,11 +159,11 @@ none_between to from (inr h) = ap (λ x. moves_between to x) (is_empty from h) �
 pub all_between : (made whole : List Move) (to from : List Spot) → (length to ≡ 0) ⊎ (length from ≡ 0) → made ++ moves_between to from ≡ whole → made ≡ whole
 all_between made whole to from h e = sym (append-nil made) ∙ ap (λ x. made ++ x) (sym (none_between to from h)) ∙ e
 
-module _ (l : Program) (a : Assignment) (cells stack : ℕ) where
-  pub are_sources : (bs : List Operand) (made : List Source) → made ≡ sources l a cells stack bs → OperandsPlaced l a bs → AreSources made
+module _ (l : Program) (a : Assignment) where
+  pub are_sources : (bs : List Operand) (made : List Source) → made ≡ sources l a bs → OperandsPlaced l a bs → AreSources made
   are_sources bs made e h = rw e (go bs h)
     where
-      go : (bs : List Operand) → OperandsPlaced l a bs → AreSources (sources l a cells stack bs)
+      go : (bs : List Operand) → OperandsPlaced l a bs → AreSources (sources l a bs)
       go [] h = tt
       go (Var x ∷ bs) h = (h.0.1, go bs h.1)
       go (Num k ∷ bs) h = (tt, go bs h.1)
@@ -215,12 +215,12 @@ few_params low a procs f q xs spots h e p s =
     let size : length spots ≡ length (get_or low.procs f q).params = ap length s ∙ length-map xs (place_of a) ∙ ap length is in
     omega (arith, size, (h.0.procedures f (procedure_of (get_or low.procs f q)) there).few_params)
 
-pub arguments_are : (low : Low) (a : Assignment) (cells stack : ℕ) (procs : List LowProc) (f : ℕ) (q : LowProc) (xs : List ℕ) (places spots : List Spot) → Writable (program_of low) a × (f < length low.procs) → procs ≡ low.procs → xs ≡ (get_or procs f q).params → places ≡ map (place_of a) xs → spots ≡ argument_spots 0 places
-    → (spots ≡ argument_spots_of (program_of low) a cells stack f) × AreTargets spots
-arguments_are low a cells stack procs f q xs places spots h e p s t =
+pub arguments_are : (low : Low) (a : Assignment) (procs : List LowProc) (f : ℕ) (q : LowProc) (xs : List ℕ) (places spots : List Spot) → Writable (program_of low) a × (f < length low.procs) → procs ≡ low.procs → xs ≡ (get_or procs f q).params → places ≡ map (place_of a) xs → spots ≡ argument_spots 0 places
+    → (spots ≡ argument_spots_of (program_of low) a f) × AreTargets spots
+arguments_are low a procs f q xs places spots h e p s t =
     let there : slice_get (program_of low).procs f ≡ Some (procedure_of (get_or low.procs f q)) = procedure_at low.procs f q h.1 in
     let is : xs ≡ (get_or low.procs f q).params = p ∙ ap (λ ps. (get_or ps f q).params) e in
     let all : spots ≡ argument_spots 0 (map (place_of a) (get_or low.procs f q).params) = t ∙ ap (argument_spots 0) (s ∙ ap (map (place_of a)) is) in
-    (all ∙ ap (params_of (program_of low) a cells stack) (sym there), rw all (h.0.procedures f (procedure_of (get_or low.procs f q)) there).arguments)
+    (all ∙ ap (params_of a) (sym there), rw all (h.0.procedures f (procedure_of (get_or low.procs f q)) there).arguments)
 
 pub ruleset sending = (are_sources, are_spots, sent_targets, sent_no_scratch, sent_ranges, between_targets, between_no_scratch, between_ranges, targets_in_range, steps_in_range, moved_by, sent_by, between_by)

@@ -83,8 +83,8 @@ module _ (l : Program) (a : Assignment) (cells stack : ℕ) (lay : Layout) (item
         (simulate c to way Must k k' block p scope later env top under d w b)
     simulate_arms (arm ts c as') to way Must k k' block p scope later env top under d w b =
         arm_simulated l a cells stack lay items begins s calls_n n f q pf j m outer d0 u ts c as' to way Must k k' block p scope later env top under d w b
-        (λ d' b'. simulate c to (further way) Must (suc k) b.emits.0 b.emits.1 (p + length (tests_items l a cells stack k ts)) scope later env top under d' w b')
-        (λ d' b'. simulate_arms as' to way Must b.emits.0 k' b.emits.3.0 (p + length (tests_items l a cells stack k ts ++ (b.emits.1 ++ Label k ∷ []))) scope later env top under d' w b')
+        (λ d' b'. simulate c to (further way) Must (suc k) b.emits.0 b.emits.1 (p + length (tests_items l a k ts)) scope later env top under d' w b')
+        (λ d' b'. simulate_arms as' to way Must b.emits.0 k' b.emits.3.0 (p + length (tests_items l a k ts ++ (b.emits.1 ++ Label k ∷ []))) scope later env top under d' w b')
 
 module _ (l : Program) (a : Assignment) (cells stack : ℕ) (lay : Layout) (items : List Item) (begins : List ℕ) (s : Setting l a cells stack lay items begins) where
   -- calls with so many units

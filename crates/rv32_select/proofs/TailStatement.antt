@@ -55,12 +55,12 @@ module _ (l : Program) (a : Assignment) (cells stack : ℕ) (lay : Layout) (item
           let fit = b.fine.1 in
           let g_fine = s.fine g fit.called fit.is_called in
           let to_args = argument_spots 0 (map (place_of a) fit.called.params) in
-          let args_are : argument_spots_of l a cells stack g ≡ argument_spots 0 (map (place_of a) fit.called.params) = ap (params_of l a cells stack) fit.is_called in
-          let ss = sources l a cells stack os in
+          let args_are : argument_spots_of l a g ≡ argument_spots 0 (map (place_of a) fit.called.params) = ap (params_of a) fit.is_called in
+          let ss = sources l a os in
           let steps = b.emits.1 in
-          let order = subst (λ x. IsOrder steps (spot_moves x (sources l a cells stack os))) args_are b.emits.2 in
+          let order = subst (λ x. IsOrder steps (spot_moves x (sources l a os))) args_are b.emits.2 in
           let is = moves_code steps ++ (number_moves to_args ss ++ leave_code (words_at a f)) in
-          let block_is = subst (λ x. block ≡ plain (moves_code steps ++ (number_moves x (sources l a cells stack os) ++ leave_code (words_at a f))) ++ Jump 0 g ∷ []) args_are b.emits.3 in
+          let block_is = subst (λ x. block ≡ plain (moves_code steps ++ (number_moves x (sources l a os) ++ leave_code (words_at a f))) ++ Jump 0 g ∷ []) args_are b.emits.3 in
           let parts = cut items p (plain is) (Jump 0 g ∷ []) block block_is b.stands in
           let reads = operands_read l a cells stack lay items begins s calls_n n f q pf j m outer d0 u (tail g site os) scope env Must d w os vs b.stood b.scoped b.owned (λ x h. h) b.fine.0 e in
           let places = own_places l a lay stack g j pf.slots 0 to_args (omega arith) g_fine.arguments in

@@ -15,7 +15,7 @@ use Rattle.rv32_select.proofs.NumberParts.{again, nothing_set}
 use Rattle.rv32_select.proofs.FrameViews.{spots, InFrame, Outside, Kept, in_frame, kept_reg, kept_on, seen_reg, stores}
 use Rattle.rv32_select.proofs.OperandsRead.{IsPlace, put_here, put_there, seen_past}
 use Rattle.rv32_select.proofs.Gathering.{AllPlaces}
-use Rattle.rv32_select.proofs.PlaceFacts.{NotAmong, Different}
+use Rattle.rv32_select.proofs.PlaceFacts.{NotAmong, AllApart}
 use Rattle.rv32_machine.proofs.Registers.{set_there, set_here}
 
 -- cells from an address on stand at spots, one for each
@@ -104,7 +104,7 @@ module _ (c : Stretch) (b : Bases) (j slots : ℕ) where
   seen_three d x (Slot k) o = refl
   seen_three d x Scratch o = absurd (o.1 refl)
 
-  pub celled : (step off : ℕ) (ss : List Spot) (d : Data) (n : ℕ) → Good c b d → InFrame c b j slots d → AllPlaces c b j slots ss → Different ss → d.regs 3 + off ≡ n → n + step * length ss < 2 ^ 32 → Celled step off ss d n
+  pub celled : (step off : ℕ) (ss : List Spot) (d : Data) (n : ℕ) → Good c b d → InFrame c b j slots d → AllPlaces c b j slots ss → AllApart ss → d.regs 3 + off ≡ n → n + step * length ss < 2 ^ 32 → Celled step off ss d n
   celled step off [] d n g f places df e lt = record { to = d; does = does_nothing c b d g; each = tt; others = λ t o ne. refl; five = refl; sp = refl; end = refl; heap = refl; words = refl; outside = λ t o. refl }
   celled step off (s ∷ ss) d n g f places df e lt =
       let more_room : step * suc (length ss) ≡ step + step * length ss = omega arith in

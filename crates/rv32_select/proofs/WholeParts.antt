@@ -68,15 +68,15 @@ module _ (l : Program) (a : Assignment) (cells stack : ℕ) where
     pub size : Few → size_of items ≤ most
 
   entry_part : (Few : Type 0) (n words base : ℕ) (params : List Spot)
-      → Part procs Far n n (9 + 3 * length params) Few (plain (add_to 2 2 (negated (4 * words)) ++ number_to 5 base) ++ Branch Ltu 2 5 (stack_full l a cells stack) ∷ plain (Store Sw 1 2 (pos 0) ∷ parameters_code 0 params))
+      → Part procs Far n n (9 + 3 * length params) Few (plain (add_to 2 2 (negated (4 * words)) ++ number_to 5 base) ++ Branch Ltu 2 5 (stack_full l) ∷ plain (Store Sw 1 2 (pos 0) ∷ parameters_code 0 params))
   entry_part Few n words base params =
       let first = add_to 2 2 (negated (4 * words)) ++ number_to 5 base in
       let behind = Store Sw 1 2 (pos 0) ∷ parameters_code 0 params in
-      part_more procs Far Few n n (5 + (3 + suc (3 * length params))) (9 + 3 * length params) (plain first ++ Branch Ltu 2 5 (stack_full l a cells stack) ∷ plain behind) (omega arith)
-      (part_append procs Far Few n n n 5 (3 + suc (3 * length params)) (plain first) (Branch Ltu 2 5 (stack_full l a cells stack) ∷ plain behind)
+      part_more procs Far Few n n (5 + (3 + suc (3 * length params))) (9 + 3 * length params) (plain first ++ Branch Ltu 2 5 (stack_full l) ∷ plain behind) (omega arith)
+      (part_append procs Far Few n n n 5 (3 + suc (3 * length params)) (plain first) (Branch Ltu 2 5 (stack_full l) ∷ plain behind)
       (code_part procs Far Few n 5 first (piece_append 3 2 (add_to 2 2 (negated (4 * words))) (number_to 5 base) (add_piece 2 2 (negated (4 * words))) (number_piece 5 base)))
-      (part_append procs Far Few n n n 3 (suc (3 * length params)) (Branch Ltu 2 5 (stack_full l a cells stack) ∷ []) (plain behind)
-      (branch_part procs Far Few n Ltu 2 5 (stack_full l a cells stack) (inl (omega arith)))
+      (part_append procs Far Few n n n 3 (suc (3 * length params)) (Branch Ltu 2 5 (stack_full l) ∷ []) (plain behind)
+      (branch_part procs Far Few n Ltu 2 5 (stack_full l) (inl (omega arith)))
       (code_part procs Far Few n (suc (3 * length params)) behind (piece_cons (3 * length params) (Store Sw 1 2 (pos 0)) (parameters_code 0 params) tt (parameters_piece 0 params)))))
 
   procedure_part : (f n m : ℕ) (q : Procedure) (items : List Item) → f < procs → 3 + procs ≤ n → ProcedurePlaced l a q → EmitsProcedure l a cells stack f q n m items
@@ -84,11 +84,11 @@ module _ (l : Program) (a : Assignment) (cells stack : ℕ) where
   procedure_part f n m q items lt le placed e =
       let words = words_at a f in
       let base = stack_end - stack in
-      let params = places l a cells stack q.params in
+      let params = places a q.params in
       let Few = FewTests q.body in
       let count = length-map q.params (place_of a) in
       let first = add_to 2 2 (negated (4 * words)) ++ number_to 5 base in
-      let behind = Branch Ltu 2 5 (stack_full l a cells stack) ∷ plain (Store Sw 1 2 (pos 0) ∷ parameters_code 0 params) in
+      let behind = Branch Ltu 2 5 (stack_full l) ∷ plain (Store Sw 1 2 (pos 0) ∷ parameters_code 0 params) in
       let block = block_part l a cells stack words (slots_of (place_of a) (variables q)) q.body (result_spots 10 q.results) Returns n m e.block le placed.body e.body in
       let p = part_append procs Far Few n n m (9 + 3 * length params) (8 * code_size q.body + 256 * length (calls_in q.body)) (plain first ++ behind) e.block (entry_part Few n words base params) block in
       subst (Procedures f (suc f) n m (64 + 8 * (length q.params + code_size q.body) + 256 * length (calls_in q.body)) Few) (sym e.is) (record {
@@ -124,44 +124,41 @@ module _ (l : Program) (a : Assignment) (cells stack : ℕ) where
   exit_part : (Few : Type 0) (n code : ℕ) → Part procs Far n n 3 Few (exit_with code)
   exit_part Few n code = record { counts = λ k. omega arith; goes = (tt, (tt, (tt, tt))); size = λ f. omega arith }
 
-  abbrev start_most : ℕ
-  start_most = 24 + 4 * length l.globals
-
-  few_arguments : (arg : Option ℕ) → length (sources l a cells stack (start_argument l a cells stack arg)) ≤ 1
+  few_arguments : (arg : Option ℕ) → length (sources l a (start_argument arg)) ≤ 1
   few_arguments None = omega arith
   few_arguments (Some i) = omega arith
 
-  first_call_part : (Few : Type 0) → l.start < procs → Part procs Far 0 0 12 Few (first_call l a cells stack)
+  first_call_part : (Few : Type 0) → l.start < procs → Part procs Far 0 0 12 Few (first_call l a)
   first_call_part Few lt =
-      let to = argument_spots_of l a cells stack l.start in
-      let from = sources l a cells stack (start_argument l a cells stack l.argument) in
+      let to = argument_spots_of l a l.start in
+      let from = sources l a (start_argument l.argument) in
       let sent = sent_piece to from in
       let few = few_arguments l.argument in
       let enough = sent.1.1 in
-      part_more procs Far Few 0 0 (sent.0 + (3 + 3)) 12 (first_call l a cells stack) (omega arith)
+      part_more procs Far Few 0 0 (sent.0 + (3 + 3)) 12 (first_call l a) (omega arith)
       (part_append procs Far Few 0 0 0 sent.0 6 (plain (number_moves to from)) (Jump 1 l.start ∷ exit_with 0)
       (code_part procs Far Few 0 sent.0 (number_moves to from) sent.1.0)
       (part_append procs Far Few 0 0 0 3 3 (Jump 1 l.start ∷ []) (exit_with 0) (jump_part procs Far Few 0 1 l.start (inl (omega (arith, lt))) (λ e. lt)) (exit_part Few 0 0)))
 
   abbrev start : List Item
-  start = start_items stack_end heap_base (heap_end l a cells stack) (step l a cells stack) (heap_full l a cells stack) l.globals
+  start = start_items stack_end heap_base (heap_end l cells) (step l) (heap_full l) l.globals
 
   start_part : (Few : Type 0) → Part procs Far 0 0 (12 + 4 * length l.globals) Few start
   start_part Few =
       let two = number_to 2 stack_end in
       let three = number_to 3 heap_base in
-      let four = number_to 4 (heap_end l a cells stack) in
-      let bytes = step l a cells stack * length l.globals in
-      let tags = globals_code (step l a cells stack) l.globals in
+      let four = number_to 4 (heap_end l cells) in
+      let bytes = step l * length l.globals in
+      let tags = globals_code (step l) l.globals in
       part_more procs Far Few 0 0 (6 + (6 + 4 * length l.globals)) (12 + 4 * length l.globals) start (omega arith)
-      (part_append procs Far Few 0 0 0 6 (6 + 4 * length l.globals) (plain (two ++ (three ++ four))) (room_items bytes (heap_full l a cells stack) ++ plain tags)
-      (code_part procs Far Few 0 6 (two ++ (three ++ four)) (piece_append 2 4 two (three ++ four) (number_piece 2 stack_end) (piece_append 2 2 three four (number_piece 3 heap_base) (number_piece 4 (heap_end l a cells stack)))))
-      (part_append procs Far Few 0 0 0 6 (4 * length l.globals) (room_items bytes (heap_full l a cells stack)) (plain tags)
-      (room_part procs Far Few 0 bytes (heap_full l a cells stack) (inl (omega arith)))
-      (code_part procs Far Few 0 (4 * length l.globals) tags (globals_piece (step l a cells stack) l.globals))))
+      (part_append procs Far Few 0 0 0 6 (6 + 4 * length l.globals) (plain (two ++ (three ++ four))) (room_items bytes (heap_full l) ++ plain tags)
+      (code_part procs Far Few 0 6 (two ++ (three ++ four)) (piece_append 2 4 two (three ++ four) (number_piece 2 stack_end) (piece_append 2 2 three four (number_piece 3 heap_base) (number_piece 4 (heap_end l cells)))))
+      (part_append procs Far Few 0 0 0 6 (4 * length l.globals) (room_items bytes (heap_full l)) (plain tags)
+      (room_part procs Far Few 0 bytes (heap_full l) (inl (omega arith)))
+      (code_part procs Far Few 0 (4 * length l.globals) tags (globals_piece (step l) l.globals))))
 
   abbrev pub stops : List Item
-  stops = stop_items (no_alternative l a cells stack)
+  stops = stop_items (no_alternative l)
 
   pub stops_counts : Counts procs (3 + procs) stops
   stops_counts k =
@@ -208,9 +205,9 @@ module _ (l : Program) (a : Assignment) (cells stack : ℕ) where
 
   pub whole : (items : List Item) → Writable l a → IsSelected l a cells stack items → Whole items
   whole items w s =
-      let before = start ++ first_call l a cells stack in
+      let before = start ++ first_call l a in
       let Few = AtMostTwoTests l in
-      let p = part_append procs Far Few 0 0 0 (12 + 4 * length l.globals) 12 start (first_call l a cells stack) (start_part Few) (first_call_part Few w.start) in
+      let p = part_append procs Far Few 0 0 0 (12 + 4 * length l.globals) 12 start (first_call l a) (start_part Few) (first_call_part Few w.start) in
       let r = procedures_part l.procs 0 (3 + procs) s.last s.procedures (omega arith) (omega arith) w.procedures s.each in
       let t = stops_part Few in
       let up = procedures_up l.procs 0 (3 + procs) s.last s.procedures s.each in
@@ -231,7 +228,7 @@ module _ (l : Program) (a : Assignment) (cells stack : ℕ) where
             let same = ap (times k) is in
             omega arith;
         goes = subst (Goes procs Far) (sym is) (goes_both procs Far before (s.procedures ++ stops) p.goes (goes_both procs Far s.procedures stops r.goes t.goes));
-        first = subst (λ is. is_instruction (slice_get is 0) ≡ true) (sym (is ∙ append_assoc start (first_call l a cells stack) (s.procedures ++ stops))) (first_here (first_call l a cells stack ++ (s.procedures ++ stops)));
+        first = subst (λ is. is_instruction (slice_get is 0) ≡ true) (sym (is ∙ append_assoc start (first_call l a) (s.procedures ++ stops))) (first_here (first_call l a ++ (s.procedures ++ stops)));
         size = λ few.
             let c = p.size few in
             let d = r.size few in

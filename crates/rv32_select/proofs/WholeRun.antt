@@ -42,7 +42,7 @@ use Rattle.rv32_machine.proofs.Registers.{set_there, set_here}
 pub record Started (l : Program) (a : Assignment) (cells stack : ℕ) (items : List Item) : Type 0 where
   pub start : Procedure
   pub is_start : slice_get l.procs l.start ≡ Some start
-  pub stands : Stands items 0 (start_items stack_end heap_base (heap_base + 4 * l.width * cells) (4 * l.width) (1 + length l.procs) l.globals ++ (plain (number_moves (argument_spots 0 (map (place_of a) start.params)) (sources l a cells stack (start_argument l a cells stack l.argument))) ++ Jump 1 l.start ∷ exit_with 0))
+  pub stands : Stands items 0 (start_items stack_end heap_base (heap_base + 4 * l.width * cells) (4 * l.width) (1 + length l.procs) l.globals ++ (plain (number_moves (argument_spots 0 (map (place_of a) start.params)) (sources l a (start_argument l.argument))) ++ Jump 1 l.start ∷ exit_with 0))
   pub argument : (i : ℕ) → l.argument ≡ Some i → i < length l.globals
   pub tags : TagsSmall l.globals
   pub few : length l.globals ≤ 131072
@@ -96,7 +96,7 @@ module _ (l : Program) (a : Assignment) (cells stack : ℕ) (lay : Layout) (item
   -- the argument of the start
   record Argument (d : Data) : Type 0 where
     pub to : Data
-    pub does : Does lay.code (bases stack) (number_moves (argument_spots 0 (map (place_of a) z.start.params)) (sources l a cells stack (start_argument l a cells stack l.argument))) d to
+    pub does : Does lay.code (bases stack) (number_moves (argument_spots 0 (map (place_of a) z.start.params)) (sources l a (start_argument l.argument))) d to
     pub hold : AllHold l.width (argument_spots 0 (map (place_of a) z.start.params)) (start_words l.argument) (regs_of to)
     pub low : (r : ℕ) → r < 5 → to.regs r ≡ d.regs r
     pub heap : to.heap ≡ d.heap
@@ -109,11 +109,11 @@ module _ (l : Program) (a : Assignment) (cells stack : ℕ) (lay : Layout) (item
   argument_done : (d : Data) → Good lay.code (bases stack) d → length l.globals ≤ cells → Argument d
   argument_done d g room = by_argument (argument_spots 0 (map (place_of a) z.start.params)) (s.fine l.start z.start z.is_start).arguments l.argument refl
     where
-      made : (o : Option ℕ) → l.argument ≡ o → (to : Data) → Does lay.code (bases stack) (number_moves (argument_spots 0 (map (place_of a) z.start.params)) (sources l a cells stack (start_argument l a cells stack o))) d to → AllHold l.width (argument_spots 0 (map (place_of a) z.start.params)) (start_words o) (regs_of to)
+      made : (o : Option ℕ) → l.argument ≡ o → (to : Data) → Does lay.code (bases stack) (number_moves (argument_spots 0 (map (place_of a) z.start.params)) (sources l a (start_argument o))) d to → AllHold l.width (argument_spots 0 (map (place_of a) z.start.params)) (start_words o) (regs_of to)
           → ((r : ℕ) → r < 5 → to.regs r ≡ d.regs r) → to.heap ≡ d.heap → to.stack ≡ d.stack → Argument d
       made o e to does hold low heap stack' = record {
         to = to;
-        does = subst (λ x. Does lay.code (bases stack) (number_moves (argument_spots 0 (map (place_of a) z.start.params)) (sources l a cells stack (start_argument l a cells stack x))) d to) (sym e) does;
+        does = subst (λ x. Does lay.code (bases stack) (number_moves (argument_spots 0 (map (place_of a) z.start.params)) (sources l a (start_argument x))) d to) (sym e) does;
         hold = subst (λ x. AllHold l.width (argument_spots 0 (map (place_of a) z.start.params)) (start_words x) (regs_of to)) (sym e) hold;
         low = low;
         heap = heap;
@@ -187,7 +187,7 @@ module _ (l : Program) (a : Assignment) (cells stack : ℕ) (lay : Layout) (item
   start_piece = start_items stack_end heap_base (heap_base + 4 * l.width * cells) (4 * l.width) (1 + length l.procs) l.globals
 
   abbrev argument_code : List Instr
-  argument_code = number_moves (argument_spots 0 (map (place_of a) z.start.params)) (sources l a cells stack (start_argument l a cells stack l.argument))
+  argument_code = number_moves (argument_spots 0 (map (place_of a) z.start.params)) (sources l a (start_argument l.argument))
 
   abbrev numbered : Data
   numbered = with_reg (with_reg (with_reg (start_data l.width cells stack) 2 stack_end) 3 heap_base) 4 (heap_base + 4 * l.width * cells)
@@ -220,9 +220,6 @@ module _ (l : Program) (a : Assignment) (cells stack : ℕ) (lay : Layout) (item
 
   at_first_call : Stands items (0 + length start_piece) (plain argument_code ++ Jump 1 l.start ∷ exit_with 0)
   at_first_call = back items 0 start_piece (plain argument_code ++ Jump 1 l.start ∷ exit_with 0) z.stands
-
-  abbrev behind_numbers : ℕ
-  behind_numbers = 0 + length (plain numbers)
 
   at_room : Stands items (0 + length (plain numbers)) (room_piece ++ plain globals_piece)
   at_room = back items 0 (plain numbers) (room_piece ++ plain globals_piece) at_start

@@ -76,13 +76,13 @@ module _ (l : Program) (a : Assignment) (cells stack : ℕ) (lay : Layout) (item
       go None e r' e' = tt
       go (Some g) e None e' = tt
       go (Some g) e (Some h) e' =
-          let is = prim_code p (place_of a x) (source l a cells stack o) (source l a cells stack o') in
+          let is = prim_code p (place_of a x) (source l a o) (source l a o') in
           let rest = b.emits.0 in
           let one = operand_read l a cells stack lay items begins s calls_n n f q pf j m outer d0 u (prim p x o o' c) scope env Must d w o (number g) b.stood b.scoped b.owned (λ y h. among_left y (used_by o) (used_by o' ++ uses c) h) b.fine.0 (number_there (operand l (words_at a) env o) g e) in
           let two = operand_read l a cells stack lay items begins s calls_n n f q pf j m outer d0 u (prim p x o o' c) scope env Must d w o' (number h) b.stood b.scoped b.owned (λ y h. among_right y (used_by o) (used_by o' ++ uses c) (among_left y (used_by o') (uses c) h)) b.fine.1.0 (number_there (operand l (words_at a) env o') h e') in
           let t = own_place l a lay stack f j pf.slots (slots_of (place_of a) (variables q)) (place_of a x) pf.enough b.fine.1.1.0.1.0 in
-          let sets = sets_prim lay.code (bases stack) j pf.slots p (place_of a x) (source l a cells stack o) (source l a cells stack o') d b.stood.world.good b.stood.frame t one.0 two.0 in
-          let result : arithmetic p (read lay.code (bases stack) j pf.slots d (source l a cells stack o)) (read lay.code (bases stack) j pf.slots d (source l a cells stack o')) ≡ arithmetic p g h = λ i. arithmetic p (one.1 i) (two.1 i) in
+          let sets = sets_prim lay.code (bases stack) j pf.slots p (place_of a x) (source l a o) (source l a o') d b.stood.world.good b.stood.frame t one.0 two.0 in
+          let result : arithmetic p (read lay.code (bases stack) j pf.slots d (source l a o)) (read lay.code (bases stack) j pf.slots d (source l a o')) ≡ arithmetic p g h = λ i. arithmetic p (one.1 i) (two.1 i) in
           one_bound l a cells stack lay items begins s calls_n n f q pf j m outer d0 u (prim p x o o' c) c is x (number (arithmetic p g h)) to way Must k k' block rest pos scope later env top under d w b b.emits.1 b.emits.2
           (subst (λ y. Sets lay.code (bases stack) j pf.slots is d (place_of a x) y) result sets) b.fine.1.1.0 b.fine.1.1.1 (λ y h. among_right y (used_by o) (used_by o' ++ uses c) (among_right y (used_by o') (uses c) h))
           (λ d' b'. more (number (arithmetic p g h)) rest (pos + length (plain is)) d' b')
@@ -115,12 +115,12 @@ module _ (l : Program) (a : Assignment) (cells stack : ℕ) (lay : Layout) (item
           → Does' lay items begins (Given l a cells stack lay items f j pf.slots d0 m outer to way Must) (at (bases stack) lay items pos d) (m ∷ outer) w (need r w (λ v. code l (words_at a) (room l a cells stack lay items begins) calls_n (with_var x v env) top under c w))
       by_word i e ws e' None e'' = tt
       by_word i e ws e' (Some v) e'' =
-          let is = load_code (place_of a x) (source l a cells stack o) index in
+          let is = load_code (place_of a x) (source l a o) index in
           let rest = b.emits.0 in
           let one = operand_read l a cells stack lay items begins s calls_n n f q pf j m outer d0 u (load x o index c) scope env Must d w o (cell i) b.stood b.scoped b.owned (λ y h. among_left y (used_by o) (uses c) h) b.fine.0 (cell_there (operand l (words_at a) env o) i e) in
           let t = own_place l a lay stack f j pf.slots (slots_of (place_of a) (variables q)) (place_of a x) pf.enough b.fine.1.0.1.0 in
           let inside = word_inside d w i index ws v b.stood.world e' e'' in
-          let sets = sets_load lay.code (bases stack) j pf.slots (place_of a x) (source l a cells stack o) index (l.width * i) d b.stood.world.good b.stood.frame t one.0 (cell_address i (read lay.code (bases stack) j pf.slots d (source l a cells stack o)) one.1) inside.0 inside.1 in
+          let sets = sets_load lay.code (bases stack) j pf.slots (place_of a x) (source l a o) index (l.width * i) d b.stood.world.good b.stood.frame t one.0 (cell_address i (read lay.code (bases stack) j pf.slots d (source l a o)) one.1) inside.0 inside.1 in
           one_bound l a cells stack lay items begins s calls_n n f q pf j m outer d0 u (load x o index c) c is x v to way Must k k' block rest pos scope later env top under d w b b.emits.1 b.emits.2
           (subst (λ y. Sets lay.code (bases stack) j pf.slots is d (place_of a x) y) (b.stood.world.cells_are.words i index ws v e' e'') sets) b.fine.1.0 b.fine.1.1 (λ y h. among_right y (used_by o) (uses c) h)
           (λ d' b'. more v rest (pos + length (plain is)) d' b')
@@ -149,13 +149,13 @@ module _ (l : Program) (a : Assignment) (cells stack : ℕ) (lay : Layout) (item
       stored i e ws e' old e'' None e3 = tt
       stored i e ws e' old e'' (Some v) e3 =
           let c0 = save o index o' c in
-          let is = save_code (source l a cells stack o) index (source l a cells stack o') in
+          let is = save_code (source l a o) index (source l a o') in
           let rest = b.emits.0 in
           let w' = with_word i index v ws w in
           let one = operand_read l a cells stack lay items begins s calls_n n f q pf j m outer d0 u c0 scope env Must d w o (cell i) b.stood b.scoped b.owned (λ y h. among_left y (used_by o) (used_by o' ++ uses c) h) b.fine.0 (cell_there (operand l (words_at a) env o) i e) in
           let two = operand_read l a cells stack lay items begins s calls_n n f q pf j m outer d0 u c0 scope env Must d w o' v b.stood b.scoped b.owned (λ y h. among_right y (used_by o) (used_by o' ++ uses c) (among_left y (used_by o') (uses c) h)) b.fine.1.0 e3 in
           let inside = word_inside d w i index ws old b.stood.world e' e'' in
-          let z = stores_word lay.code (bases stack) j pf.slots (source l a cells stack o) (source l a cells stack o') index (l.width * i) d b.stood.world.good b.stood.frame one.0 two.0 (cell_address i (read lay.code (bases stack) j pf.slots d (source l a cells stack o)) one.1) inside.0 inside.1 in
+          let z = stores_word lay.code (bases stack) j pf.slots (source l a o) (source l a o') index (l.width * i) d b.stood.world.good b.stood.frame one.0 two.0 (cell_address i (read lay.code (bases stack) j pf.slots d (source l a o)) one.1) inside.0 inside.1 in
           let heap_is : z.to.heap ≡ set_at d.heap (l.width * i + index) (word_of l.width v) = z.heap ∙ ap (set_at d.heap (l.width * i + index)) two.1 in
           let h = b.stood.world in
           let same_length = length-set w.cells i (slice_set ws index v) in

@@ -29,25 +29,22 @@ pub record Sent (to : List Spot) (from : List Source) (old new : List Item) : Ty
 abbrev pub one_arm : List LowTest × Code → Arms → Arms
 one_arm t = arm t.0 t.1
 
-module _ (l : Program) (a : Assignment) (cells stack : ℕ) where
-  pub record Called (words saved f site : ℕ) (as' : List Operand) (xs : List ℕ)
-      (old new : List Item) : Type 0 where
+module _ (l : Program) (a : Assignment) where
+  pub record Called (saved f site : ℕ) (as' : List Operand) (xs : List ℕ) (old new : List Item)
+      : Type 0 where
     pub arguments : List Move
     pub results : List Move
-    pub order : IsOrder arguments
-        (spot_moves (argument_spots_of l a cells stack f) (sources l a cells stack as'))
-    pub results_order : IsOrder results
-        (moves_between (places l a cells stack xs) (result_spots_of l a cells stack f))
-    pub is : new
-        ≡ old ++ call_items l a cells stack words saved f as' (saves_at a site) arguments results
+    pub order : IsOrder arguments (spot_moves (argument_spots_of l a f) (sources l a as'))
+    pub results_order : IsOrder results (moves_between (places a xs) (result_spots_of l f))
+    pub is : new ≡ old ++ call_items l a saved f as' (saves_at a site) arguments results
 
   pub record TailCalled (words f : ℕ) (as' : List Operand) (old new : List Item) : Type 0 where
     pub steps : List Move
-    pub order : IsOrder steps
-        (spot_moves (argument_spots_of l a cells stack f) (sources l a cells stack as'))
+    pub order : IsOrder steps (spot_moves (argument_spots_of l a f) (sources l a as'))
     pub is : new
-        ≡ old ++ (plain (moves_code steps ++ (number_moves (argument_spots_of l a cells stack f)
-        (sources l a cells stack as') ++ leave_code words)) ++ Jump 0 f ∷ [])
+        ≡ old ++ (plain (moves_code steps
+        ++ (number_moves (argument_spots_of l a f) (sources l a as') ++ leave_code words))
+        ++ Jump 0 f ∷ [])
 
 module _ (l : Program) (a : Assignment) (cells stack words saved : ℕ) where
   -- a block

@@ -53,111 +53,126 @@ way_out words Returns = return_items words
 way_out words (Follows label) = []
 way_out words (Jumps label) = Jump 0 label ∷ []
 
-module _ (l : Program) (a : Assignment) (cells stack : ℕ) where
-  -- the bytes of a cell, and the heap's end
-  abbrev pub step : ℕ
-  step = 4 * l.width
+-- the bytes of a cell, and the heap's end
+abbrev pub step : Program → ℕ
+step l = 4 * l.width
 
-  abbrev pub heap_end : ℕ
-  heap_end = heap_base + step * cells
+abbrev pub heap_end : Program → (cells : ℕ) → ℕ
+heap_end l cells = heap_base + step l * cells
 
-  -- the labels of procedures are their numbers; then come those of the stops
-  abbrev pub no_alternative : ℕ
-  no_alternative = length l.procs
+-- the labels of procedures are their numbers; then come those of the stops
+abbrev pub no_alternative : Program → ℕ
+no_alternative l = length l.procs
 
-  abbrev pub heap_full : ℕ
-  heap_full = 1 + length l.procs
+abbrev pub heap_full : Program → ℕ
+heap_full l = 1 + length l.procs
 
-  abbrev pub stack_full : ℕ
-  stack_full = 2 + length l.procs
+abbrev pub stack_full : Program → ℕ
+stack_full l = 2 + length l.procs
 
-  abbrev pub first_label : ℕ
-  first_label = 3 + length l.procs
+abbrev pub first_label : Program → ℕ
+first_label l = 3 + length l.procs
 
-  abbrev pub places : List ℕ → List Spot
-  places xs = map (place_of a) xs
+abbrev pub places : Assignment → List ℕ → List Spot
+places a xs = map (place_of a) xs
+
+-- the spots in which a procedure takes its arguments and gives its results
+abbrev pub params_of : Assignment → Option Procedure → List Spot
+params_of a None = []
+params_of a (Some q) = argument_spots 0 (places a q.params)
+
+abbrev pub results_of : Option Procedure → ℕ
+results_of None = 0
+results_of (Some q) = q.results
+
+abbrev pub result_spots_of : Program → (proc : ℕ) → List Spot
+result_spots_of l f = result_spots 10 (results_of (slice_get l.procs f))
+
+abbrev pub start_argument : Option ℕ → List Operand
+start_argument None = []
+start_argument (Some i) = Cell i ∷ []
+
+module _ (l : Program) (a : Assignment) where
+  abbrev pub argument_spots_of : (proc : ℕ) → List Spot
+  argument_spots_of f = params_of a (slice_get l.procs f)
 
   abbrev pub source : Operand → Source
   source (Var x) = At (place_of a x)
   source (Num k) = Number k
-  source (Cell i) = Number ((heap_base + step * i) % 2 ^ 32)
+  source (Cell i) = Number ((heap_base + step l * i) % 2 ^ 32)
 
   abbrev pub sources : List Operand → List Source
   sources as' = map source as'
-
-  -- the spots in which a procedure takes its arguments and gives its results
-  abbrev pub params_of : Option Procedure → List Spot
-  params_of None = []
-  params_of (Some q) = argument_spots 0 (places q.params)
-
-  abbrev pub argument_spots_of : (proc : ℕ) → List Spot
-  argument_spots_of f = params_of (slice_get l.procs f)
-
-  abbrev pub results_of : Option Procedure → ℕ
-  results_of None = 0
-  results_of (Some q) = q.results
-
-  abbrev pub result_spots_of : (proc : ℕ) → List Spot
-  result_spots_of f = result_spots 10 (results_of (slice_get l.procs f))
 
   abbrev pub tests_items : (next : ℕ) → List LowTest → List Item
   tests_items next [] = []
   tests_items next (t ∷ ts) = test_items next (source t.left) t.right ++ tests_items next ts
 
+  -- a call in a frame of which the slots from `saved` on are for saved registers: registers are
+  -- saved, arguments go to their spots, results to their variables, and registers come back
+  abbrev pub call_items : (saved proc : ℕ) → List Operand → (registers : List ℕ)
+      → (arguments results : List Move) → List Item
+  call_items saved f as' registers arguments results =
+      plain (moves_code (save_moves saved registers)
+      ++ (moves_code arguments ++ number_moves (argument_spots_of f) (sources as')))
+      ++ Jump 1 f ∷ plain (moves_code results ++ moves_code (restore_moves saved registers))
+
+  -- the call of the start, and the exit behind it
+  abbrev pub first_call : List Item
+  first_call =
+      plain (number_moves (argument_spots_of l.start) (sources (start_argument l.argument)))
+      ++ Jump 1 l.start ∷ exit_with 0
+
+module _ (l : Program) (a : Assignment) (cells stack : ℕ) where
   -- in a procedure whose frame has so many words, of which the slots from `saved` on are for saved
   -- registers
   module _ (words saved : ℕ) where
-    -- a call: registers are saved, arguments go to their spots, results to their variables, and
-    -- registers come back
-    abbrev pub call_items : (proc : ℕ) → List Operand → (registers : List ℕ)
-        → (arguments results : List Move) → List Item
-    call_items f as' registers arguments results =
-        plain (moves_code (save_moves saved registers)
-        ++ (moves_code arguments ++ number_moves (argument_spots_of f) (sources as')))
-        ++ Jump 1 f ∷ plain (moves_code results ++ moves_code (restore_moves saved registers))
-
     abbrev mutual
       -- the items of a block that gives its words to these spots and goes this way then; n is the
       -- first label of its own, and m the next one behind them
       pub Emits : (to : List Spot) → Way → Code → (n m : ℕ) → List Item → Type 0
       Emits to way (set x b c) n m items =
-          Then (plain (set_code (place_of a x) (source b))) (Emits to way c n m) items
+          Then (plain (set_code (place_of a x) (source l a b))) (Emits to way c n m) items
       Emits to way (prim f x b d c) n m items =
-          Then (plain (prim_code f (place_of a x) (source b) (source d))) (Emits to way c n m) items
+          Then (plain (prim_code f (place_of a x) (source l a b) (source l a d)))
+          (Emits to way c n m) items
       Emits to way (load x b k c) n m items =
-          Then (plain (load_code (place_of a x) (source b) k)) (Emits to way c n m) items
+          Then (plain (load_code (place_of a x) (source l a b) k)) (Emits to way c n m) items
       Emits to way (save b k d c) n m items =
-          Then (plain (save_code (source b) k (source d))) (Emits to way c n m) items
+          Then (plain (save_code (source l a b) k (source l a d))) (Emits to way c n m) items
       Emits to way (take xs c) n m items =
-          Then (take_items step heap_full (places xs)) (Emits to way c n m) items
+          Then (take_items (step l) (heap_full l) (places a xs)) (Emits to way c n m) items
       Emits to way (put b c) n m items =
-          Then (plain (put_code heap_end (source b))) (Emits to way c n m) items
+          Then (plain (put_code (heap_end l cells) (source l a b))) (Emits to way c n m) items
       Emits to way (get x c) n m items =
-          Then (plain (get_code heap_end (place_of a x))) (Emits to way c n m) items
+          Then (plain (get_code (heap_end l cells) (place_of a x))) (Emits to way c n m) items
       Emits to way (call f site as' xs c) n m items =
           (arguments results : List Move)
-          × IsOrder arguments (spot_moves (argument_spots_of f) (sources as'))
-          × IsOrder results (moves_between (places xs) (result_spots_of f))
-          × Then (call_items f as' (saves_at a site) arguments results) (Emits to way c n m) items
+          × IsOrder arguments (spot_moves (argument_spots_of l a f) (sources l a as'))
+          × IsOrder results (moves_between (places a xs) (result_spots_of l f))
+          × Then (call_items l a saved f as' (saves_at a site) arguments results)
+          (Emits to way c n m) items
       Emits to way (join xs b c) n m items =
-          (k : ℕ) × (block : List Item) × Emits (places xs) (Follows n) b (suc n) k block
+          (k : ℕ) × (block : List Item) × Emits (places a xs) (Follows n) b (suc n) k block
           × Then (block ++ Label n ∷ []) (Emits to way c k m) items
       Emits to way (give as') n m items =
-          (m ≡ n) × (steps : List Move) × IsOrder steps (spot_moves to (sources as'))
-          × (items ≡ plain (moves_code steps ++ number_moves to (sources as')) ++ way_out words way)
+          (m ≡ n) × (steps : List Move) × IsOrder steps (spot_moves to (sources l a as'))
+          × (items
+          ≡ plain (moves_code steps ++ number_moves to (sources l a as')) ++ way_out words way)
       Emits to way (tail f site as') n m items =
           (m ≡ n) × (steps : List Move)
-          × IsOrder steps (spot_moves (argument_spots_of f) (sources as'))
-          × (items ≡ plain (moves_code steps ++ (number_moves (argument_spots_of f) (sources as')
-          ++ leave_code words)) ++ Jump 0 f ∷ [])
+          × IsOrder steps (spot_moves (argument_spots_of l a f) (sources l a as'))
+          × (items ≡ plain (moves_code steps
+          ++ (number_moves (argument_spots_of l a f) (sources l a as') ++ leave_code words))
+          ++ Jump 0 f ∷ [])
       Emits to way (choose as') n m items = EmitsArms to way as' n m items
-      Emits to way fail n m items = (m ≡ n) × (items ≡ Jump 0 no_alternative ∷ [])
+      Emits to way fail n m items = (m ≡ n) × (items ≡ Jump 0 (no_alternative l) ∷ [])
 
       pub EmitsArms : (to : List Spot) → Way → Arms → (n m : ℕ) → List Item → Type 0
       EmitsArms to way (otherwise c) n m items = Emits to way c n m items
       EmitsArms to way (arm ts c as') n m items =
           (k : ℕ) × (block : List Item) × Emits to (further way) c (suc n) k block
-          × Then (tests_items n ts ++ (block ++ Label n ∷ [])) (EmitsArms to way as' k m) items
+          × Then (tests_items l a n ts ++ (block ++ Label n ∷ [])) (EmitsArms to way as' k m) items
 
   -- procedure f: its entry, and its block
   pub record EmitsProcedure (f : ℕ) (q : Procedure) (n m : ℕ) (items : List Item) : Type 0 where
@@ -165,7 +180,8 @@ module _ (l : Program) (a : Assignment) (cells stack : ℕ) where
     pub body : Emits (words_at a f) (slots_of (place_of a) (variables q))
         (result_spots 10 q.results) Returns q.body n m block
     pub is : items
-        ≡ entry_items f (words_at a f) (stack_end - stack) stack_full (places q.params) ++ block
+        ≡ entry_items f (words_at a f) (stack_end - stack) (stack_full l) (places a q.params)
+        ++ block
 
   -- the procedures from number f on
   abbrev pub EmitsProcedures : (f : ℕ) → List Procedure → (n m : ℕ) → List Item → Type 0
@@ -174,20 +190,10 @@ module _ (l : Program) (a : Assignment) (cells stack : ℕ) where
       (k : ℕ) × (first rest : List Item) × EmitsProcedure f q n k first
       × EmitsProcedures (suc f) qs k m rest × (items ≡ first ++ rest)
 
-  abbrev pub start_argument : Option ℕ → List Operand
-  start_argument None = []
-  start_argument (Some i) = Cell i ∷ []
-
-  -- the call of the start, and the exit behind it
-  abbrev pub first_call : List Item
-  first_call =
-      plain (number_moves (argument_spots_of l.start) (sources (start_argument l.argument)))
-      ++ Jump 1 l.start ∷ exit_with 0
-
   pub record IsSelected (items : List Item) : Type 0 where
     pub last : ℕ
     pub procedures : List Item
-    pub each : EmitsProcedures 0 l.procs first_label last procedures
+    pub each : EmitsProcedures 0 l.procs (first_label l) last procedures
     pub is : items
-        ≡ (start_items stack_end heap_base heap_end step heap_full l.globals ++ first_call)
-        ++ (procedures ++ stop_items no_alternative)
+        ≡ (start_items stack_end heap_base (heap_end l cells) (step l) (heap_full l) l.globals
+        ++ first_call l a) ++ (procedures ++ stop_items (no_alternative l))

@@ -80,24 +80,21 @@ impl Code {
 impl<'a> Context<'a> {
     pub(crate) fn heap_end(&self) -> u32
         requires { CanWrite (program_of self.now.low.now) self.now.places.now self.now.cells }
-        ensures { result ≡ end_of_heap (program_of self.now.low.now) self.now.places.now
-            self.now.cells self.now.stack }
+        ensures { result ≡ end_of_heap (program_of self.now.low.now) self.now.cells }
     {
         HEAP_BASE + 4 * self.low.width * self.cells
     }
 
     pub(crate) fn no_alternative(&self) -> u32
         requires { Writable (program_of self.now.low.now) self.now.places.now }
-        ensures { result ≡ no_alternative_label (program_of self.now.low.now) self.now.places.now
-            self.now.cells self.now.stack }
+        ensures { result ≡ no_alternative_label (program_of self.now.low.now) }
     {
         self.low.procs.len() as u32
     }
 
     pub(crate) fn heap_full(&self) -> u32
         requires { Writable (program_of self.now.low.now) self.now.places.now }
-        ensures { result ≡ heap_full_label (program_of self.now.low.now) self.now.places.now
-            self.now.cells self.now.stack }
+        ensures { result ≡ heap_full_label (program_of self.now.low.now) }
     {
         1 + self.low.procs.len() as u32
     }
@@ -109,8 +106,8 @@ impl<'a> Context<'a> {
         requires operands { OperandsPlaced (program_of self.now.low.now) self.now.places.now
             operands.now }
         ensures { OnOk result (Sent to.now
-            (sources_of (program_of self.now.low.now) self.now.places.now self.now.cells
-            self.now.stack operands.now) code.old code.new) }
+            (sources_of (program_of self.now.low.now) self.now.places.now operands.now)
+            code.old code.new) }
     {
         let from = self.sources(operands)?;
         code.send(self.alloc, to, from.as_slice())
@@ -128,10 +125,9 @@ impl<'a> Context<'a> {
         requires operands { OperandsPlaced (program_of self.now.low.now) self.now.places.now
             operands.now }
         ensures { OnOk result (Sent
-            (argument_spots_of (program_of self.now.low.now) self.now.places.now self.now.cells
-            self.now.stack proc)
-            (sources_of (program_of self.now.low.now) self.now.places.now self.now.cells
-            self.now.stack operands.now) code.old code.new) }
+            (argument_spots_of (program_of self.now.low.now) self.now.places.now proc)
+            (sources_of (program_of self.now.low.now) self.now.places.now operands.now)
+            code.old code.new) }
     {
         let to = self.argument_spots(proc)?;
         self.send(code, to.as_slice(), operands)
@@ -145,8 +141,7 @@ impl<'a> Context<'a> {
             variables.now }
         ensures { OnOk result (Moved
             (moves_across (map (place_of self.now.places.now) variables.now)
-            (result_spots_of (program_of self.now.low.now) self.now.places.now self.now.cells
-            self.now.stack proc)) code.old code.new) }
+            (result_spots_of (program_of self.now.low.now) proc)) code.old code.new) }
     {
         let to = self.spots(variables)?;
         let results = self.low.procs.as_slice()[proc as usize].results;
@@ -169,8 +164,7 @@ impl<'a> Context<'a> {
         requires call { CallPlaced (program_of self.now.low.now) self.now.places.now proc site
             operands.now variables.now }
         ensures { OnOk result (Called (program_of self.now.low.now) self.now.places.now
-            self.now.cells self.now.stack frame.words frame.saved proc site operands.now
-            variables.now code.old code.new) }
+            frame.saved proc site operands.now variables.now code.old code.new) }
     {
         let registers = self.places.saved(site);
         code.save_registers(frame.saved, registers)?;
@@ -197,8 +191,8 @@ impl<'a> Context<'a> {
         requires proc { proc < length self.now.low.now.procs }
         requires operands { OperandsPlaced (program_of self.now.low.now) self.now.places.now
             operands.now }
-        ensures { OnOk result (TailCalled (program_of self.now.low.now) self.now.places.now
-            self.now.cells self.now.stack words proc operands.now code.old code.new) }
+        ensures { OnOk result (TailCalled (program_of self.now.low.now) self.now.places.now words
+            proc operands.now code.old code.new) }
     {
         self.send_arguments(code, proc, operands)?;
         code.leave(words)?;
@@ -215,8 +209,8 @@ impl<'a> Context<'a> {
         requires bytes { 4 * self.now.low.now.width * length variables.now < 4294967296 }
         ensures { OnOk result (code.new ≡ code.old
             ++ take_items (4 * self.now.low.now.width)
-            (heap_full_label (program_of self.now.low.now) self.now.places.now self.now.cells
-            self.now.stack) (map (place_of self.now.places.now) variables.now)) }
+            (heap_full_label (program_of self.now.low.now))
+            (map (place_of self.now.places.now) variables.now)) }
     {
         let spots = self.spots(variables)?;
         code.take(4 * self.low.width, self.heap_full(), spots.as_slice())
@@ -227,8 +221,7 @@ impl<'a> Context<'a> {
         requires writable { Writable (program_of self.now.low.now) self.now.places.now }
         requires tests { TestsPlaced (program_of self.now.low.now) self.now.places.now tests.now }
         ensures { OnOk result (code.new ≡ code.old
-            ++ tests_items (program_of self.now.low.now) self.now.places.now self.now.cells
-            self.now.stack next tests.now) }
+            ++ tests_items (program_of self.now.low.now) self.now.places.now next tests.now) }
     {
         for test in tests {
             code.test(next, self.source(test.left), test.right)?;

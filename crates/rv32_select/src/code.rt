@@ -123,6 +123,7 @@ impl Code {
     pub(crate) fn put(&mut self, item: Item) -> Result<(), AllocError>
         ensures { OnOk result (self.new ≡ self.old ++ item ∷ []) }
     {
+        // The proof of the push knows what a plain item holds only where its type is named.
         if let Item::Plain(instr) = item {
             return self.instr(instr);
         }

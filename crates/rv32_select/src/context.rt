@@ -6,7 +6,7 @@ ghost use Rattle.parallel_move.specs.Moves.{AllEnds, DistinctTargets, NoScratch}
 ghost use Rattle.low_code.specs.Tree.{program_of};
 ghost use Rattle.register_alloc.specs.Assignment.{place_of};
 ghost use Rattle.rv32_select.specs.Emit.{plain, moves_code, save_moves, restore_moves, argument_spot as spot_of_argument, argument_spots as spots_of_arguments, result_spots as spots_of_results, parameters_code, number_from as number_from_code, number_moves as numbers_code, spot_moves as moves_of};
-ghost use Rattle.rv32_select.specs.IsSelected.{source as source_of, sources as sources_of, places as places_of, argument_spots_of, result_spots_of, moves_between as moves_across};
+ghost use Rattle.rv32_select.specs.IsSelected.{source as source_of, sources as sources_of, argument_spots_of, moves_between as moves_across};
 ghost use Rattle.rv32_select.specs.Ranges.{in_range, AllInRange, IsSource, AreSources, IsSpot, AreSpots, AreTargets, AreRegisters};
 ghost use Rattle.rv32_select.specs.Writable.{Writable, HasPlace, HavePlaces, OperandPlaced, OperandsPlaced};
 ghost use Rattle.rv32_select.specs.Emitting.{Moved, Sent};
@@ -206,8 +206,8 @@ impl<'a> Context<'a> {
     pub(crate) fn source(&self, operand: Operand) -> Source
         requires { Writable (program_of self.now.low.now) self.now.places.now
             × OperandPlaced (program_of self.now.low.now) self.now.places.now operand }
-        ensures { (result ≡ source_of (program_of self.now.low.now) self.now.places.now
-            self.now.cells self.now.stack operand) × IsSource result }
+        ensures { (result ≡ source_of (program_of self.now.low.now) self.now.places.now operand)
+            × IsSource result }
     {
         match operand {
             Operand::Var(x) => Source::At(self.places.place(x)),
@@ -223,8 +223,9 @@ impl<'a> Context<'a> {
         requires { Writable (program_of self.now.low.now) self.now.places.now
             × OperandsPlaced (program_of self.now.low.now) self.now.places.now operands.now }
         ensures { IfOk result (λ sources.
-            (sources.items ≡ sources_of (program_of self.now.low.now) self.now.places.now
-            self.now.cells self.now.stack operands.now) × AreSources sources.items) }
+            (sources.items
+            ≡ sources_of (program_of self.now.low.now) self.now.places.now operands.now)
+            × AreSources sources.items) }
     {
         let mut sources = Vec::new(self.alloc);
         for operand in operands {
@@ -252,8 +253,8 @@ impl<'a> Context<'a> {
         requires { Writable (program_of self.now.low.now) self.now.places.now
             × (proc < length self.now.low.now.procs) }
         ensures { IfOk result (λ spots.
-            (spots.items ≡ argument_spots_of (program_of self.now.low.now) self.now.places.now
-            self.now.cells self.now.stack proc) × AreTargets spots.items) }
+            (spots.items ≡ argument_spots_of (program_of self.now.low.now) self.now.places.now proc)
+            × AreTargets spots.items) }
     {
         let places = self.spots(self.low.procs.as_slice()[proc as usize].params.as_slice())?;
         spots_for(self.alloc, places.as_slice())

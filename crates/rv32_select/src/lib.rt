@@ -3,8 +3,10 @@
 
 ghost use Rattle.std.specs.Prelude.{IfOk};
 ghost use Rattle.low_code.specs.Tree.{program_of};
+ghost use Rattle.low_code.specs.Run.{NeverMissing};
 ghost use Rattle.rv32_select.specs.Selectable.{Selectable};
 ghost use Rattle.rv32_select.specs.IsSelected.{IsSelected};
+ghost use Rattle.rv32_select.specs.Selects.{Selects};
 
 use crate::blocks::Selection;
 use crate::code::Code;
@@ -27,7 +29,7 @@ pub use laws::selected_items_do;
 pub use source::{Source, Way};
 
 /// The items of a program over its places, for a heap of so many cells and frames of so many bytes.
-/// `AllocError` where memory is wanting.
+/// Where the program is never missing, they do what it does. `AllocError` where memory is wanting.
 pub fn select(
     alloc: Global,
     low: &Low,
@@ -38,6 +40,8 @@ pub fn select(
     requires { Selectable (program_of low.now) places.now cells stack }
     ensures selected { IfOk result (λ asm.
         IsSelected (program_of low.now) places.now cells stack asm.items) }
+    ensures does { IfOk result (λ asm. NeverMissing (program_of low.now)
+        → Selects (program_of low.now) places.now cells stack asm.items) }
 {
     let context = Context {
         alloc,

@@ -83,9 +83,7 @@ impl<'a> Context<'a> {
         requires { Writable (program_of self.now.low.now) self.now.places.now }
         ensures { IfOk result (λ sources.
             (sources.items ≡ sources_of (program_of self.now.low.now) self.now.places.now
-            self.now.cells self.now.stack
-            (argument_of_start (program_of self.now.low.now) self.now.places.now self.now.cells
-            self.now.stack self.now.low.now.argument)) × AreSources sources.items) }
+            (argument_of_start self.now.low.now.argument)) × AreSources sources.items) }
     {
         match self.low.argument {
             None => self.sources(&[]),
@@ -100,11 +98,9 @@ impl<'a> Context<'a> {
         requires globals { length self.now.low.now.globals ≤ 131072 }
         ensures { OnOk result (code.new ≡ code.old
             ++ start_items 2013265920 1342177280
-            (end_of_heap (program_of self.now.low.now) self.now.places.now self.now.cells
-            self.now.stack) (bytes_of_cell (program_of self.now.low.now) self.now.places.now
-            self.now.cells self.now.stack)
-            (heap_full_label (program_of self.now.low.now) self.now.places.now self.now.cells
-            self.now.stack) self.now.low.now.globals) }
+            (end_of_heap (program_of self.now.low.now) self.now.cells)
+            (bytes_of_cell (program_of self.now.low.now))
+            (heap_full_label (program_of self.now.low.now)) self.now.low.now.globals) }
     {
         let globals = self.low.globals.as_slice();
         let step = 4 * self.low.width;
@@ -119,8 +115,7 @@ impl<'a> Context<'a> {
     pub(crate) fn first_call(&self, code: &mut Code) -> Result<(), AllocError>
         requires { Writable (program_of self.now.low.now) self.now.places.now }
         ensures { OnOk result (code.new ≡ code.old
-            ++ first_call_items (program_of self.now.low.now) self.now.places.now self.now.cells
-            self.now.stack) }
+            ++ first_call_items (program_of self.now.low.now) self.now.places.now) }
     {
         let to = self.argument_spots(self.low.start)?;
         let from = self.start_sources()?;
@@ -169,8 +164,7 @@ impl<'a> Context<'a> {
     pub(crate) fn stops(&self, code: &mut Code) -> Result<(), AllocError>
         requires { Writable (program_of self.now.low.now) self.now.places.now }
         ensures { OnOk result (code.new ≡ code.old
-            ++ stop_items (no_alternative_label (program_of self.now.low.now) self.now.places.now
-            self.now.cells self.now.stack)) }
+            ++ stop_items (no_alternative_label (program_of self.now.low.now))) }
     {
         code.stops(self.no_alternative())
     }

@@ -17,9 +17,9 @@ use grin_translate::translate;
 use points_to::solve;
 use seq::Seq;
 use std::alloc::{AllocError, Global};
-use std::fmt::Write;
 use std::mem;
 use std::test::Fail;
+use worked_texts::many_delayed;
 
 /// `Nil` and `Cons`, 25 bytes.
 pub(crate) const LISTS: &str = "data Nil 0; data Cons 2; ";
@@ -62,24 +62,6 @@ fn largest(alloc: Global, text: &str) -> Result<u64, Fail> {
         largest = expanded_size(&g, &flow).max(largest);
     }
     Ok(largest)
-}
-
-/// A text in which k functions are delayed, and each of their results is given to one function.
-/// Once inlined, its program has the size 9 k k + 14 k + 42.
-pub(crate) fn many_delayed(alloc: Global, k: u32) -> Result<String, AllocError> {
-    let mut text = String::from_str(alloc, LISTS)?;
-    for i in 0..k {
-        write!(text, "f{i} x = x; ")?;
-    }
-    text.push_str("h y = let ")?;
-    for i in 0..k {
-        write!(text, "b{i} = f{i} y; ")?;
-    }
-    for i in 0..k {
-        write!(text, "c{i} = h b{i}; ")?;
-    }
-    text.push_str("in Nil; main = h Nil;")?;
-    Ok(text)
 }
 
 /// A program with applications, behind the prelude: `k` is given its arguments one at a time.

@@ -1,10 +1,11 @@
 //! Stages with vectors in place of node variables: one that was worked by hand, and those of small
 //! and large programs.
 
-use crate::tests::{LISTS, checked, listed, many_delayed};
+use crate::tests::{LISTS, checked, listed};
 use grin_opt::PassName;
 use grin_stages::stage;
 use std::test::Fail;
+use worked_texts::many_delayed;
 
 /// A program in which a delayed call has three fields, and a value two at most, behind the prelude.
 const DELAYED: &str = "first a b c = a; main = Cons 65 (first Nil Nil Nil);";

@@ -3,7 +3,7 @@ use Rattle.std.proofs.Common.{◌≡◌, List, sym, subst, arith}
 use Rattle.grin_syntax.specs.Tree.{Program}
 use Rattle.grin_meaning.specs.Ready.{Ready}
 use Rattle.grin_meaning.specs.Keeps.{Keeps}
-use Rattle.grin_meaning.specs.Looking.{NeverMissed}
+use Rattle.grin_meaning.specs.Looking.{LooksNeverMissing}
 use Rattle.grin_meaning.proofs.Looked.{looking_law}
 use Rattle.flow_system.specs.Tables.{tables}
 use Rattle.flow_system.specs.System.{system}
@@ -18,7 +18,7 @@ use Rattle.unbox.proofs.Shape.{procs_inlined, procs_by_words, procs_vectorised, 
 use Rattle.unbox.proofs.Well.{unboxed_formed, unboxed_outside}
 
 module _ (g : Program) (A : Solution) (M : Procedures) (of : OfVectors g) (least : IsLeast (tables g) (system g) A) (are : IsMembers A g M) where
-  kept : NeverMissed (unboxed M g) × Keeps g (unboxed M g)
+  kept : LooksNeverMissing (unboxed M g) × Keeps g (unboxed M g)
   kept = unboxed_kept g A M of.formed ((looking_law g of.ready.inlined).sees of.ready.never_missing of.ready.runs) least.solves are.closed of.ready.inlined of.vectorised
 
   ready : Ready (unboxed M g)

@@ -20,7 +20,7 @@ use Rattle.grin_meaning.specs.Checks.{has_block, is_given, fills, all_fill, is_b
 use Rattle.grin_meaning.specs.Ready.{EachAct, EachCode, EachArms, NoNodeTarget, EachBody, inlined_kind, vectorised_kind}
 use Rattle.grin_meaning.specs.Follows.{Same, same, Every}
 use Rattle.grin_meaning.specs.Keeps.{world_of, Keeps}
-use Rattle.grin_meaning.specs.Looking.{look, NeverMissed}
+use Rattle.grin_meaning.specs.Looking.{look, LooksNeverMissing}
 use Rattle.grin_meaning.proofs.Back.{CallsBack}
 use Rattle.grin_meaning.proofs.Names.{Any, any_act, any_val, any_cells}
 use Rattle.grin_meaning.proofs.Beside.{Beside, beside, Likewise, free, no_deeper}
@@ -378,12 +378,12 @@ module _ (g : Program) (A : Solution) (M : Procedures) where
       given = given_too g (M f);
     }) (bodies_like (suc f) qs i.1 u.1 (once_right (numbers_of q.params ++ code_vars q.body) (procs_vars qs) n) k.1)
 
-  module _ (formed : Formed g) (never : NeverMissed g) (solves : Solves (tables g) (system g) A) (closed : Closed A g M) (inlined : EachBody inlined_kind g.procs) (vectors : EachBody vectorised_kind g.procs) where
+  module _ (formed : Formed g) (never : LooksNeverMissing g) (solves : Solves (tables g) (system g) A) (closed : Closed A g M) (inlined : EachBody inlined_kind g.procs) (vectors : EachBody vectorised_kind g.procs) where
     all_lie : (i : List ℕ) (n : ℕ) → Every (Lies g A) (world_of (look g i n)).seen
     all_lie i n = subst (λ a. Every (Lies g A) (world_of a).seen) (sym (look_agrees g i n (never i n))) ((covers g A (formed_is_started g formed) solves).passed i n)
 
     goes_likewise : (i : List ℕ) (n : ℕ) → Likewise no_deeper (Gives (M g.start.0)) (look g i n) (look (unboxed M g) i n)
     goes_likewise i n = run_follows plan (λ c c' cb cf. bodies_like c c' cb cf 0 g.procs inlined vectors formed.variables_once closed) i n same same (all_lie i n)
 
-    pub unboxed_kept : NeverMissed (unboxed M g) × Keeps g (unboxed M g)
+    pub unboxed_kept : LooksNeverMissing (unboxed M g) × Keeps g (unboxed M g)
     unboxed_kept = looking_kept g (unboxed M g) never (λ i n. likewise_kept no_deeper (Gives (M g.start.0)) (look g i n) (look (unboxed M g) i n) (goes_likewise i n))

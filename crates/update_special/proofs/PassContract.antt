@@ -3,7 +3,7 @@ use Rattle.std.proofs.Common.{◌≡◌, ℕ, ◌≤◌, List, length, sym, subs
 use Rattle.grin_syntax.specs.Tree.{Program}
 use Rattle.grin_meaning.specs.Ready.{Ready}
 use Rattle.grin_meaning.specs.Keeps.{Keeps}
-use Rattle.grin_meaning.specs.Looking.{NeverMissed}
+use Rattle.grin_meaning.specs.Looking.{LooksNeverMissing}
 use Rattle.grin_meaning.proofs.Looked.{looking_law}
 use Rattle.flow_system.specs.Tables.{tables}
 use Rattle.flow_system.specs.System.{system}
@@ -20,7 +20,7 @@ module _ (g : Program) (A : Solution) (of : OfVectors g) (least : IsLeast (table
   abbrev T : ℕ → List ℕ
   T = tags_of (length g.tags) A
 
-  kept : NeverMissed (updated A g) × Keeps g (updated A g)
+  kept : LooksNeverMissing (updated A g) × Keeps g (updated A g)
   kept = updated_kept g A of.formed ((looking_law g of.ready.inlined).sees of.ready.never_missing of.ready.runs) least.solves
 
   ready : Ready (updated A g)

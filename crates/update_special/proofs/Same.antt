@@ -12,7 +12,7 @@ use Rattle.grin_meaning.specs.Checks.{is_given, fills, is_bound_well}
 use Rattle.grin_meaning.specs.Rewritten.{rewritten_procedure}
 use Rattle.grin_meaning.specs.Follows.{Same, same, Every}
 use Rattle.grin_meaning.specs.Keeps.{world_of, Keeps}
-use Rattle.grin_meaning.specs.Looking.{look, NeverMissed}
+use Rattle.grin_meaning.specs.Looking.{look, LooksNeverMissing}
 use Rattle.grin_meaning.proofs.Back.{CallsBack}
 use Rattle.grin_meaning.proofs.Names.{Any, any_act, any_val, any_cells}
 use Rattle.grin_meaning.proofs.Beside.{beside, Likewise, no_deeper, Seen, Sim, need_first}
@@ -228,12 +228,12 @@ module _ (g : Program) (A : Solution) where
       given = λ v v' u seen. given_same u seen;
     }) (bodies_like (suc f) qs)
 
-  module _ (formed : Formed g) (never : NeverMissed g) (solves : Solves (tables g) (system g) A) where
+  module _ (formed : Formed g) (never : LooksNeverMissing g) (solves : Solves (tables g) (system g) A) where
     all_lie : (i : List ℕ) (n : ℕ) → Every (Lies g A) (world_of (look g i n)).seen
     all_lie i n = subst (λ a. Every (Lies g A) (world_of a).seen) (sym (look_agrees g i n (never i n))) ((covers g A (formed_is_started g formed) solves).passed i n)
 
     goes_likewise : (i : List ℕ) (n : ℕ) → Likewise no_deeper Same (look g i n) (look (updated A g) i n)
     goes_likewise i n = run_follows plan (λ c c' cb cf. bodies_like c c' cb cf 0 g.procs) i n same same (all_lie i n)
 
-    pub updated_kept : NeverMissed (updated A g) × Keeps g (updated A g)
+    pub updated_kept : LooksNeverMissing (updated A g) × Keeps g (updated A g)
     updated_kept = looking_kept g (updated A g) never (λ i n. likewise_kept no_deeper Same (look g i n) (look (updated A g) i n) (goes_likewise i n))

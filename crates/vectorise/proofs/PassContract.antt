@@ -11,7 +11,7 @@ use Rattle.grin_syntax.proofs.Scopes.{with_procs, same_sites, formed_with}
 use Rattle.grin_meaning.specs.Ready.{Ready}
 use Rattle.grin_meaning.specs.Rewritten.{rewritten_procedure}
 use Rattle.grin_meaning.specs.Keeps.{Keeps}
-use Rattle.grin_meaning.specs.Looking.{NeverMissed}
+use Rattle.grin_meaning.specs.Looking.{LooksNeverMissing}
 use Rattle.grin_meaning.proofs.Looked.{looking_law}
 use Rattle.vectorise.specs.Known.{Layout, layout_of, Table, table_of}
 use Rattle.vectorise.specs.Vectors.{wide_code, vectorised}
@@ -67,10 +67,10 @@ module _ (g : Program) (formed : Formed g) where
   )
 
   module _ (ready : Ready g) (whole : IsWhole g) where
-    never : NeverMissed g
+    never : LooksNeverMissing g
     never = (looking_law g ready.inlined).sees ready.never_missing ready.runs
 
-    kept : NeverMissed (vectorised g) × Keeps g (vectorised g)
+    kept : LooksNeverMissing (vectorised g) × Keeps g (vectorised g)
     kept = vectorised_kept g formed never ready.inlined whole
 
     pub vectorised_ready : Ready (vectorised g)

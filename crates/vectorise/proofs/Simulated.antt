@@ -20,7 +20,7 @@ use Rattle.grin_meaning.specs.Checks.{has_block, is_fetch, is_node_target, is_de
 use Rattle.grin_meaning.specs.Ready.{value_fields, most_value_fields, EachAct, EachCode, EachArms, EachBody, inlined_kind}
 use Rattle.grin_meaning.specs.Rewritten.{rewritten_procedure}
 use Rattle.grin_meaning.specs.Keeps.{Keeps}
-use Rattle.grin_meaning.specs.Looking.{look, NeverMissed}
+use Rattle.grin_meaning.specs.Looking.{look, LooksNeverMissing}
 use Rattle.grin_meaning.specs.Follows.{Same, same}
 use Rattle.grin_meaning.specs.Full.{FullNode, FullCell, FullState}
 use Rattle.grin_meaning.proofs.Back.{CallsBack}
@@ -71,7 +71,7 @@ once_middle scope xs os bs once y =
 target_new : (scope : Scope) (xs ys : List ℕ) → Once scope (xs ++ ys) → (y : ℕ) → InScope xs y → times y scope.nodes + times y scope.words ≡ 0
 target_new scope xs ys once y i = let o : times y scope.nodes + times y scope.words + times y (xs ++ ys) ≤ 1 = once y in let e : times y (xs ++ ys) ≡ times y xs + times y ys = times_append y xs ys in omega (arith, o, e, i)
 
-module _ (g : Program) (formed : Formed g) (never : NeverMissed g) (inlined : EachBody inlined_kind g.procs) (whole : IsWhole g) where
+module _ (g : Program) (formed : Formed g) (never : LooksNeverMissing g) (inlined : EachBody inlined_kind g.procs) (whole : IsWhole g) where
   abbrev l : Layout
   l = layout_of g
 
@@ -443,5 +443,5 @@ module _ (g : Program) (formed : Formed g) (never : NeverMissed g) (inlined : Ea
   goes_likewise i n = run_follows plan (λ c c' cb cf. bodies_go c c' cb cf 0 g.procs formed.procedures inlined whole (all_known g formed) formed.variables_once (omega arith)) i n
       same same (nodes_full g formed true i n).passed
 
-  pub vectorised_kept : NeverMissed (vectorised g) × Keeps g (vectorised g)
+  pub vectorised_kept : LooksNeverMissing (vectorised g) × Keeps g (vectorised g)
   vectorised_kept = looking_kept g (vectorised g) never (λ i n. likewise_kept no_deeper (Gives g l.most_value) (look g i n) (look (vectorised g) i n) (goes_likewise i n))

@@ -8,8 +8,8 @@ use Rattle.fetch_passes.proofs.windows.outside.Given as goal
 abbrev pub invariant-loop-at : goal.invariant-loop-at
 invariant-loop-at l = record {
   within : l.at ≤ length l.stmts;
-  some : l.found ≡ outside l.t.0 l.x.0 (code_from l.stmts l.at (end (act_of l.last)));
-  uses : l.used ≡ code_uses l.x.0 (code_from l.stmts l.at (end (act_of l.last)));
+  found : l.uses.outside ≡ outside l.t.0 l.x.0 (code_from l.stmts l.at (end (act_of l.last)));
+  any : l.uses.any ≡ code_uses l.x.0 (code_from l.stmts l.at (end (act_of l.last)));
 }
 
 abbrev pub decreases-loop-at : goal.decreases-loop-at

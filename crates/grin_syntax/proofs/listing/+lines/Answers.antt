@@ -5,7 +5,7 @@ use Rattle.grin_syntax.proofs.listing.+lines.Goals as goal
 
 pub put_block-returns : goal.put_block-returns
 put_block-returns t c = (
-  block_put _ _ c.args.block.now _ _ (take c.loop-stmt.stmt-index c.as_slice-stmt-items.result.now) c.deref.result.now _ _ _ _ c.loop-stmt.invariant.margin_stays c.loop-stmt.invariant.so_far (take_all _ _ (search rules) ∙ search rules) (search rules) c.in_ok-line.ensures c.in_ok-put_op.ensures.0,
+  block_put _ _ c.args.block.now _ _ (take c.loop-stmt.stmt-index c.as_slice-stmt-items.result.now) c.deref.result.now _ _ _ _ c.loop-stmt.invariant.margin_stays c.loop-stmt.invariant.so_far (take_all _ _ (search rules) ∙ search rules) (search rules) c.in_ok-append.ensures c.in_ok-put_op.ensures.0,
   search rules,
 )
 

@@ -1,29 +1,35 @@
-use Rattle.std.proofs.Common.{◌≡◌, ◌^◌, ◌<◌, length, slice_index_or, sym, ap, ◌∙◌, subst, rules, arith}
-use Rattle.std.proofs.lemmas.List.{get_or_read}
-use Rattle.register_alloc.proofs.Positions.{within_found, within_next, within_past}
+use Rattle.std.proofs.Common.{◌≡◌, ◌<◌, ◌≤◌, true, false, length, Some, slice_get, refl, sym, ◌∙◌, subst, arith, rules}
+use Rattle.std.proofs.lemmas.Bool.Decides.{nat_tests}
+use Rattle.std.proofs.lemmas.List.Sorted.{IsPartitionPoint-from_clause}
+use Rattle.std.proofs.lemmas.Option.{slice_get_read}
+use Rattle.std.specs.List.Sorted.{IsPartitionedBy, IsPartitionPoint}
+use Rattle.register_alloc.specs.declared.uses.Use.{Use}
+use Rattle.register_alloc.proofs.Positions.{is_before, before_is, parted, within_next, within_past}
 use Rattle.register_alloc.proofs.uses.Uses.within.Goals as goal
 
-pub returns-in-Ok : goal.returns-in-Ok
-returns-in-Ok c used are =
-    let hf : c.args.from < 2 ^ 32 = omega arith in
-    let ht : c.args.to < 2 ^ 32 = omega arith in
-    within_found used c.args.self.now are c.args.variable c.args.from c.args.to hf ht c.deref.result.now c.deref.ensures.value c.key-first.result c.key-first.ensures c.in-Ok.field-0 c.in-Ok.ensures.position
+pub returns-then-next-len : goal.returns-then-next-len
+returns-then-next-len c used are =
+    let first : Use = record { variable = c.args.variable; at = c.args.from } in
+    let end : Use = record { variable = c.args.variable; at = c.args.to } in
+    let us = c.args.self.now.uses.items in
+    let next = c.partition_point-next.result in
+    let point = IsPartitionPoint-from_clause (is_before first) c.deref.result.now _ c.partition_point-next.ensures.partitioned (subst (λ l. IsPartitionedBy (is_before first) l) (sym c.deref.ensures.value) (parted us first are.ascending)) (λ a r q k. search (rules, before_is)) in
+    let inside : next < length us = search rules in
+    let there : slice_get us next ≡ Some c.index.result.now = slice_get_read us (length us) next c.index.result.now refl inside c.index.ensures in
+    let is : c.lt.result ≡ is_before end c.index.result.now = c.lt.ensures ∙ before_is end c.index.result.now in
+    let both = within_next used c.args.self.now are c.args.variable c.args.from c.args.to next
+    (subst (λ l. IsPartitionPoint (λ v. is_before first v ≡ true) (λ v. is_before first v ≡ false) l next) c.deref.ensures.value point) c.index.result.now there in
+    (λ e. both.0 (sym is ∙ e), λ w. is ∙ both.1 w)
 
-pub returns-then-at-len : goal.returns-then-at-len
-returns-then-at-len c used are =
-    let hf : c.args.from < 2 ^ 32 = omega arith in
-    let ht : c.args.to < 2 ^ 32 = omega arith in
-    let small : c.in-Err.at < length c.deref.result.now = search rules in
-    let is : c.index.result.now ≡ slice_index_or c.deref.result.now c.in-Err.at 0 =
-    get_or_read c.args.self.now.keys.items c.in-Err.at _ (subst (λ ks. c.in-Err.at < length ks) c.deref.ensures.value small) c.index.ensures 0 ∙ ap (λ ks. slice_index_or ks c.in-Err.at 0) (sym c.deref.ensures.value)
-    in
-    within_next used c.args.self.now are c.args.variable c.args.from c.args.to hf ht c.deref.result.now c.deref.ensures.value c.key-first.result c.key-first.ensures c.in-Err.at c.key.result c.index.result.now
-    c.in-Err.ensures.position small is c.key.ensures
-
-pub returns-else-at-len : goal.returns-else-at-len
-returns-else-at-len c used are =
-    let hf : c.args.from < 2 ^ 32 = omega arith in
-    let ht : c.args.to < 2 ^ 32 = omega arith in
-    let many : c.len.result ≡ length c.deref.result.now = search rules in
-    within_past used c.args.self.now are c.args.variable c.args.from c.args.to hf ht c.deref.result.now c.deref.ensures.value c.key-first.result c.key-first.ensures c.in-Err.at c.len.result
-    c.in-Err.ensures.position many c.if-at-len.false
+pub returns-else-next-len : goal.returns-else-next-len
+returns-else-next-len c used are =
+    let first : Use = record { variable = c.args.variable; at = c.args.from } in
+    let us = c.args.self.now.uses.items in
+    let next = c.partition_point-next.result in
+    let point = IsPartitionPoint-from_clause (is_before first) c.deref.result.now _ c.partition_point-next.ensures.partitioned (subst (λ l. IsPartitionedBy (is_before first) l) (sym c.deref.ensures.value) (parted us first are.ascending)) (λ a r q k. search (rules, before_is)) in
+    let past : length us ≤ next = search rules in
+    let none = within_past used c.args.self.now are c.args.variable c.args.from c.args.to next
+    (subst (λ l. IsPartitionPoint (λ v. is_before first v ≡ true) (λ v. is_before first v ≡ false) l next) c.deref.ensures.value point) past in (
+      λ e. let less : next < c.len.result = grind (arith, nat_tests) in let over : c.len.result ≤ next = c.if-next-len.false in absurd (omega arith),
+      λ w. absurd (none w),
+    )

@@ -1,8 +1,7 @@
 use Rattle.std.proofs.Common.{◌≡◌, ◌++◌, ◌≤◌, ◌+◌, suc, length, refl, sym, ap, ◌∙◌, subst, arith, rules}
 use Rattle.std.proofs.lemmas.Option.{slice_get_read}
 use Rattle.low_code.specs.Tree.{before_of, end_of, code_of}
-use Rattle.register_alloc.specs.Calls.{sites_of_calls}
-use Rattle.low_code.specs.Formed.{binds, arms_binds, calls_in, arms_calls}
+use Rattle.low_code.specs.Formed.{binds, arms_binds}
 use Rattle.low_code.proofs.TreeOf.{before_of-Join, code_of-parts}
 use Rattle.register_alloc.proofs.Walked.{ArmsLeft, StmtsLeft, arms_next, block_whole, grouped}
 use Rattle.register_alloc.proofs.walk.Walk.+walk.Goals as goal
@@ -11,30 +10,18 @@ pub arms-loop-arm-preserved : goal.arms-loop-arm-preserved
 arms-loop-arm-preserved t c =
     let there = slice_get_read c.args.arms.now (length c.args.arms.now) c.loop-arm.arm-index c.arm-item.result refl c.loop-arm-test.true c.arm-item.is in
     let n : suc c.loop-arm.arm-index ≡ c.loop-arm.arm-index + 1 = omega arith in
-    record {
-      variables = subst (λ k. ArmsLeft binds arms_binds c.args.self.now.variables.items c.block.new.self.variables.items c.args.arms.now k) n
-          (arms_next binds arms_binds (λ ts b rest. refl) _ _ _ c.args.arms.now c.loop-arm.arm-index c.arm-item.result there c.in_ok-block.ensures.variables c.loop-arm.invariant.variables);
-      calls = subst (λ k. ArmsLeft calls_in arms_calls (sites_of_calls c.args.self.now.calls.items) (sites_of_calls c.block.new.self.calls.items) c.args.arms.now k) n
-          (arms_next calls_in arms_calls (λ ts b rest. refl) _ _ _ c.args.arms.now c.loop-arm.arm-index c.arm-item.result there c.in_ok-block.ensures.calls c.loop-arm.invariant.calls);
-    }
+    subst (λ k. ArmsLeft binds arms_binds c.args.self.now.variables.items c.block.new.self.variables.items c.args.arms.now k) n
+    (arms_next binds arms_binds (λ ts b rest. refl) _ _ _ c.args.arms.now c.loop-arm.arm-index c.arm-item.result there c.in_ok-block.ensures c.loop-arm.invariant)
 
-pub block-returns-clause-variables : goal.block-returns-clause-variables
-block-returns-clause-variables t c =
+pub block-returns : goal.block-returns
+block-returns t c =
     let past = subst (λ ss. length ss ≤ c.loop-stmt.stmt-index) c.as_slice-stmt-items.ensures c.loop-stmt-test.false in
-    let left = subst (λ ss. StmtsLeft binds c.args.self.now.variables.items c.loop-stmt.self.variables.items ss c.loop-stmt.stmt-index) c.as_slice-stmt-items.ensures c.loop-stmt.invariant.variables in
-    block_whole binds c.args.self.now.variables.items _ _ c.args.block.now.stmts c.loop-stmt.stmt-index (end_of c.args.block.now.last) past left c.in_ok-end.ensures.variables
+    let left = subst (λ ss. StmtsLeft binds c.args.self.now.variables.items c.loop-stmt.self.variables.items ss c.loop-stmt.stmt-index) c.as_slice-stmt-items.ensures c.loop-stmt.invariant in
+    block_whole binds c.args.self.now.variables.items _ _ c.args.block.now.stmts c.loop-stmt.stmt-index (end_of c.args.block.now.last) past left c.in_ok-end.ensures
     ∙ ap (λ b. c.args.self.now.variables.items ++ binds b) (sym (code_of-parts c.args.block.now))
 
-pub block-returns-clause-calls : goal.block-returns-clause-calls
-block-returns-clause-calls t c =
-    let past = subst (λ ss. length ss ≤ c.loop-stmt.stmt-index) c.as_slice-stmt-items.ensures c.loop-stmt-test.false in
-    let left = subst (λ ss. StmtsLeft calls_in (sites_of_calls c.args.self.now.calls.items) (sites_of_calls c.loop-stmt.self.calls.items) ss c.loop-stmt.stmt-index) c.as_slice-stmt-items.ensures c.loop-stmt.invariant.calls in
-    block_whole calls_in (sites_of_calls c.args.self.now.calls.items) _ _ c.args.block.now.stmts c.loop-stmt.stmt-index (end_of c.args.block.now.last) past left c.in_ok-end.ensures.calls
-    ∙ ap (λ b. (sites_of_calls c.args.self.now.calls.items) ++ calls_in b) (sym (code_of-parts c.args.block.now))
-
-pub stmt-returns-in_ok-bind-in-Join-clause-variables :
-    goal.stmt-returns-in_ok-bind-in-Join-clause-variables
-stmt-returns-in_ok-bind-in-Join-clause-variables t c after =
+pub stmt-returns-in_ok-bind-in-Join : goal.stmt-returns-in_ok-bind-in-Join
+stmt-returns-in_ok-bind-in-Join t c after =
     let old = c.args.self.now.variables.items in
     let block : c.block.new.self.variables.items ≡ old ++ binds (code_of c.in-Join.block.value) = search rules in
     let bound : c.bind-in-Join.new.self.variables.items ≡ c.block.new.self.variables.items ++ c.in-Join.xs = search rules in
@@ -44,14 +31,3 @@ stmt-returns-in_ok-bind-in-Join-clause-variables t c after =
     ∙ ap (λ l. l ++ (c.in-Join.xs ++ binds after)) (sym block)
     ∙ grouped c.block.new.self.variables.items c.in-Join.xs (binds after)
     ∙ ap (λ l. l ++ binds after) (sym bound)
-
-pub stmt-returns-in_ok-bind-in-Join-clause-calls :
-    goal.stmt-returns-in_ok-bind-in-Join-clause-calls
-stmt-returns-in_ok-bind-in-Join-clause-calls t c after =
-    let old = (sites_of_calls c.args.self.now.calls.items) in
-    let block : (sites_of_calls c.block.new.self.calls.items) ≡ old ++ calls_in (code_of c.in-Join.block.value) = search rules in
-    let bound : (sites_of_calls c.bind-in-Join.new.self.calls.items) ≡ (sites_of_calls c.block.new.self.calls.items) = search rules in
-    ap (λ s. old ++ calls_in (before_of s after)) c.in-Join.is
-    ∙ ap (λ f. old ++ calls_in (f after)) (before_of-Join c.in-Join.xs c.in-Join.block)
-    ∙ grouped old (calls_in (code_of c.in-Join.block.value)) (calls_in after)
-    ∙ ap (λ l. l ++ calls_in after) (sym block ∙ sym bound)

@@ -1,0 +1,9 @@
+// The one or the other of two answers, both known.
+
+ghost use Rattle.std.specs.Prelude.{◌≡◌, ◌||◌};
+
+pub(crate) fn either(a: bool, b: bool) -> bool
+    ensures { result ≡ (a || b) }
+{
+    a || b
+}
