@@ -8,7 +8,7 @@ use points_to::{Flow, solve, solve_by_rounds};
 use std::alloc::{AllocError, Global};
 use std::fmt::Write;
 use std::test::Fail;
-use worked_texts::{INTERPRETER, PRIMES, QUEENS, SORT, many_delayed};
+use worked_texts::{INTERPRETER, LIFE, QUEENS, SORT, many_delayed};
 
 /// Programs over lists: with and without delayed calls, waiting functions, global cells, cells that
 /// hold themselves, and numbers.
@@ -163,7 +163,7 @@ fn both_agree_on_texts(rt: HostRuntime) -> Result<(), Fail> {
 
 #[test]
 fn both_agree_on_examples(rt: HostRuntime) -> Result<(), Fail> {
-    for text in [QUEENS, SORT, PRIMES, INTERPRETER] {
+    for text in [QUEENS, SORT, LIFE, INTERPRETER] {
         assert!(rt; agree(rt.alloc(), &whole(rt.alloc(), text)?)?, "{text}");
     }
     Ok(())

@@ -7,17 +7,19 @@ use Rattle.std.proofs.lemmas.List.{drop_more}
 use Rattle.core_reader.specs.declared.syntax.Data as code-data
 use Rattle.core_reader.specs.declared.syntax.Function as code-function
 use Rattle.core_reader.specs.Tree.{Data, Function, data_of, function}
+use Rattle.arity_check.specs.declared.order.First.{First}
 use Rattle.arity_check.specs.declared.refusal.CheckRefusal.{CheckRefusal}
 use Rattle.arity_check.specs.Scope.{Scope}
-use Rattle.arity_check.specs.Known.{Known}
+use Rattle.arity_check.specs.Known.{Known, entered, all_entered}
 use Rattle.arity_check.specs.Tables.{kind_or_plain, or_else, first_of, second_of}
 use Rattle.arity_check.specs.Refusal.{least}
-use Rattle.arity_check.specs.Faults.{also}
+use Rattle.core_reader.specs.declared.syntax.Binder.{Binder}
+use Rattle.arity_check.specs.Faults.{also, binder_faults, binders_faults}
 use Rattle.arity_check.specs.Whole.{kind_of, kind_at, con_faults, cons_faults, header_faults, body_faults, functions_faults, fields_at, constructor_at}
 use Rattle.arity_check.proofs.Counts.{two}
 
 pub more_cons : (k : Known) (seen seen' : ℕ → Bool) (items : List code-data.Data) (i : ℕ) (x : code-data.Data) → i < length items → x ≡ get_or items i x
-    → (o o1 o2 : Option CheckRefusal) → seen' ≡ also x.name.0 seen → o2 ≡ least o1 (con_faults k i (λ y. seen x.name.0) (data_of x))
+    → (o o1 o2 : First) → seen' ≡ also x.name.0 seen → o2 ≡ least o1 (con_faults k i (λ y. seen x.name.0) (data_of x))
     → least o1 (cons_faults k i seen (map data_of (drop i items))) ≡ o → least o2 (cons_faults k (i + 1) seen' (map data_of (drop (i + 1) items))) ≡ o
 more_cons k seen seen' items i x l is o o1 o2 s e h =
     let rest : List Data = map data_of (drop (i + 1) items) in
@@ -27,7 +29,7 @@ more_cons k seen seen' items i x l is o o1 o2 s e h =
     ∙ ap (λ t. least o1 (cons_faults k i seen (map data_of t))) (sym d) ∙ h
 
 pub more_functions : (k : Known) (sc : Scope) (seen seen' : ℕ → Bool) (items : List code-function.Function) (i : ℕ) (x : code-function.Function) → i < length items → x ≡ get_or items i x
-    → (o o1 o2 o3 : Option CheckRefusal) → seen' ≡ also x.name.0 seen → o2 ≡ least o1 (header_faults k i (λ y. seen x.name.0) (function x)) → o3 ≡ least o2 (body_faults k sc (function x))
+    → (o o1 o2 o3 : First) → seen' ≡ also x.name.0 seen → o2 ≡ least o1 (header_faults k i (λ y. seen x.name.0) (function x)) → o3 ≡ least o2 (body_faults k sc (function x))
     → least o1 (functions_faults k sc i seen (map function (drop i items))) ≡ o → least o3 (functions_faults k sc (i + 1) seen' (map function (drop (i + 1) items))) ≡ o
 more_functions k sc seen seen' items i x l is o o1 o2 o3 s e g h =
     let rest : List Function = map function (drop (i + 1) items) in
@@ -49,7 +51,7 @@ same_item (x ∷ xs) (suc i) d e l = same_item xs i d e (omega (arith, l))
 
 -- the same for an item that is read with a default
 pub more_cons_at : (k : Known) (seen seen' : ℕ → Bool) (items : List code-data.Data) (i : ℕ) (d : code-data.Data) → i < length items
-    → (o o1 o2 : Option CheckRefusal) → seen' ≡ also (get_or items i d).name.0 seen → o2 ≡ least o1 (con_faults k i (λ y. seen (get_or items i d).name.0) (data_of (get_or items i d)))
+    → (o o1 o2 : First) → seen' ≡ also (get_or items i d).name.0 seen → o2 ≡ least o1 (con_faults k i (λ y. seen (get_or items i d).name.0) (data_of (get_or items i d)))
     → least o1 (cons_faults k i seen (map data_of (drop i items))) ≡ o → least o2 (cons_faults k (i + 1) seen' (map data_of (drop (i + 1) items))) ≡ o
 more_cons_at k seen seen' items i d l o o1 o2 s e h = more_cons k seen seen' items i (get_or items i d) l (same_item items i d (get_or items i d) l) o o1 o2 s e h
 
@@ -99,3 +101,20 @@ any_from test n (x ∷ xs) = go (any_from test (n + 1) xs) (test x)
 pub any_here : (test : Data → Bool) (items : List code-data.Data) (i : ℕ) (d : code-data.Data) (r : Bool) → i < length items → test (data_of (get_or items i d)) ≡ true → list_any test (map data_of (drop i items)) ≡ r → true ≡ r
 any_here test items i d r l e h =
     (λ j. sym e j || list_any test (map data_of (drop (i + 1) items))) ∙ ap (λ xs. list_any test (map data_of xs)) (sym (drop_more items i d l)) ∙ h
+
+-- one more binder of a list
+pub more_binders : (k : Known) (seen seen' : ℕ → Bool) (items : List Binder) (i : ℕ) (x : Binder) → i < length items → x ≡ get_or items i x
+    → (o o1 o2 : First) → seen' ≡ also x.name.0 seen → o2 ≡ least o1 (binder_faults k seen x)
+    → least o1 (binders_faults k seen (drop i items)) ≡ o → least o2 (binders_faults k seen' (drop (i + 1) items)) ≡ o
+more_binders k seen seen' items i x l is o o1 o2 s e h =
+    let rest : List Binder = drop (i + 1) items in
+    let d : drop i items ≡ x ∷ rest = drop_more items i x l ∙ ap (λ y. y ∷ rest) (sym is) in
+    ap (λ t. least o2 (binders_faults k t rest)) s ∙ two (binder_faults k seen x) (binders_faults k (also x.name.0 seen) rest) o1 o2 _ e refl
+    ∙ ap (λ t. least o1 (binders_faults k seen t)) (sym d) ∙ h
+
+pub more_entered : (k : Known) (items : List Binder) (i : ℕ) (x : Binder) → i < length items → x ≡ get_or items i x
+    → (s s1 s2 : Scope) → s2 ≡ entered k x s1 → all_entered k (drop i items) s1 ≡ s → all_entered k (drop (i + 1) items) s2 ≡ s
+more_entered k items i x l is s s1 s2 e h =
+    let rest : List Binder = drop (i + 1) items in
+    let d : drop i items ≡ x ∷ rest = drop_more items i x l ∙ ap (λ y. y ∷ rest) (sym is) in
+    ap (all_entered k rest) e ∙ ap (λ t. all_entered k t s1) (sym d) ∙ h

@@ -2,7 +2,7 @@
 use Rattle.std.specs.Prelude.{ℕ}
 use Rattle.core_reader.specs.Tree as tree
 use Rattle.core_reader.specs.Readable.{IsReadable}
-use Rattle.arity_check.specs.Order.{rank, IsBefore}
+use Rattle.arity_check.specs.Order.{Ranks, HasRank, IsBeforeIfRanked, all_ranked}
 use Rattle.arity_check.specs.Broken.{Broken}
 use Rattle.arity_check.specs.Normal.{IsNormalForm}
 use Rattle.arity_check.specs.Program.{Program}
@@ -11,10 +11,19 @@ use Rattle.arity_check.specs.Program.{Program}
 abbrev pub IsUnbroken : tree.Program → Type 0
 IsUnbroken p = (k at : ℕ) → Broken p k at → ⊥
 
--- rule k is broken at a place, and no broken rule comes before it
-pub record IsFirstBroken (p : tree.Program) (k at : ℕ) : Type 0 where
+-- no rule that counts is broken
+abbrev pub IsUnbrokenBy : Ranks → tree.Program → Type 0
+IsUnbrokenBy ranks p = (k at : ℕ) → Broken p k at → HasRank (ranks k at) → ⊥
+
+-- rule k is broken at a place and counts, and no broken rule that counts comes before it
+pub record IsFirstBrokenBy (ranks : Ranks) (p : tree.Program) (k at : ℕ) : Type 0 where
   pub broken : Broken p k at
-  pub first : (k' at' : ℕ) → Broken p k' at' → IsBefore (rank k at) (rank k' at')
+  pub counts : HasRank (ranks k at)
+  pub first : (k' at' : ℕ) → Broken p k' at' → IsBeforeIfRanked (ranks k at) (ranks k' at')
+
+-- rule k is broken at a place, and no broken rule comes before it
+abbrev pub IsFirstBroken : tree.Program → (k at : ℕ) → Type 0
+IsFirstBroken = IsFirstBrokenBy all_ranked
 
 -- the normal form of a program that reading could give and that breaks no rule
 pub record IsValid (q : Program) : Type 0 where

@@ -1,8 +1,10 @@
--- The order of refusals.
-use Rattle.std.specs.Prelude.{ℕ, ◌==◌, Bool, nat_lt, ◌&&◌, ◌||◌, List, [], ◌∷◌, Option, Some, None, if◌then◌else◌}
+-- What refusals name, and the first of some.
+use Rattle.std.specs.Prelude.{ℕ, ◌==◌, Bool, true, false, nat_lt, ◌&&◌, ◌||◌, List, [], ◌∷◌, Option, Some, None, if◌then◌else◌}
 use Rattle.arity_check.specs.declared.refusal.CheckRefusal.{CheckRefusal}
 use Rattle.arity_check.specs.declared.refusal.CheckRefusal.TheVariants.{DuplicateConstructor, DuplicateFunction, DuplicateName, UnknownName, ConstructorArity, DefaultNotLast, DuplicateAlternative, MixedAlternatives, ReservedName, PrimitiveArity, NoMain, MainHasParameters, NoListConstructors, TooManyFunctions, TooManyConstructors, TooManyParameters, TooManyFields, CoreTooLarge, Memory}
-use Rattle.arity_check.specs.Order.{rank}
+use Rattle.arity_check.specs.declared.order.Order.{Order}
+use Rattle.arity_check.specs.declared.order.First.{First}
+use Rattle.arity_check.specs.Order.{ranked}
 
 -- the number of the broken rule
 abbrev pub rule : CheckRefusal → ℕ
@@ -48,23 +50,32 @@ number (TooManyFields at) = at
 number (CoreTooLarge size) = size
 number (Memory e) = 0
 
-abbrev pub rank_of : CheckRefusal → ℕ × ℕ × ℕ
-rank_of r = rank (rule r) (number r)
+-- the rank of a refusal that counts
+abbrev pub rank_of : Order → CheckRefusal → Option (ℕ × ℕ × ℕ)
+rank_of order r = ranked order (rule r) (number r)
 
 abbrev pub before : ℕ × ℕ × ℕ → ℕ × ℕ × ℕ → Bool
 before a b =
     nat_lt a.0 b.0 || ((a.0 == b.0) && (nat_lt a.1 b.1 || ((a.1 == b.1) && nat_lt a.2 b.2)))
 
--- one refusal comes before another
-unfoldable pub is_before : CheckRefusal → CheckRefusal → Bool
-is_before r q = before (rank_of r) (rank_of q)
+-- what has a rank comes before what has a later one or none
+abbrev pub precedes : Option (ℕ × ℕ × ℕ) → Option (ℕ × ℕ × ℕ) → Bool
+precedes None b = false
+precedes (Some a) None = true
+precedes (Some a) (Some b) = before a b
 
--- the earlier one of two
-unfoldable pub earlier : Option CheckRefusal → CheckRefusal → Option CheckRefusal
-earlier None r = Some r
-earlier (Some q) r = if is_before r q then Some r else Some q
+abbrev pub rank_met : Order → Option CheckRefusal → Option (ℕ × ℕ × ℕ)
+rank_met order None = None
+rank_met order (Some r) = rank_of order r
 
--- the earliest of these and one that is known
-abbrev pub least : Option CheckRefusal → List CheckRefusal → Option CheckRefusal
-least o [] = o
-least o (r ∷ rs) = least (earlier o r) rs
+-- the first that was met, and one more
+unfoldable pub earlier : First → CheckRefusal → First
+earlier f r =
+    if precedes (rank_of f.order r) (rank_met f.order f.refusal)
+    then record { order = f.order; refusal = Some r }
+    else f
+
+-- the first that was met, and then these
+abbrev pub least : First → List CheckRefusal → First
+least f [] = f
+least f (r ∷ rs) = least (earlier f r) rs

@@ -14,6 +14,7 @@ ghost use Rattle.arity_check.specs.Program.{function as fun_of, program as progr
 use crate::form;
 use crate::globals::Globals;
 use crate::normal::{Checked, Con, Fun};
+use crate::order::Order;
 use crate::program::{first_refusal, main_number};
 use crate::refusal::CheckRefusal;
 use core_reader::Core;
@@ -81,7 +82,7 @@ pub fn check(alloc: Global, core: Core) -> Result<Checked, CheckRefusal>
     ensures refused { IfErr result (λ r. IsCause (program core) r) }
 {
     let globals = Globals::new(alloc, &core)?;
-    if let Some(refusal) = first_refusal(alloc, &core, &globals)? {
+    if let Some(refusal) = first_refusal(alloc, Order::Check, &core, &globals)? {
         return Err(refusal);
     }
     let checked = normal_form(alloc, &globals, &core)?;

@@ -1,16 +1,20 @@
 //! The rules that a whole program has to keep.
 
-ghost use Rattle.std.specs.Prelude.{◌≡◌, ◌<◌, ◌^◌, [], None, false, IfOk, map};
+ghost use Rattle.std.specs.Prelude.{◌≡◌, ◌<◌, ◌^◌, [], nat_lt, true, false, IfOk, map};
 ghost use Rattle.std.specs.Ordering.{nat_cmp};
 ghost use Rattle.std.specs.BTreeSet.{contains};
 ghost use Rattle.core_reader.specs.Tree.{data_of, function as function_of, program};
 ghost use Rattle.core_reader.specs.Size.{program_size};
 ghost use Rattle.arity_check.specs.Tables.{known};
+ghost use Rattle.arity_check.specs.declared.refusal.CheckRefusal.TheVariants.{CoreTooLarge};
+ghost use Rattle.arity_check.specs.Order.{counts, ranked};
 ghost use Rattle.arity_check.specs.Refusal.{least};
+ghost use Rattle.arity_check.specs.Faults.{noted};
 ghost use Rattle.arity_check.specs.First.{IsFirstRefusal};
-ghost use Rattle.arity_check.specs.Whole.{known_of, con_faults, cons_faults, header_faults, body_faults, functions_faults, main_at, has_main, has_fields, has_nil, has_cons, lacks_faults, whole_faults};
+ghost use Rattle.arity_check.specs.Whole.{known_of, con_faults, cons_faults, header_faults, body_faults, functions_faults, main_at, has_main, has_fields, has_nil, has_cons, lacks_faults};
 
 use crate::globals::Globals;
+use crate::order::{First, Order};
 use crate::refusal::CheckRefusal;
 use crate::scope::Scope;
 use crate::walk::{Walk, see};
@@ -188,24 +192,41 @@ fn check_declared(walk: &mut Walk, globals: &Globals, core: &Core)
     walk.note_where(!(has_nil && has_cons), CheckRefusal::NoListConstructors);
 }
 
-/// The first refusal of a program, where these are its tables.
+/// The size of a program, where the rule on it counts.
+fn check_size(walk: &mut Walk, core: &Core)
+    requires { counts walk.now.first.order 35 ≡ true → program_size (program core.now) < 2 ^ 64 }
+    ensures { walk.new.first
+        ≡ least walk.old.first
+        (noted (nat_lt 16384 (program_size (program core.now)))
+        (CoreTooLarge (program_size (program core.now)))) }
+{
+    if walk.first.order.counts(35) {
+        let size = size::size(core);
+        walk.note_where(size > 16_384, CheckRefusal::CoreTooLarge(size));
+    }
+}
+
+/// The first refusal of a program of those that count, where these are its tables.
 pub fn first_refusal(
     alloc: Global,
+    order: Order,
     core: &Core,
     globals: &Globals,
 ) -> Result<Option<CheckRefusal>, AllocError>
-    requires size { program_size (program core.now) < 2 ^ 64 }
+    requires size { counts order 35 ≡ true → program_size (program core.now) < 2 ^ 64 }
     requires tables { known globals.now ≡ known_of (program core.now) }
-    ensures { IfOk result (λ first. IsFirstRefusal (program core.now) first) }
+    ensures { IfOk result (λ first. IsFirstRefusal (ranked order) (program core.now) first) }
 {
     let mut walk = Walk {
         scope: Scope::new(alloc),
-        first: None,
+        first: First {
+            order,
+            refusal: None,
+        },
     };
     check_constructors(&mut walk, alloc, globals, core.constructors.as_slice())?;
     check_functions(&mut walk, alloc, globals, core.functions.as_slice())?;
     check_declared(&mut walk, globals, core);
-    let size = size::size(core);
-    walk.note_where(size > 16_384, CheckRefusal::CoreTooLarge(size));
-    Ok(walk.first)
+    check_size(&mut walk, core);
+    Ok(walk.first.refusal)
 }

@@ -3,7 +3,7 @@
 ghost use Rattle.std.specs.Prelude.{◌≡◌, alloc_error};
 ghost use Rattle.arity_check.specs.declared.refusal.CheckRefusal.TheVariants.{Memory};
 ghost use Rattle.arity_check.specs.Order.{rank};
-ghost use Rattle.arity_check.specs.Refusal.{rule, number, rank_of, is_before};
+ghost use Rattle.arity_check.specs.Refusal.{rule, number};
 
 use std::alloc::AllocError;
 use thiserror::Error;
@@ -154,24 +154,8 @@ impl CheckRefusal {
 
     /// The group of the rule, and the two numbers that order the rules of that group.
     pub fn rank(&self) -> (u64, u64, u64)
-        ensures { result ≡ rank_of self.now }
+        ensures { result ≡ rank (rule self.now) (number self.now) }
     {
         rank_by(self.rule(), self.number())
-    }
-
-    /// Whether this refusal comes before another in the order of the rules.
-    #[tactic(auto, unfolding(crate::specs::Refusal::is_before))]
-    pub fn is_before(&self, other: &CheckRefusal) -> bool
-        ensures { result ≡ is_before self.now other.now }
-    {
-        let (group, first, second) = self.rank();
-        let (other_group, other_first, other_second) = other.rank();
-        if group != other_group {
-            return group < other_group;
-        }
-        if first != other_first {
-            return first < other_first;
-        }
-        second < other_second
     }
 }

@@ -14,17 +14,19 @@ ghost use Rattle.arity_check.specs.Faults.{noted, meaning_faults, arity_faults, 
 
 use crate::globals::Globals;
 use crate::meaning::{Meaning, stands_for};
+use crate::order::First;
 use crate::refusal::CheckRefusal;
 use crate::scope::Scope;
 use core_reader::{Alt, App, Atom, Bind, Binder, Expr, NameId, Pattern};
 use std::alloc::{AllocError, Global};
 use std::collections::BTreeSet;
 
-/// A walk over a program: the locals in scope, and the first refusal that was met.
+/// A walk over a program: the locals in scope, and the first refusal that was met of those that
+/// count.
 #[derive(Drop)]
 pub struct Walk {
     pub scope: Scope,
-    pub first: Option<CheckRefusal>,
+    pub first: First,
 }
 
 /// The patterns of a case that were seen: the constructors, the integers, and whether the first of
@@ -84,18 +86,11 @@ fn place(atom: &Atom) -> u32
 
 impl Walk {
     /// Notes a refusal.
-    #[tactic(auto, unfolding(crate::specs::Refusal::earlier))]
     fn note(&mut self, refusal: CheckRefusal)
         ensures scope { self.new.scope ≡ self.old.scope }
         ensures first { self.new.first ≡ earlier self.old.first refusal }
     {
-        let is_first = match &self.first {
-            None => true,
-            Some(kept) => refusal.is_before(kept),
-        };
-        if is_first {
-            self.first = Some(refusal);
-        }
+        self.first.note(refusal);
     }
 
     /// Notes a refusal where a rule is broken.

@@ -10,7 +10,6 @@ use Rattle.flow_system.specs.Solution.{Solution}
 use Rattle.arity_raise.specs.Raisable.{Raisable}
 use Rattle.arity_raise.specs.Raising.{Raising, Decisions, fields_of, raised_params, decided, new_code, raised_procedure, raised_procs}
 use Rattle.arity_raise.specs.Decided.{AllStay, Decided, ProcedureDecided, AllDecided}
-use Rattle.arity_raise.specs.Raised.{Turns, none, stays, replaced, ProceduresRaised}
 use Rattle.grin_syntax.proofs.Counted.{length_variables}
 
 -- ---- where all stay
@@ -80,13 +79,6 @@ module _ (A : Solution) (g : Program) where
       let f : length (fields_of s) ≡ s.fields = length_variables s.first.0 s.fields in
       omega (arith, h, e, f, le)
 
-  turns : (q : Procedure) (count : ℕ) (xs : List VarId) (ds : Decisions) → Decided A g q count xs ds → Turns A g q count xs (raised_params ds xs)
-  turns q count [] [] d = none
-  turns q count [] (o ∷ ds) d = absurd d
-  turns q count (x ∷ xs) [] d = absurd d
-  turns q count (x ∷ xs) (None ∷ ds) d = stays d.0 (turns q count xs ds d.1)
-  turns q count (x ∷ xs) (Some s ∷ ds) d = replaced (fields_of s) d.0 d.1 (length_variables s.first.0 s.fields) (turns q (count + s.fields - 1) xs ds d.2)
-
   few_here : (f : ℕ) (q : Procedure) (ds : Decisions) → ProcedureDecided A g f q ds → length q.params ≤ 16 → length (raised_params ds q.params) ≤ 16
   few_here f q ds d few = go (nat_eq f g.start.0) refl
     where
@@ -102,15 +94,6 @@ module _ (A : Solution) (g : Program) where
     few_params [] (q ∷ qs) n f d h = absurd d
     few_params (ds ∷ dss) [] n f d h = absurd d
     few_params (ds ∷ dss) (q ∷ qs) n f d h = (few_here f q ds d.0 h.0, few_params dss qs (n + new_code D q.body) (suc f) d.1 h.1)
-
-    pub procs_raised : (dss : List Decisions) (qs : List Procedure) (n f : ℕ) → AllDecided A g f qs dss → ProceduresRaised A g f qs (raised_procs D n dss qs)
-    procs_raised [] [] n f d = tt
-    procs_raised [] (q ∷ qs) n f d = absurd d
-    procs_raised (ds ∷ dss) [] n f d = absurd d
-    procs_raised (ds ∷ dss) (q ∷ qs) n f d = (
-      record { start = λ e. params_stay q.params ds (d.0.start e); other = λ e. turns q (length q.params) q.params ds (d.0.other e) },
-      procs_raised dss qs (n + new_code D q.body) (suc f) d.1,
-    )
 
     -- the start keeps its parameters
     pub start_of : (dss : List Decisions) (qs : List Procedure) (n f i k : ℕ) → AllDecided A g f qs dss → f + i ≡ g.start.0 → (q : Procedure) × ((slice_get qs i ≡ Some q) × (length q.params ≡ k))

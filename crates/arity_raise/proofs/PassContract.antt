@@ -1,5 +1,5 @@
 -- That the pass meets its contract: the shape of what it makes, and that this keeps the program.
-use Rattle.std.proofs.Common.{◌≡◌, ℕ, ◌+◌, ◌≤◌, List, sym, subst, arith}
+use Rattle.std.proofs.Common.{◌≡◌, ℕ, ◌+◌, ◌≤◌, List, refl, sym, subst, arith}
 use Rattle.grin_syntax.specs.Tree.{Program}
 use Rattle.grin_meaning.specs.Ready.{most_value_fields, IsInlined, IsFetchedByWords, Ready}
 use Rattle.grin_meaning.specs.Keeps.{Keeps}
@@ -14,7 +14,7 @@ use Rattle.arity_raise.specs.Raising.{Decisions, raised}
 use Rattle.arity_raise.specs.Decided.{IsDecided}
 use Rattle.arity_raise.specs.Raised.{Raised, ByLeast}
 use Rattle.arity_raise.proofs.Shape.{procs_inlined, procs_vectorised, procs_by_words, procs_narrow, procs_give, sums_stay}
-use Rattle.arity_raise.proofs.Choices.{few_params, procs_raised}
+use Rattle.arity_raise.proofs.Choices.{few_params}
 use Rattle.arity_raise.proofs.Well.{raised_formed, raised_outside}
 use Rattle.arity_raise.proofs.Same.{raised_kept}
 
@@ -41,9 +41,7 @@ module _ (g : Program) (A : Solution) (D : List Decisions) (n : ℕ) (of : OfVec
     outside = raised_outside A g D n d;
     narrow = λ most one. procs_narrow D most one D g.procs n;
     by_words = procs_by_words D D g.procs n words;
-    solution = A;
-    least = least;
-    procedures = procs_raised A g D D g.procs n 0 d.decided;
+    by_least = record { solution = A; least = least; decisions = D; next = n; decided = d; made = refl };
     no_more_open = subst (λ m. m ≤ open_updates g) (sym (sums_stay D (λ v. one_if_some (tag_variable v)) D g.procs n)) (omega arith);
   }
 

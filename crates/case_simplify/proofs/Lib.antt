@@ -1,6 +1,9 @@
+pub mod Tables
 pub mod Loops
 pub mod Held
 pub mod Scoped
+pub mod Copied
+pub mod Bound
 pub mod Steps
 pub mod Simulated
 pub mod Cases

@@ -1,7 +1,6 @@
 -- What the loops keep.
-use Rattle.std.proofs.Common.{◌≡◌, ℕ, zero, suc, ◌+◌, ◌<◌, ◌≤◌, Bool, true, false, cond, ◌&&◌, nat_eq, nat_lt, List, [], ◌∷◌, ◌++◌, map, take, drop, length, get_or, Option, Some, None, slice_get, refl, sym, ap, ◌∙◌, subst, arith}
-use Rattle.std.proofs.lemmas.List.{take_more}
-use Rattle.seq.proofs.Lists.{drop_again, drop_past, drop_at, get_is}
+use Rattle.std.proofs.Common.{◌≡◌, ℕ, zero, suc, ◌+◌, ◌<◌, ◌≤◌, Bool, true, false, ◌&&◌, nat_lt, List, [], ◌∷◌, ◌++◌, map, drop, length, get_or, Option, Some, None, slice_get, refl, sym, ap, ◌∙◌, subst, arith}
+use Rattle.seq.proofs.Lists.{drop_again, drop_past, drop_at, get_is, none_is_some, some_is}
 use Rattle.grin_syntax.specs.declared.program.VarId.{VarId}
 use Rattle.grin_syntax.specs.declared.program.TagId.{TagId}
 use Rattle.grin_syntax.specs.declared.program.Word as W
@@ -11,32 +10,22 @@ use Rattle.grin_syntax.specs.declared.program.Alt.{Alt}
 use Rattle.grin_syntax.specs.declared.program.Stmt.{Stmt}
 use Rattle.grin_syntax.specs.declared.program.Stmt.TheVariants.{Store, Bind}
 use Rattle.grin_syntax.specs.declared.program.Block.{Block}
+use Rattle.grin_syntax.specs.declared.program.Target.{Target}
+use Rattle.grin_syntax.specs.declared.program.Op.{Op}
 use Rattle.grin_syntax.specs.declared.program.Op.TheVariants.{Case}
-use Rattle.grin_syntax.specs.Tree.{Code, end, Act, nested, fail, Arms, arm, act_of, before_of, arm_of, code_of, all_before, arms_of, as_act}
+use Rattle.grin_syntax.specs.Tree.{Code, end, bind, Act, nested, fail, Arms, arm, act_of, before_of, arm_of, code_of, all_before, arms_of, as_act}
 use Rattle.grin_syntax.proofs.TreeOf.{before_of-Store, before_of-Bind, arm_of-parts, code_of-parts, act_of-Case}
 use Rattle.grin_syntax.proofs.Pieces.{all_before_push}
 use Rattle.grin_meaning.specs.Checks.{is_some_and}
 use Rattle.grin_meaning.specs.Values.{and_then}
 use Rattle.case_simplify.specs.declared.known.Fact.{Fact}
-use Rattle.case_simplify.specs.Known.{Known, Facts, facts_of, and_facts, note, noted}
+use Rattle.case_simplify.specs.Known.{Known, Facts, facts_of, told, noted, note_known, note_copies, known_after}
+use Rattle.case_simplify.specs.Table.{Adds}
+use Rattle.case_simplify.proofs.Tables.{adds_none, adds_again}
 use Rattle.case_simplify.specs.Choice.{Verdict, Takes, Passes, Open, verdict, by_verdict, taken}
 use Rattle.case_simplify.specs.declared.choice.Choice.TheVariants as chosen
 use Rattle.case_simplify.specs.Chosen.{body_at}
 use Rattle.case_simplify.specs.Simple.{same_word, is_front, is_front_val, value_given, gives_val, all_give, gives_back, simple_case, simple_act, simple_code, simple_arms, simple_arm}
-
--- ---- facts
-
-pub and_push : (fs : List Fact) (f : Fact) (facts : Facts) → and_facts facts (fs ++ f ∷ []) ≡ note f.var f.known (and_facts facts fs)
-and_push [] f facts = refl
-and_push (e ∷ fs) f facts = and_push fs f _
-
-pub facts_push : (fs more : List Fact) (f : Fact) → more ≡ fs ++ f ∷ [] → facts_of more ≡ note f.var f.known (facts_of fs)
-facts_push fs more f e = ap facts_of e ∙ and_push fs f _
-
-pub told_next : (fs : List Fact) (i : ℕ) (d : Fact) (x : VarId) (old new : Option Known) → i < length fs → new ≡ cond (nat_eq x.0 (get_or fs i d).var.0) (Some (get_or fs i d).known) old → old ≡ facts_of (take i fs) x.0 → new ≡ facts_of (take (i + 1) fs) x.0
-told_next fs i d x old new lt n o =
-    let f : Fact = get_or fs i d in
-    n ∙ ap (λ k. cond (nat_eq x.0 f.var.0) (Some f.known) k) o ∙ sym (ap (λ g. g x.0) (and_push (take i fs) f _)) ∙ ap (λ l. facts_of l x.0) (sym (take_more fs i d lt))
 
 -- ---- lists from a place on
 
@@ -122,17 +111,66 @@ all_ends u alts i le h = sym (h ∙ ap (λ l. all_give u (arms_of (map arm_of l)
 
 -- ---- blocks
 
--- these statements are what becomes of those
-pub record Simplifies (facts : Facts) (made from : List Stmt) : Type 0 where
-  pub by : (c : Code) → all_before (map before_of made) (simple_code facts c) ≡ simple_code facts (all_before (map before_of from) c)
+-- these statements are what becomes of those, and what is known after them was added
+pub record Simplifies (old now : List Fact) (made from : List Stmt) : Type 0 where
+  pub by : (c : Code) → all_before (map before_of made) (simple_code (facts_of now) c) ≡ simple_code (facts_of old) (all_before (map before_of from) c)
+  pub adds : Adds old now
 
-pub none_simplify : (facts : Facts) → Simplifies facts [] []
-none_simplify facts = record { by = λ c. refl }
+pub none_simplify : (old : List Fact) → Simplifies old old [] []
+none_simplify old = record { by = λ c. refl; adds = adds_none old }
 
-pub one_more_simplifies : (facts : Facts) (made from : List Stmt) (m s : Stmt) → Simplifies facts made from → ((c : Code) → before_of m (simple_code facts c) ≡ simple_code facts (before_of s c)) → Simplifies facts (made ++ m ∷ []) (from ++ s ∷ [])
-one_more_simplifies facts made from m s u h = record {
-  by = λ c. all_before_push made m (simple_code facts c) ∙ ap (all_before (map before_of made)) (h c) ∙ u.by (before_of s c) ∙ ap (simple_code facts) (sym (all_before_push from s c));
+pub one_more_simplifies : (old now new : List Fact) (made from : List Stmt) (m s : Stmt) → Simplifies old now made from → ((c : Code) → before_of m (simple_code (facts_of new) c) ≡ simple_code (facts_of now) (before_of s c)) → Adds now new
+    → Simplifies old new (made ++ m ∷ []) (from ++ s ∷ [])
+one_more_simplifies old now new made from m s u h k = record {
+  by = λ c. all_before_push made m (simple_code (facts_of new) c) ∙ ap (all_before (map before_of made)) (h c) ∙ u.by (before_of s c) ∙ ap (simple_code (facts_of old)) (sym (all_before_push from s c));
+  adds = adds_again old now new u.adds k;
 }
+
+pub bind_simplifies : (s : Stmt) (t : Target) (p p' : Op) (old mid new : List Fact) → s ≡ Bind t p → act_of p' ≡ simple_act (facts_of old) (act_of p) → mid ≡ old → facts_of new ≡ known_after t (act_of p') (facts_of mid)
+    → (c : Code) → before_of (Bind t p') (simple_code (facts_of new) c) ≡ simple_code (facts_of old) (before_of s c)
+unfolding simple_act
+bind_simplifies s t p p' old mid new es e m n c =
+    ap (λ f. f (simple_code (facts_of new) c)) (before_of-Bind t p') ∙ ap (λ q. bind t (act_of p') (simple_code q c)) (n ∙ ap (λ l. known_after t (act_of p') (facts_of l)) m)
+    ∙ ap (λ q. bind t q (simple_code (known_after t q (facts_of old)) c)) e ∙ ap (λ f. simple_code (facts_of old) (f c)) (sym (before_of-Bind t p)) ∙ ap (λ q. simple_code (facts_of old) (before_of q c)) (sym es)
+
+pub block_simplifies : (old now : List Fact) (made from : List Stmt) (a b : Block) (last : Op) → Simplifies old now made from → from ≡ a.stmts → act_of last ≡ simple_act (facts_of now) (act_of a.last.value) → b.stmts ≡ made → b.last.value ≡ last
+    → code_of b ≡ simple_code (facts_of old) (code_of a)
+unfolding simple_act
+block_simplifies old now made from a b last u f l s e =
+    code_of-parts b ∙ (λ i. all_before (map before_of (s i)) (end (act_of (e i)))) ∙ ap (λ o. all_before (map before_of made) (end o)) l ∙ u.by (end (act_of a.last.value))
+    ∙ ap (λ ss. simple_code (facts_of old) (all_before (map before_of ss) (end (act_of a.last.value)))) f ∙ ap (simple_code (facts_of old)) (sym (code_of-parts a))
+
+-- ---- the words of a copy
+
+words_at : (ws : List W.Word) (i : ℕ) (w : W.Word) → slice_get ws i ≡ Some w → drop i ws ≡ w ∷ drop (suc i) ws
+words_at [] i w e = none_is_some e
+words_at (v ∷ ws) zero w e = ap (λ u. u ∷ ws) (some_is e)
+words_at (v ∷ ws) (suc i) w e = words_at ws i w e
+
+no_words : (ws : List W.Word) (i : ℕ) → slice_get ws i ≡ None → drop i ws ≡ []
+no_words [] zero e = refl
+no_words [] (suc i) e = refl
+no_words (v ∷ ws) zero e = cc
+no_words (v ∷ ws) (suc i) e = no_words ws i e
+
+pub copies_next : (xs : List VarId) (ws : List W.Word) (i k : ℕ) (x d : VarId) (w : W.Word) (o : Option W.Word) (facts : Facts) (now new : List Fact) → i < length xs → x ≡ get_or xs i d → k ≡ i → o ≡ slice_get ws k → o ≡ Some w
+    → facts_of new ≡ note_known x (told (facts_of now) w) (facts_of now) → note_copies xs ws facts ≡ note_copies (drop i xs) (drop i ws) (facts_of now) → note_copies xs ws facts ≡ note_copies (drop (i + 1) xs) (drop (i + 1) ws) (facts_of new)
+copies_next xs ws i k x d w o facts now new lt at p f q n h = after (λ j. note_copies xs ws facts ≡ note_copies (drop j xs) (drop j ws) (facts_of new)) i
+    (h ∙ (λ j. note_copies (drop_at xs i d lt j) (words_at ws i w (ap (slice_get ws) (sym p) ∙ sym f ∙ q) j) (facts_of now))
+    ∙ ap (λ y. note_copies (drop (suc i) xs) (drop (suc i) ws) (note_known y (told (facts_of now) w) (facts_of now))) (sym at) ∙ ap (note_copies (drop (suc i) xs) (drop (suc i) ws)) (sym n))
+
+no_more_words : (xs : List VarId) (facts : Facts) → note_copies xs [] facts ≡ facts
+no_more_words [] facts = refl
+no_more_words (x ∷ xs) facts = refl
+
+pub copies_stop : (xs : List VarId) (ws : List W.Word) (i k : ℕ) (o : Option W.Word) (facts : Facts) (now : List Fact) → k ≡ i → o ≡ slice_get ws k → o ≡ None → note_copies xs ws facts ≡ note_copies (drop i xs) (drop i ws) (facts_of now)
+    → facts_of now ≡ note_copies xs ws facts
+copies_stop xs ws i k o facts now p f q h = sym (h ∙ ap (λ l. note_copies (drop i xs) l (facts_of now)) (no_words ws i (ap (slice_get ws) (sym p) ∙ sym f ∙ q)) ∙ no_more_words (drop i xs) (facts_of now))
+
+pub copies_end : (xs : List VarId) (ws : List W.Word) (i : ℕ) (facts : Facts) (now : List Fact) → length xs ≤ i → note_copies xs ws facts ≡ note_copies (drop i xs) (drop i ws) (facts_of now) → facts_of now ≡ note_copies xs ws facts
+copies_end xs ws i facts now le h = sym (h ∙ ap (λ l. note_copies l (drop i ws) (facts_of now)) (drop_past xs i le))
+
+-- ---- alternatives
 
 arms_simplify : (facts : Facts) (v : Val) (as' : List (Shape × Code)) → arms_of (map (simple_arm facts v) as') ≡ simple_arms facts v (arms_of as')
 unfolding simple_act

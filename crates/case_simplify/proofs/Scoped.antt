@@ -1,5 +1,5 @@
 -- Something is known only of variables in scope, which no later place binds.
-use Rattle.std.proofs.Common.{◌≡◌, ℕ, ◌+◌, ◌<◌, ◌≤◌, Bool, true, false, cond, nat_eq, List, [], ◌∷◌, ◌++◌, Option, Some, None, refl, sym, subst, arith}
+use Rattle.std.proofs.Common.{◌≡◌, ℕ, ◌+◌, ◌<◌, ◌≤◌, Bool, true, false, cond, nat_eq, List, [], ◌∷◌, ◌++◌, Option, Some, None, refl, sym, ap, subst, arith}
 use Rattle.std.proofs.lemmas.Bool.Decides.{nat_tests}
 use Rattle.seq.proofs.Lists.{all_get, none_is_some, some_is}
 use Rattle.grin_syntax.specs.declared.program.VarId.{VarId}
@@ -11,12 +11,13 @@ use Rattle.grin_syntax.specs.declared.program.Word as W
 use Rattle.grin_syntax.specs.declared.program.Word.TheVariants.{Lit, Var, Global, TagWord}
 use Rattle.grin_syntax.specs.declared.program.Val as V
 use Rattle.grin_syntax.specs.declared.program.Val.TheVariants.{NodeVar, Node, Vector, One}
-use Rattle.grin_syntax.specs.Tree.{Program}
+use Rattle.grin_syntax.specs.Tree.{Act, unit, fetch, fetch_word, update, eval, apply, call, prim, read, write, case, nested, fail, Program}
 use Rattle.grin_syntax.specs.Binders.{numbers_of, target_vars}
-use Rattle.grin_syntax.specs.Formed.{Scope, InScope, with_words, with_target, WordFormed, ValFormed}
-use Rattle.case_simplify.specs.Known.{Known, Facts, note, first_word, second_word, note_word, noted}
+use Rattle.grin_syntax.specs.Formed.{AllOf, Scope, InScope, with_words, with_target, WordFormed, ValFormed}
+use Rattle.case_simplify.specs.Known.{Known, Facts, note, told, first_word, second_word, note_word, note_known, note_copies, words_in, word_vars, known_after, noted}
 use Rattle.seq.specs.Lists.{times}
-use Rattle.grin_meaning.proofs.Scopes.{Once, target_adds}
+use Rattle.grin_meaning.proofs.Scopes.{Once, target_adds, scope_left}
+use Rattle.seq.proofs.Order.{eq_self}
 use Rattle.seq.proofs.Counted.{times_append}
 
 -- what is known is known of words in scope
@@ -84,3 +85,42 @@ module _ (g : Program) (scope : Scope) where
   noted_inside facts v (shape.Node t xs) f i = note_word_inside facts (first_word v) _ (first_formed v f) i
   noted_inside facts v (shape.Int k) f i = note_word_inside _ (second_word v) _ (second_formed v f) (note_word_inside facts (first_word v) _ (first_formed v f) i)
   noted_inside facts v shape.Else f i = i
+
+  known_inside : (facts : Facts) (x : VarId) (o : Option Known) → InScope scope.words x.0 → Inside facts scope → Inside (note_known x o facts) scope
+  known_inside facts x None w i = i
+  known_inside facts x (Some k) w i = note_inside facts x k w i
+
+  copies_inside : (xs : List VarId) (ws : List W.Word) (facts : Facts) → AllOf (λ x. InScope scope.words x.0) xs → Inside facts scope → Inside (note_copies xs ws facts) scope
+  copies_inside [] ws facts f i = i
+  copies_inside (x ∷ xs) [] facts f i = i
+  copies_inside (x ∷ xs) (w ∷ ws) facts f i = copies_inside xs ws (note_known x (told facts w) facts) f.1 (known_inside facts x (told facts w) f.0 i)
+
+-- ---- after a statement
+
+all_inside : (zs : List ℕ) (xs : List VarId) → ((y : ℕ) → InScope (numbers_of xs) y → InScope zs y) → AllOf (λ x. InScope zs x.0) xs
+all_inside zs [] h = tt
+all_inside zs (x ∷ xs) h = (
+  h x.0 (let c : cond {A = ℕ} (nat_eq x.0 x.0) 1 0 ≡ 1 = ap (λ b. cond {A = ℕ} b 1 0) (eq_self x.0) in omega (arith, c)),
+  all_inside zs xs (λ y i. h y (omega (arith, i))),
+)
+
+vars_inside : (t : Target) (scope : Scope) → AllOf (λ x. InScope (with_target t scope).words x.0) (word_vars t)
+vars_inside to.Nothing scope = tt
+vars_inside (to.Node x) scope = tt
+vars_inside (to.One x) scope = all_inside (x.0 ∷ scope.words) (x ∷ []) (λ y i. scope_left (x.0 ∷ []) scope.words y i)
+vars_inside (to.Vector xs) scope = all_inside (numbers_of xs ++ scope.words) xs (λ y i. scope_left (numbers_of xs) scope.words y i)
+
+pub after_inside : (g : Program) (facts : Facts) (t : Target) (o : Act) (scope : Scope) → Inside facts scope → Inside (known_after t o facts) (with_target t scope)
+after_inside g facts t (unit v) scope i = copies_inside g (with_target t scope) (word_vars t) (words_in v) facts (vars_inside t scope) (inside_target facts t scope i)
+after_inside g facts t (fetch a) scope i = inside_target facts t scope i
+after_inside g facts t (fetch_word a n) scope i = inside_target facts t scope i
+after_inside g facts t (update a v) scope i = inside_target facts t scope i
+after_inside g facts t (eval a) scope i = inside_target facts t scope i
+after_inside g facts t (apply v a) scope i = inside_target facts t scope i
+after_inside g facts t (call f ws) scope i = inside_target facts t scope i
+after_inside g facts t (prim f a b) scope i = inside_target facts t scope i
+after_inside g facts t read scope i = inside_target facts t scope i
+after_inside g facts t (write a) scope i = inside_target facts t scope i
+after_inside g facts t (case v as') scope i = inside_target facts t scope i
+after_inside g facts t (nested b) scope i = inside_target facts t scope i
+after_inside g facts t fail scope i = inside_target facts t scope i

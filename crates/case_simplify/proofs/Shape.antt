@@ -18,7 +18,7 @@ use Rattle.grin_meaning.specs.Values.{and_then}
 use Rattle.grin_meaning.specs.Checks.{is_some_and}
 use Rattle.grin_meaning.specs.Rewritten.{rewritten_procedure}
 use Rattle.numbers.specs.Numbers.{same_number}
-use Rattle.case_simplify.specs.Known.{Known, Tag, Number, Facts, nothing_known, note, told, first_word, second_word, told_first, told_second, note_word, noted}
+use Rattle.case_simplify.specs.Known.{Known, Tag, Number, Facts, nothing_known, note, told, first_word, second_word, told_first, told_second, note_word, known_after, noted}
 use Rattle.case_simplify.specs.Choice.{Verdict, Takes, Passes, Open, number_verdict, verdict, by_verdict, taken, taken_by}
 use Rattle.case_simplify.specs.Simple.{same_word, is_front, same_words, same_val, is_front_val, value_given, gives_val, all_give, gives_back, first_act, unit_or_case, block_or_case, simple_case, simple_act, simple_code, simple_arms}
 use Rattle.case_simplify.specs.Simplified.{OpenAt, IsOpen, OpenIfKnown, FrontOf, EachGives, IsIdentity, SimpleAct, SimpleCode, SimpleArms}
@@ -206,7 +206,7 @@ mutual
   code_simple : (b : Code) (facts : Facts) → SimpleCode facts (simple_code facts b)
   code_simple (end o) facts = act_simple o facts
   code_simple (store cs b) facts = code_simple b facts
-  code_simple (bind t o b) facts = (act_simple o facts, code_simple b facts)
+  code_simple (bind t o b) facts = (act_simple o facts, code_simple b (known_after t (simple_act facts o) facts))
 
   arms_simple : (v : V.Val) (as' : Arms) (facts : Facts) → SimpleArms facts v (simple_arms facts v as')
   arms_simple v no_arm facts = tt

@@ -9,7 +9,7 @@ use Rattle.grin_syntax.specs.declared.program.Val.{Val}
 use Rattle.grin_syntax.specs.Tree.{Code, end, store, bind, Act, unit, fetch, fetch_word, update, eval, apply, call, prim, read, write, case, nested, fail, Arms, no_arm, arm, Procedure, Program}
 use Rattle.grin_syntax.specs.Binders.{numbers_of, target_vars, shape_vars, cell_vars, act_vars, code_vars, arms_vars, procs_vars}
 use Rattle.grin_syntax.specs.Formed.{AllOf, Scope, with_words, with_target, params_scope, ValFormed, ActFormed, CodeFormed, ArmsFormed, ProcedureFormed, Formed}
-use Rattle.grin_meaning.specs.Values.{Datum, Value, Env, HeapCell, Binding, with_vars, one_each, bindings_of}
+use Rattle.grin_meaning.specs.Values.{Datum, Value, Env, HeapCell, and_then, Binding, with_vars, one_each, only_word, value_of, bindings_of}
 use Rattle.grin_meaning.specs.Run.{Calls, places, cells_of}
 use Rattle.grin_meaning.specs.Checks.{has_block, is_fetch, is_node_target, not_delayed, is_given, all_fill, is_bound_well}
 use Rattle.grin_meaning.specs.Ready.{EachAct, EachCode, EachArms, NoNodeTarget, IsVectorised, EachBody, vectorised_kind}
@@ -22,13 +22,16 @@ use Rattle.grin_meaning.proofs.Back.{CallsBack}
 use Rattle.grin_meaning.proofs.Beside.{no_deeper, Beside, Likewise, Seen}
 use Rattle.grin_meaning.proofs.Rules.{Here, Setting, CallsFollow, ActFollows, CodeFollows, BindsToo, Stored, StoresToo, act_more, nested_follows, end_follows, store_follows, bind_follows}
 use Rattle.grin_meaning.proofs.Procedures.{BodyFollows, BodiesFollow, no_more, one_more, run_follows}
-use Rattle.grin_meaning.proofs.Plain.{IsLeaf, IsPlain, vars_have, having, leaf_follows, cells_have, all_fill_too, same_is}
+use Rattle.grin_meaning.proofs.Plain.{Has, IsLeaf, IsPlain, vars_have, having, leaf_follows, cells_have, all_fill_too, same_is}
 use Rattle.grin_meaning.proofs.KeptBy.{likewise_kept, looking_kept}
 use Rattle.grin_meaning.proofs.Bodies.{AnyState, every_any}
-use Rattle.case_simplify.specs.Known.{Known, Facts, nothing_known, noted}
+use Rattle.case_simplify.specs.Known.{Known, Facts, nothing_known, note_copies, words_in, word_vars, known_after, noted}
 use Rattle.case_simplify.specs.Simple.{simple_act, simple_code, simplified}
-use Rattle.case_simplify.proofs.Held.{places_keys, bindings_keys, holds_on}
-use Rattle.case_simplify.proofs.Scoped.{Inside, once_last, once_target, inside_words, inside_target, new_unknown, noted_inside}
+use Rattle.case_simplify.proofs.Held.{some_and, places_keys, bindings_keys, datum_of, Holds, holds_on}
+use Rattle.case_simplify.proofs.Copied.{value_agrees, after_holds}
+use Rattle.case_simplify.proofs.Bound.{bind_unit}
+use Rattle.case_simplify.proofs.Standing.{act_formed}
+use Rattle.case_simplify.proofs.Scoped.{Inside, once_last, once_target, inside_words, new_unknown, noted_inside, after_inside}
 use Rattle.case_simplify.proofs.Steps.{Knowing, looked, it, ArmsGo, case_goes}
 use Rattle.seq.specs.Lists.{times}
 use Rattle.grin_meaning.proofs.Scopes.{Once, once_left, once_words}
@@ -108,14 +111,58 @@ module _ (g : Program) (vectorised : IsVectorised g) (procs : List Procedure) wh
     knowing_on : (facts : Facts) (cells cells' : List HeapCell) (bs : List Binding) (env env' : Env) → ((y : ℕ) (k : Known) → facts y ≡ Some k → times y (keys bs) ≡ 0) → Knowing g facts cells env env' → Knowing g facts cells' (with_vars bs env) (with_vars bs env')
     knowing_on facts cells cells' bs env env' new r = (vars_have Any bs env env' r.0, holds_on g facts bs env new r.1)
 
-    binds_too : (facts : Facts) (scope : Scope) (t : Target) (o : Act) → Inside facts scope → Once scope (target_vars t) → NoNodeTarget t → (cells cells' : List HeapCell) (env env' : Env) (bs : List Binding) {v v' : Value}
-        → Same v v' → Knowing g facts cells env env' → is_bound_well g t o v ≡ true → bindings_of g t v ≡ Some bs → BindsToo st (Knowing g facts) t (simple_act facts o) env env' cells' v' bs
-    binds_too facts scope t o inside once none cells cells' env env' bs (same {a = v}) r seen e = record {
-      seen = λ _. bound_too facts t o v none seen;
+    binds_too : (facts : Facts) (scope : Scope) (t : Target) (o o' : Act) → Inside facts scope → Once scope (target_vars t) → ((v : Value) → is_bound_well g t o v ≡ true → is_bound_well g t o' v ≡ true) → (cells cells' : List HeapCell) (env env' : Env) (bs : List Binding) {v v' : Value}
+        → Same v v' → Knowing g facts cells env env' → is_bound_well g t o v ≡ true → bindings_of g t v ≡ Some bs → BindsToo st (Knowing g facts) t o' env env' cells' v' bs
+    binds_too facts scope t o o' inside once well cells cells' env env' bs (same {a = v}) r seen e = record {
+      seen = λ _. well v seen;
       bs' = bs;
       binds = e;
       related = knowing_on facts cells cells' bs env env' (λ y k f. subst (λ l. times y l ≡ 0) (sym (bindings_keys g t v bs e)) (new_unknown facts scope (target_vars t) inside once y k f)) r;
     }
+
+    -- the second's variables hold what is known too
+    holds_too : (facts : Facts) (env env' : Env) → Has Any env env' → Holds g facts env → Holds g facts env'
+    holds_too facts env env' r h y k e =
+        let z : (v : Value) × (env y ≡ Some v) × (only_word v ≡ Some (datum_of g k)) = some_and (env y) only_word (datum_of g k) (h y k e) in
+        ap (λ o. and_then o only_word) (r y z.0 tt z.1) ∙ z.2
+
+    -- the variables that are given the words of a unit hold what is known of them
+    unit_binds : (facts : Facts) (scope : Scope) (t : Target) (o : Act) (u : Val) → Inside facts scope → Once scope (target_vars t) → NoNodeTarget t → ValFormed g scope u → ((v : Value) → is_bound_well g t o v ≡ true → is_bound_well g t (unit u) v ≡ true)
+        → (cells cells' : List HeapCell) (env env' : Env) (bs : List Binding) {v v' : Value} → Same v v' → Knowing g facts cells env env' → value_of g env' u ≡ Some v' → is_bound_well g t o v ≡ true → bindings_of g t v ≡ Some bs
+        → BindsToo st (Knowing g (note_copies (word_vars t) (words_in u) facts)) t (unit u) env env' cells' v' bs
+    unit_binds facts scope t o u inside once none formed well cells cells' env env' bs (same {a = v}) r given seen e = record {
+      seen = λ _. well v seen;
+      bs' = bs;
+      binds = e;
+      related = (
+        vars_have Any bs env env' r.0,
+        after_holds g scope t u v bs facts env (value_agrees g facts env' (holds_too facts env env' r.0 r.1) u v given) e none formed
+            (λ y. (let n : times y scope.nodes + times y scope.words + times y (target_vars t) ≤ 1 = once y in omega (arith, n))) (new_unknown facts scope (target_vars t) inside once) r.1,
+      );
+    }
+
+    bind_plainly : (facts : Facts) (scope : Scope) (t : Target) (o o' : Act) (b b' : Code) → Inside facts scope → Once scope (target_vars t) → ((v : Value) → is_bound_well g t o v ≡ true → is_bound_well g t o' v ≡ true) → ActFollows st (Knowing g facts) Same o o'
+        → CodeFollows st (Knowing g facts) Same b b' → CodeFollows st (Knowing g facts) Same (bind t o b) (bind t o' b')
+    bind_plainly facts scope t o o' b b' inside once well f k = bind_follows st {R = Knowing g facts} {R' = Knowing g facts} t t o o' b b' f k
+        (λ x y. binds_too facts scope t o o' inside once well x.w.cells y.w.cells x.env x.env' y.bs y.values x.related (y.seen refl) y.binds)
+
+    bind_goes : (facts : Facts) (scope : Scope) (t : Target) (o o' : Act) (b b' : Code) → Inside facts scope → Once scope (target_vars t) → NoNodeTarget t → ActFormed g scope o' → ((v : Value) → is_bound_well g t o v ≡ true → is_bound_well g t o' v ≡ true)
+        → ActFollows st (Knowing g facts) Same o o' → CodeFollows st (Knowing g (known_after t o' facts)) Same b b' → CodeFollows st (Knowing g facts) Same (bind t o b) (bind t o' b')
+    unfolding ActFormed
+    bind_goes facts scope t o (unit u) b b' inside once none formed well f k = bind_unit st {R = Knowing g facts} {R' = Knowing g (known_after t (unit u) facts)} t o u b b' f k
+        (λ x v v' cells bs e given seen binds. unit_binds facts scope t o u inside once none formed well x.w.cells cells x.env x.env' bs e x.related given (seen refl) binds)
+    bind_goes facts scope t o (fetch a) b b' inside once none formed well f k = bind_plainly facts scope t o (fetch a) b b' inside once well f k
+    bind_goes facts scope t o (fetch_word a n) b b' inside once none formed well f k = bind_plainly facts scope t o (fetch_word a n) b b' inside once well f k
+    bind_goes facts scope t o (update a v) b b' inside once none formed well f k = bind_plainly facts scope t o (update a v) b b' inside once well f k
+    bind_goes facts scope t o (eval a) b b' inside once none formed well f k = bind_plainly facts scope t o (eval a) b b' inside once well f k
+    bind_goes facts scope t o (apply v a) b b' inside once none formed well f k = bind_plainly facts scope t o (apply v a) b b' inside once well f k
+    bind_goes facts scope t o (call p ws) b b' inside once none formed well f k = bind_plainly facts scope t o (call p ws) b b' inside once well f k
+    bind_goes facts scope t o (prim p a d) b b' inside once none formed well f k = bind_plainly facts scope t o (prim p a d) b b' inside once well f k
+    bind_goes facts scope t o read b b' inside once none formed well f k = bind_plainly facts scope t o read b b' inside once well f k
+    bind_goes facts scope t o (write a) b b' inside once none formed well f k = bind_plainly facts scope t o (write a) b b' inside once well f k
+    bind_goes facts scope t o (case v as') b b' inside once none formed well f k = bind_plainly facts scope t o (case v as') b b' inside once well f k
+    bind_goes facts scope t o (nested d) b b' inside once none formed well f k = bind_plainly facts scope t o (nested d) b b' inside once well f k
+    bind_goes facts scope t o fail b b' inside once none formed well f k = bind_plainly facts scope t o fail b b' inside once well f k
 
     stores_too : (facts : Facts) (scope : Scope) (cs : List Cell) → Inside facts scope → Once scope (cell_vars cs) → (x : Here (looked g procs) (Knowing g facts)) (y : Stored st (Knowing g facts) cs x) → StoresToo st (Knowing g facts) (Knowing g facts) cs cs x y.hs
     stores_too facts scope cs inside once x y =
@@ -162,20 +209,20 @@ module _ (g : Program) (vectorised : IsVectorised g) (procs : List Procedure) wh
             once_code = once_words scope (cell_vars cs) (code_vars b) q.once_code;
           }))
           (stores_too facts scope cs q.inside_code (once_left scope (cell_vars cs) (code_vars b) q.once_code))
-      code_goes (bind t o b) facts scope q = bind_follows st {R = Knowing g facts} {R' = Knowing g facts} t t o (simple_act facts o) b (simple_code facts b)
+      code_goes (bind t o b) facts scope q = bind_goes facts scope t o (simple_act facts o) b (simple_code (known_after t (simple_act facts o) facts) b) q.inside_code
+          (once_left scope (target_vars t) (act_vars o ++ code_vars b) q.once_code) q.vector_code.0 (act_formed g g.procs refl o facts scope q.vector_code.1 q.formed_code.0) (λ v. bound_too facts t o v q.vector_code.0)
           (act_goes o facts scope (record {
             inside_act = q.inside_code;
             formed_act = q.formed_code.0;
             vector_act = q.vector_code.1;
             once_act = once_left scope (act_vars o) (code_vars b) (once_last scope (target_vars t) (act_vars o ++ code_vars b) q.once_code);
           }))
-          (code_goes b facts (with_target t scope) (record {
-            inside_code = inside_target facts t scope q.inside_code;
+          (code_goes b (known_after t (simple_act facts o) facts) (with_target t scope) (record {
+            inside_code = after_inside g facts t (simple_act facts o) scope q.inside_code;
             formed_code = q.formed_code.1;
             vector_code = q.vector_code.2;
             once_code = once_last (with_target t scope) (act_vars o) (code_vars b) (once_target t scope (act_vars o ++ code_vars b) q.once_code);
           }))
-          (λ x y. binds_too facts scope t o q.inside_code (once_left scope (target_vars t) (act_vars o ++ code_vars b) q.once_code) q.vector_code.0 x.w.cells y.w.cells x.env x.env' y.bs y.values x.related (y.seen refl) y.binds)
 
       arms_go : (v : Val) (as' : Arms) (facts : Facts) (scope : Scope) → GoodArms facts scope v as' → ArmsGo g procs c c' cb cf facts v as'
       arms_go v no_arm facts scope q = tt

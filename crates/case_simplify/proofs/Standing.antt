@@ -1,6 +1,5 @@
 -- What is simplified binds no more variables, has no more sites and stays well formed, and whatever holds of each operation still does.
 use Rattle.std.proofs.Common.{◌≡◌, ℕ, ◌+◌, ◌≤◌, List, [], ◌∷◌, ◌++◌, map, length, refl, ap, subst, arith}
-use Rattle.grin_syntax.specs.declared.program.Target as T
 use Rattle.grin_syntax.specs.declared.program.Shape.{Shape}
 use Rattle.grin_syntax.specs.declared.program.Val.{Val}
 use Rattle.grin_syntax.specs.Tree.{Code, end, store, bind, Act, unit, fetch, fetch_word, update, eval, apply, call, prim, read, write, case, nested, fail, Arms, no_arm, arm, Procedure, Program, as_act}
@@ -10,7 +9,7 @@ use Rattle.grin_syntax.specs.SameOutside.{names_of}
 use Rattle.grin_syntax.proofs.Scopes.{with_procs, known_again}
 use Rattle.grin_meaning.specs.Ready.{EachAct, EachCode, EachArms, NarrowAct, NarrowCode, NarrowArms, Kind, EachBody, vectorised_kind}
 use Rattle.grin_meaning.specs.Rewritten.{rewritten_procedure}
-use Rattle.case_simplify.specs.Known.{Facts, nothing_known, noted}
+use Rattle.case_simplify.specs.Known.{Facts, nothing_known, known_after, noted}
 use Rattle.case_simplify.specs.Simple.{simple_act, simple_code, simple_arms}
 use Rattle.case_simplify.proofs.Cases.{case_has}
 use Rattle.seq.specs.Lists.{times}
@@ -70,8 +69,8 @@ module _ (y : ℕ) where
     code_vars_fewer : (b : Code) (facts : Facts) → times y (code_vars (simple_code facts b)) ≤ times y (code_vars b)
     code_vars_fewer (end o) facts = act_vars_fewer o facts
     code_vars_fewer (store cs b) facts = times_fewer y (cell_vars cs) (code_vars (simple_code facts b)) (cell_vars cs) (code_vars b) (same_times y (cell_vars cs)) (code_vars_fewer b facts)
-    code_vars_fewer (bind t o b) facts = times_fewer y (target_vars t) (act_vars (simple_act facts o) ++ code_vars (simple_code facts b)) (target_vars t) (act_vars o ++ code_vars b) (same_times y (target_vars t))
-        (times_fewer y (act_vars (simple_act facts o)) (code_vars (simple_code facts b)) (act_vars o) (code_vars b) (act_vars_fewer o facts) (code_vars_fewer b facts))
+    code_vars_fewer (bind t o b) facts = times_fewer y (target_vars t) (act_vars (simple_act facts o) ++ code_vars (simple_code (known_after t (simple_act facts o) facts) b)) (target_vars t) (act_vars o ++ code_vars b) (same_times y (target_vars t))
+        (times_fewer y (act_vars (simple_act facts o)) (code_vars (simple_code (known_after t (simple_act facts o) facts) b)) (act_vars o) (code_vars b) (act_vars_fewer o facts) (code_vars_fewer b (known_after t (simple_act facts o) facts)))
 
     arms_vars_fewer : (v : Val) (as' : Arms) (facts : Facts) → times y (arms_vars (simple_arms facts v as')) ≤ times y (arms_vars as')
     arms_vars_fewer v no_arm facts = omega arith
@@ -120,7 +119,7 @@ module _ (y : ℕ) where
     code_sites_fewer : (b : Code) (facts : Facts) → times y (code_sites (simple_code facts b)) ≤ times y (code_sites b)
     code_sites_fewer (end o) facts = act_sites_fewer o facts
     code_sites_fewer (store cs b) facts = times_fewer y (map (λ c. c.site.0) cs) (code_sites (simple_code facts b)) (map (λ c. c.site.0) cs) (code_sites b) (same_times y (map (λ c. c.site.0) cs)) (code_sites_fewer b facts)
-    code_sites_fewer (bind t o b) facts = times_fewer y (act_sites (simple_act facts o)) (code_sites (simple_code facts b)) (act_sites o) (code_sites b) (act_sites_fewer o facts) (code_sites_fewer b facts)
+    code_sites_fewer (bind t o b) facts = times_fewer y (act_sites (simple_act facts o)) (code_sites (simple_code (known_after t (simple_act facts o) facts) b)) (act_sites o) (code_sites b) (act_sites_fewer o facts) (code_sites_fewer b (known_after t (simple_act facts o) facts))
 
     arms_sites_fewer : (v : Val) (as' : Arms) (facts : Facts) → times y (arms_sites (simple_arms facts v as')) ≤ times y (arms_sites as')
     arms_sites_fewer v no_arm facts = omega arith
@@ -171,7 +170,7 @@ module _ (K : Kind)
     code_each : (b : Code) (facts : Facts) → EachCode K b → EachCode K (simple_code facts b)
     code_each (end o) facts h = act_each o facts h
     code_each (store cs b) facts h = (h.0, code_each b facts h.1)
-    code_each (bind t o b) facts h = (h.0, act_each o facts h.1, code_each b facts h.2)
+    code_each (bind t o b) facts h = (h.0, act_each o facts h.1, code_each b (known_after t (simple_act facts o) facts) h.2)
 
     pub arms_each : (v : Val) (as' : Arms) (facts : Facts) → EachArms K as' → EachArms K (simple_arms facts v as')
     arms_each v no_arm facts h = tt
@@ -219,7 +218,7 @@ module _ (node_width most : ℕ) where
     code_narrow : (b : Code) (facts : Facts) → NarrowCode node_width most b → NarrowCode node_width most (simple_code facts b)
     code_narrow (end o) facts h = act_narrow o facts h
     code_narrow (store cs b) facts h = code_narrow b facts h
-    code_narrow (bind t o b) facts h = code_narrow b facts h
+    code_narrow (bind t o b) facts h = code_narrow b (known_after t (simple_act facts o) facts) h
 
     arms_narrow : (v : Val) (as' : Arms) (facts : Facts) → NarrowArms node_width most as' → NarrowArms node_width most (simple_arms facts v as')
     arms_narrow v no_arm facts h = tt
@@ -270,7 +269,7 @@ module _ (p : Program) (procs : List Procedure) (same_count : length procs ≡ l
   mutual
     unfolding simple_act ActFormed EachAct
 
-    act_formed : (o : Act) (facts : Facts) (scope : Scope) → VectorAct o → ActFormed p scope o → ActFormed after scope (simple_act facts o)
+    pub act_formed : (o : Act) (facts : Facts) (scope : Scope) → VectorAct o → ActFormed p scope o → ActFormed after scope (simple_act facts o)
     act_formed (case v as') facts scope n h =
         let k : ArmsFormed after scope (simple_arms facts v as') = arms_formed v as' facts scope n.2 h.1 in
         case_has (ActFormed after scope) (CodeFormed after scope) (λ bs. ArmsFormed after scope bs × VectorArms bs) (formed_block scope) (formed_fail scope) (formed_split scope) facts v (simple_arms facts v as')
@@ -291,7 +290,7 @@ module _ (p : Program) (procs : List Procedure) (same_count : length procs ≡ l
     code_formed : (b : Code) (facts : Facts) (scope : Scope) → VectorCode b → CodeFormed p scope b → CodeFormed after scope (simple_code facts b)
     code_formed (end o) facts scope n h = act_formed o facts scope n h
     code_formed (store cs b) facts scope n h = (h.0, code_formed b facts (with_words (cell_vars cs) scope) n.1 h.1)
-    code_formed (bind t o b) facts scope n h = (act_formed o facts scope n.1 h.0, code_formed b facts (with_target t scope) n.2 h.1)
+    code_formed (bind t o b) facts scope n h = (act_formed o facts scope n.1 h.0, code_formed b (known_after t (simple_act facts o) facts) (with_target t scope) n.2 h.1)
 
     arms_formed : (v : Val) (as' : Arms) (facts : Facts) (scope : Scope) → VectorArms as' → ArmsFormed p scope as' → ArmsFormed after scope (simple_arms facts v as')
     arms_formed v no_arm facts scope n h = tt

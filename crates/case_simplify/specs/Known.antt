@@ -5,9 +5,12 @@ use Rattle.grin_syntax.specs.declared.program.Word as W
 use Rattle.grin_syntax.specs.declared.program.Word.TheVariants.{Lit, Var, Global, TagWord}
 use Rattle.grin_syntax.specs.declared.program.Val as V
 use Rattle.grin_syntax.specs.declared.program.Val.TheVariants.{NodeVar, Node, Vector, One}
+use Rattle.grin_syntax.specs.declared.program.Target.{Target}
+use Rattle.grin_syntax.specs.declared.program.Target.TheVariants as to
 use Rattle.grin_syntax.specs.declared.program.Shape.{Shape}
 use Rattle.grin_syntax.specs.declared.program.Shape.TheVariants as shape
 use Rattle.grin_syntax.specs.Tags.{tag_id}
+use Rattle.grin_syntax.specs.Tree.{Act, unit}
 use Rattle.grin_meaning.specs.Values.{and_then}
 pub use Rattle.case_simplify.specs.declared.known.Known.{Known}
 pub use Rattle.case_simplify.specs.declared.known.Known.TheVariants.{Tag, Number}
@@ -61,6 +64,41 @@ told_second facts v = and_then (second_word v) (told facts)
 abbrev pub note_word : Option W.Word → Known → Facts → Facts
 note_word (Some (Var x)) k facts = note x k facts
 note_word _ k facts = facts
+
+-- ---- copies
+
+-- what is known of a word is known of a variable too
+abbrev pub note_known : VarId → Option Known → Facts → Facts
+note_known x None facts = facts
+note_known x (Some k) facts = note x k facts
+
+-- each variable is given a word
+abbrev pub note_copies : List VarId → List W.Word → Facts → Facts
+note_copies [] ws facts = facts
+note_copies (x ∷ xs) [] facts = facts
+note_copies (x ∷ xs) (w ∷ ws) facts = note_copies xs ws (note_known x (told facts w) facts)
+
+-- the words of a value; those of a node are its tag and its fields
+abbrev pub words_in : V.Val → List W.Word
+words_in (NodeVar x) = []
+words_in (Node t ws) = TagWord t ∷ ws
+words_in (Vector ws) = ws
+words_in (One w) = w ∷ []
+
+-- the variables of a target that are given a word each
+abbrev pub word_vars : Target → List VarId
+word_vars to.Nothing = []
+word_vars (to.Node x) = []
+word_vars (to.One x) = x ∷ []
+word_vars (to.Vector xs) = xs
+
+-- What is known after a statement: of the words that a unit gives, and so of the variables that are
+-- given them.
+abbrev pub known_after : Target → Act → Facts → Facts
+known_after t (unit v) facts = note_copies (word_vars t) (words_in v) facts
+known_after t _ facts = facts
+
+-- ---- cases
 
 -- What is known in an alternative of a case on v: a pattern tells the tag, and that of an integer
 -- the number too.

@@ -1,4 +1,5 @@
 pub mod Known
+pub mod Table
 pub mod Choice
 pub mod Chosen
 pub mod Simple

@@ -10,7 +10,7 @@ use Rattle.grin_syntax.specs.Tree.{Code, end, store, bind, Act, unit, fetch, fet
 use Rattle.grin_meaning.specs.Checks.{is_some_and}
 use Rattle.grin_meaning.specs.Rewritten.{rewritten}
 use Rattle.numbers.specs.Numbers.{same_number}
-use Rattle.case_simplify.specs.Known.{Facts, nothing_known, noted}
+use Rattle.case_simplify.specs.Known.{Facts, nothing_known, known_after, noted}
 use Rattle.case_simplify.specs.Choice.{taken_of}
 
 -- ---- what a case gives back
@@ -97,7 +97,8 @@ unfoldable mutual
   pub simple_code : Facts → Code → Code
   simple_code facts (end o) = end (simple_act facts o)
   simple_code facts (store cs b) = store cs (simple_code facts b)
-  simple_code facts (bind t o b) = bind t (simple_act facts o) (simple_code facts b)
+  simple_code facts (bind t o b) =
+      bind t (simple_act facts o) (simple_code (known_after t (simple_act facts o) facts) b)
 
   -- the alternatives of a case on v
   pub simple_arms : Facts → V.Val → Arms → Arms

@@ -8,7 +8,7 @@ use Rattle.grin_syntax.specs.declared.program.Val.TheVariants.{Vector}
 use Rattle.grin_syntax.specs.Tree.{Code, end, store, bind, Act, unit, case, nested, Arms, no_arm, arm, Program}
 use Rattle.grin_syntax.specs.Formed.{AllOf}
 use Rattle.pass_ground.specs.Vectors.{StaysOfVectors}
-use Rattle.case_simplify.specs.Known.{Known, Tag, Facts, nothing_known, told_first, told_second, noted}
+use Rattle.case_simplify.specs.Known.{Known, Tag, Facts, nothing_known, told_first, told_second, known_after, noted}
 use Rattle.case_simplify.specs.Choice.{Verdict, Takes, Passes, Open, verdict}
 
 -- ---- cases on a known tag
@@ -56,7 +56,8 @@ unfoldable mutual
   pub SimpleCode : Facts → Code → Type 0
   SimpleCode facts (end o) = SimpleAct facts o
   SimpleCode facts (store cs b) = SimpleCode facts b
-  SimpleCode facts (bind t o b) = SimpleAct facts o × SimpleCode facts b
+  -- what is known of a word is known of its copy
+  SimpleCode facts (bind t o b) = SimpleAct facts o × SimpleCode (known_after t o facts) b
 
   -- in the alternatives of a case on v more is known
   pub SimpleArms : Facts → V.Val → Arms → Type 0

@@ -1,20 +1,22 @@
 // Blocks with fewer cases.
 #![tactic(auto, using(grin_syntax::proofs::TreeOf::tree_of), unfolding(crate::specs::Simple::simple_act))]
 
-ghost use Rattle.std.specs.Prelude.{◌≡◌, map, IfOk};
+ghost use Rattle.std.specs.Prelude.{◌≡◌, map, IfOk, OnOk};
 ghost use Rattle.grin_syntax.specs.Tree.{Code, act_of, before_of, arm_of, arms_of, code_of, as_act};
 ghost use Rattle.case_simplify.specs.Known.{facts_of};
+ghost use Rattle.case_simplify.specs.Table.{Adds};
 ghost use Rattle.case_simplify.specs.Simple.{unit_or_case, simple_case, simple_act, simple_code, simple_arm};
 
 use crate::choice::{Choice, choose, gives_back};
-use crate::known::{Fact, noted, told_first, told_second};
+use crate::known::{FactTable, note_pattern, note_statement, told_first, told_second};
 use grin_syntax::{Alt, Block, Op, Stmt, Val};
 use seq::Seq;
 use std::alloc::{AllocError, Global};
 
 #[cycle(simplify)]
-fn simple_op(alloc: Global, facts: &[Fact], op: Op) -> Result<Op, AllocError>
-    ensures { IfOk result (λ o. act_of o ≡ simple_act (facts_of facts.now) (act_of op)) }
+fn simple_op(alloc: Global, facts: &mut FactTable, op: Op) -> Result<Op, AllocError>
+    ensures tree { IfOk result (λ o. act_of o ≡ simple_act (facts_of facts.old) (act_of op)) }
+    ensures facts { OnOk result (facts.new ≡ facts.old) }
 {
     match op {
         Op::Unit(v) => Ok(Op::Unit(v)),
@@ -44,12 +46,13 @@ fn simple_op(alloc: Global, facts: &[Fact], op: Op) -> Result<Op, AllocError>
 #[cycle(simplify)]
 fn simple_alts(
     alloc: Global,
-    facts: &[Fact],
+    facts: &mut FactTable,
     v: &Val,
     alts: Seq<Alt>,
 ) -> Result<Seq<Alt>, AllocError>
-    ensures { IfOk result (λ made. map arm_of made
-        ≡ map (simple_arm (facts_of facts.now) v.now) (map arm_of alts)) }
+    ensures tree { IfOk result (λ made. map arm_of made
+        ≡ map (simple_arm (facts_of facts.old) v.now) (map arm_of alts)) }
+    ensures facts { OnOk result (facts.new ≡ facts.old) }
 {
     let mut made = Seq::new(alloc);
     for alt in alts.into_vec() {
@@ -60,37 +63,54 @@ fn simple_alts(
 
 // An alternative of a case on `v`.
 #[cycle(simplify)]
-fn simple_alt(alloc: Global, facts: &[Fact], v: &Val, alt: Alt) -> Result<Alt, AllocError>
-    ensures { IfOk result (λ a. arm_of a ≡ simple_arm (facts_of facts.now) v.now (arm_of alt)) }
+fn simple_alt(alloc: Global, facts: &mut FactTable, v: &Val, alt: Alt) -> Result<Alt, AllocError>
+    ensures tree { IfOk result (λ a. arm_of a
+        ≡ simple_arm (facts_of facts.old) v.now (arm_of alt)) }
+    ensures facts { OnOk result (facts.new ≡ facts.old) }
 {
-    let more = noted(alloc, facts, v, &alt.pattern)?;
+    let count = facts.count();
+    note_pattern(facts, v, &alt.pattern)?;
+    let body = simple_block(alloc, facts, alt.body)?;
+    facts.keep(count);
     Ok(Alt {
         pattern: alt.pattern,
-        body: simple_block(alloc, more.as_slice(), alt.body)?,
+        body,
     })
 }
 
 #[cycle(simplify)]
-fn simple_stmt(alloc: Global, facts: &[Fact], stmt: Stmt) -> Result<Stmt, AllocError>
-    ensures { IfOk result (λ s. (c : Code) → before_of s (simple_code (facts_of facts.now) c)
-        ≡ simple_code (facts_of facts.now) (before_of stmt c)) }
+fn simple_stmt(alloc: Global, facts: &mut FactTable, stmt: Stmt) -> Result<Stmt, AllocError>
+    ensures tree { IfOk result (λ s. (c : Code) → before_of s (simple_code (facts_of facts.new) c)
+        ≡ simple_code (facts_of facts.old) (before_of stmt c)) }
+    ensures adds { OnOk result (Adds facts.old facts.new) }
 {
     match stmt {
         Stmt::Store(cells) => Ok(Stmt::Store(cells)),
-        Stmt::Bind(target, op) => Ok(Stmt::Bind(target, simple_op(alloc, facts, op)?)),
+        Stmt::Bind(target, op) => {
+            let op = simple_op(alloc, facts, op)?;
+            note_statement(facts, &target, &op)?;
+            Ok(Stmt::Bind(target, op))
+        }
     }
 }
 
 /// A block with fewer cases, where these facts are known.
 #[cycle(simplify)]
-pub(crate) fn simple_block(alloc: Global, facts: &[Fact], block: Block) -> Result<Block, AllocError>
-    ensures { IfOk result (λ b. code_of b ≡ simple_code (facts_of facts.now) (code_of block)) }
+pub(crate) fn simple_block(
+    alloc: Global,
+    facts: &mut FactTable,
+    block: Block,
+) -> Result<Block, AllocError>
+    ensures tree { IfOk result (λ b. code_of b ≡ simple_code (facts_of facts.old) (code_of block)) }
+    ensures facts { OnOk result (facts.new ≡ facts.old) }
 {
+    let count = facts.count();
     let mut stmts = Seq::new(alloc);
     for stmt in block.stmts.into_vec() {
         stmts.push(simple_stmt(alloc, facts, stmt)?)?;
     }
     let last = simple_op(alloc, facts, Box::into_inner(block.last))?;
+    facts.keep(count);
     Ok(Block {
         stmts,
         last: Box::new(alloc, last)?,
@@ -98,7 +118,7 @@ pub(crate) fn simple_block(alloc: Global, facts: &[Fact], block: Block) -> Resul
 }
 
 // What a case becomes, whose alternatives are simple.
-fn simple_case(alloc: Global, facts: &[Fact], v: Val, alts: Seq<Alt>) -> Result<Op, AllocError>
+fn simple_case(alloc: Global, facts: &FactTable, v: Val, alts: Seq<Alt>) -> Result<Op, AllocError>
     ensures { IfOk result (λ o. act_of o
         ≡ simple_case (facts_of facts.now) v (arms_of (map arm_of alts))) }
 {

@@ -1,11 +1,14 @@
 // What is known of the variables at a place of a program.
+#![tactic(auto)]
 
-ghost use Rattle.std.specs.Prelude.{◌≡◌, cond, nat_eq, Some, IfOk, OnOk};
-ghost use Rattle.case_simplify.specs.Known.{facts_of, told, first_word, second_word, told_first, told_second, note_word, noted};
+ghost use Rattle.std.specs.Prelude.{◌≡◌, [], take, length, slice_get, OnOk};
+ghost use Rattle.grin_syntax.specs.Tree.{act_of};
+ghost use Rattle.case_simplify.specs.Known.{facts_of, note, told, first_word, second_word, told_first, told_second, note_word, noted, note_known, note_copies, words_in, word_vars, known_after};
+ghost use Rattle.case_simplify.specs.Table.{Adds};
 
-use grin_syntax::{Shape, TagId, Val, VarId, Word};
-use seq::Seq;
+use grin_syntax::{Op, Shape, TagId, Target, Val, VarId, Word};
 use std::alloc::{AllocError, Global};
+use std::marker::Model;
 
 /// What a word is known to be.
 #[derive(Clone, Copy, Debug)]
@@ -14,41 +17,96 @@ pub(crate) enum Known {
     Number(i32),
 }
 
-/// What a variable is known to hold.
+/// What a variable is known to hold, and what was known of it before.
 #[derive(Clone, Copy, Debug)]
 pub(crate) struct Fact {
     pub var: VarId,
     pub known: Known,
+    pub before: Option<Known>,
 }
 
-fn told_var(facts: &[Fact], x: VarId) -> Option<Known>
-    ensures { result ≡ facts_of facts.now x.0 }
-{
-    let mut found = None;
-    'facts: for fact in facts {
-        found = newer(fact, x, found);
+/// What is known at a place: facts, of which the latest of a variable counts. It is found at once.
+#[derive(Drop)]
+pub(crate) struct FactTable {
+    facts: Vec<Fact>,
+    // by the number of a variable
+    table: Vec<Option<Known>>,
+}
+
+impl Model for FactTable {
+    ghost use Rattle.std.specs.Prelude.{List};
+    ghost use Rattle.case_simplify.specs.declared.known.Fact.{Fact};
+    ghost use Rattle.case_simplify.specs.Table.{TableOf};
+
+    ghost Value = { List Fact };
+
+    ghost view = { λ t. t.facts.items };
+
+    ghost invariant = { λ t. TableOf t.facts.items t.table.items };
+}
+
+impl FactTable {
+    /// Nothing is known.
+    #[tactic(auto, using(crate::proofs::Tables::table_none))]
+    pub(crate) fn new(alloc: Global) -> FactTable
+        ensures { result ≡ [] }
+    {
+        FactTable {
+            facts: Vec::new(alloc),
+            table: Vec::new(alloc),
+        }
     }
-    found
-}
 
-// What a fact says of a variable, or else what was found before.
-fn newer(fact: &Fact, x: VarId, found: Option<Known>) -> Option<Known>
-    ensures { result ≡ cond (nat_eq x.0 fact.now.var.0) (Some fact.now.known) found }
-{
-    if x.0 == fact.var.0 {
-        Some(fact.known)
-    } else {
-        found
+    /// How many facts there are.
+    pub(crate) fn count(&self) -> usize
+        ensures { result ≡ length self.now }
+    {
+        self.facts.len()
+    }
+
+    fn told_var(&self, x: VarId) -> Option<Known>
+        ensures { result ≡ facts_of self.now x.0 }
+    {
+        match self.table.get(x.0 as usize) {
+            Some(known) => *known,
+            None => None,
+        }
+    }
+
+    fn note(&mut self, var: VarId, known: Known) -> Result<(), AllocError>
+        ensures facts { OnOk result (facts_of self.new ≡ note var known (facts_of self.old)) }
+        ensures adds { OnOk result (Adds self.old self.new) }
+    {
+        let before = self.told_var(var);
+        let at = var.0 as usize;
+        for _ in self.table.len()..(at + 1) {
+            self.table.push(None)?;
+        }
+        self.facts.push(Fact { var, known, before })?;
+        self.table[at] = Some(known);
+        Ok(())
+    }
+
+    /// Only the first so many facts stay.
+    pub(crate) fn keep(&mut self, count: usize)
+        ensures { self.new ≡ take count self.old }
+    {
+        for _ in count..self.facts.len() {
+            match self.facts.pop() {
+                Some(fact) => self.table[fact.var.0 as usize] = fact.before,
+                None => {}
+            }
+        }
     }
 }
 
-fn told(facts: &[Fact], word: Word) -> Option<Known>
+fn told(facts: &FactTable, word: Word) -> Option<Known>
     ensures { result ≡ told (facts_of facts.now) word }
 {
     match word {
         Word::Lit(k) => Some(Known::Number(k)),
         Word::TagWord(t) => Some(Known::Tag(t)),
-        Word::Var(x) => told_var(facts, x),
+        Word::Var(x) => facts.told_var(x),
         Word::Global(_) => None,
     }
 }
@@ -76,7 +134,7 @@ fn second_word(v: &Val) -> Option<Word>
 }
 
 /// What is known of the word of `v` that holds its tag.
-pub(crate) fn told_first(facts: &[Fact], v: &Val) -> Option<Known>
+pub(crate) fn told_first(facts: &FactTable, v: &Val) -> Option<Known>
     ensures { result ≡ told_first (facts_of facts.now) v.now }
 {
     match first_word(v) {
@@ -86,7 +144,7 @@ pub(crate) fn told_first(facts: &[Fact], v: &Val) -> Option<Known>
 }
 
 /// What is known of the word after it.
-pub(crate) fn told_second(facts: &[Fact], v: &Val) -> Option<Known>
+pub(crate) fn told_second(facts: &FactTable, v: &Val) -> Option<Known>
     ensures { result ≡ told_second (facts_of facts.now) v.now }
 {
     match second_word(v) {
@@ -96,15 +154,13 @@ pub(crate) fn told_second(facts: &[Fact], v: &Val) -> Option<Known>
 }
 
 // A fact more, where the word is a variable.
-#[tactic(auto, using(crate::proofs::Loops::facts_push))]
-fn note_word(facts: &mut Seq<Fact>, word: Option<Word>, known: Known) -> Result<(), AllocError>
-    ensures { OnOk result (facts_of facts.new ≡ note_word word known (facts_of facts.old)) }
+#[tactic(auto, using(crate::proofs::Tables::adds_none))]
+fn note_word(facts: &mut FactTable, word: Option<Word>, known: Known) -> Result<(), AllocError>
+    ensures facts { OnOk result (facts_of facts.new ≡ note_word word known (facts_of facts.old)) }
+    ensures adds { OnOk result (Adds facts.old facts.new) }
 {
     match word {
-        Some(Word::Var(var)) => {
-            facts.push(Fact { var, known })?;
-            Ok(())
-        }
+        Some(Word::Var(var)) => facts.note(var, known),
         Some(Word::Lit(_)) => Ok(()),
         Some(Word::TagWord(_)) => Ok(()),
         Some(Word::Global(_)) => Ok(()),
@@ -112,27 +168,113 @@ fn note_word(facts: &mut Seq<Fact>, word: Option<Word>, known: Known) -> Result<
     }
 }
 
-/// What is known in an alternative of a case on `v`. There are at most two facts for each case that
-/// stands around the place, so that few are copied.
-pub(crate) fn noted(
-    alloc: Global,
-    facts: &[Fact],
+/// What is known in an alternative of a case on `v`.
+#[tactic(auto, using(crate::proofs::Tables::adds_none, crate::proofs::Tables::adds_again))]
+pub(crate) fn note_pattern(
+    facts: &mut FactTable,
     v: &Val,
     pattern: &Shape,
-) -> Result<Seq<Fact>, AllocError>
-    ensures { IfOk result (λ more. facts_of more ≡ noted v.now pattern.now (facts_of facts.now)) }
+) -> Result<(), AllocError>
+    ensures facts { OnOk result (facts_of facts.new
+        ≡ noted v.now pattern.now (facts_of facts.old)) }
+    ensures adds { OnOk result (Adds facts.old facts.new) }
 {
-    let mut more = Seq::from_slice(alloc, facts)?;
     match pattern {
-        Shape::Node(tag, _) => {
-            note_word(&mut more, first_word(v), Known::Tag(*tag))?;
-            Ok(more)
-        }
+        Shape::Node(tag, _) => note_word(facts, first_word(v), Known::Tag(*tag)),
         Shape::Int(k) => {
-            note_word(&mut more, first_word(v), Known::Tag(TagId(0)))?;
-            note_word(&mut more, second_word(v), Known::Number(*k))?;
-            Ok(more)
+            note_word(facts, first_word(v), Known::Tag(TagId(0)))?;
+            note_word(facts, second_word(v), Known::Number(*k))
         }
-        Shape::Else => Ok(more),
+        Shape::Else => Ok(()),
+    }
+}
+
+fn word_at(v: &Val, at: usize) -> Option<Word>
+    ensures { result ≡ slice_get (words_in v.now) at }
+{
+    match v {
+        Val::NodeVar(_) => None,
+        Val::Node(tag, words) => {
+            if at == 0 {
+                Some(Word::TagWord(*tag))
+            } else {
+                words.get(at - 1).copied()
+            }
+        }
+        Val::Vector(words) => words.get(at).copied(),
+        Val::One(word) => { if at == 0 { Some(*word) } else { None } }
+    }
+}
+
+// What is known of a word is known of a variable too.
+#[tactic(auto, using(crate::proofs::Tables::adds_none))]
+fn note_copy(facts: &mut FactTable, x: VarId, word: Word) -> Result<(), AllocError>
+    ensures facts { OnOk result (facts_of facts.new
+        ≡ note_known x (told (facts_of facts.old) word) (facts_of facts.old)) }
+    ensures adds { OnOk result (Adds facts.old facts.new) }
+{
+    match told(facts, word) {
+        Some(known) => facts.note(x, known),
+        None => Ok(()),
+    }
+}
+
+// Each variable is given a word of `v`.
+#[tactic(auto, using(crate::proofs::Tables::adds_none))]
+fn note_copies(facts: &mut FactTable, vars: &[VarId], v: &Val) -> Result<(), AllocError>
+    ensures facts { OnOk result (facts_of facts.new
+        ≡ note_copies vars.now (words_in v.now) (facts_of facts.old)) }
+    ensures adds { OnOk result (Adds facts.old facts.new) }
+{
+    let mut at = 0;
+    'vars: for x in vars {
+        match word_at(v, at) {
+            Some(word) => note_copy(facts, *x, word)?,
+            None => return Ok(()),
+        }
+        at += 1;
+    }
+    Ok(())
+}
+
+fn note_unit(facts: &mut FactTable, target: &Target, v: &Val) -> Result<(), AllocError>
+    ensures facts { OnOk result (facts_of facts.new
+        ≡ note_copies (word_vars target.now) (words_in v.now) (facts_of facts.old)) }
+    ensures adds { OnOk result (Adds facts.old facts.new) }
+{
+    match target {
+        Target::Nothing => note_copies(facts, &[], v),
+        Target::Node(_) => note_copies(facts, &[], v),
+        Target::One(x) => note_copies(facts, &[*x], v),
+        Target::Vector(xs) => note_copies(facts, xs.as_slice(), v),
+    }
+}
+
+/// What is known after a statement: of the words that a unit gives, and so of the variables that
+/// are given them.
+#[tactic(auto, using(grin_syntax::proofs::TreeOf::tree_of, crate::proofs::Tables::adds_none))]
+pub(crate) fn note_statement(
+    facts: &mut FactTable,
+    target: &Target,
+    op: &Op,
+) -> Result<(), AllocError>
+    ensures facts { OnOk result (facts_of facts.new
+        ≡ known_after target.now (act_of op.now) (facts_of facts.old)) }
+    ensures adds { OnOk result (Adds facts.old facts.new) }
+{
+    match op {
+        Op::Unit(v) => note_unit(facts, target, v),
+        Op::Fetch(_) => Ok(()),
+        Op::FetchWord(_, _) => Ok(()),
+        Op::Update(_, _) => Ok(()),
+        Op::Eval(_) => Ok(()),
+        Op::Apply(_, _) => Ok(()),
+        Op::Call(_, _) => Ok(()),
+        Op::Prim(_, _, _) => Ok(()),
+        Op::Read => Ok(()),
+        Op::Write(_) => Ok(()),
+        Op::Case(_, _) => Ok(()),
+        Op::Nested(_) => Ok(()),
+        Op::Fail => Ok(()),
     }
 }

@@ -1,5 +1,5 @@
 //! A pass over programs of vectors: a case on a known tag becomes the alternative that it takes,
-//! and a case that only gives back its vector a unit.
+//! and a case that only gives back its vector a unit. What is known of a word is known of its copy.
 #![tactic(auto)]
 
 mod blocks;

@@ -8,6 +8,7 @@ ghost use Rattle.case_simplify.specs.Simple.{simplified};
 ghost use Rattle.case_simplify.specs.Simplified.{Simplified};
 
 use crate::blocks::simple_block;
+use crate::known::FactTable;
 use grin_meaning::Pass;
 use grin_syntax::{Grin, Proc};
 use seq::Seq;
@@ -34,9 +35,10 @@ impl Pass for Simplify {
 pub fn with_fewer_cases(alloc: Global, g: Grin) -> Result<Grin, AllocError>
     ensures { IfOk result (λ h. program_of h ≡ simplified (program_of g)) }
 {
+    let mut facts = FactTable::new(alloc);
     let mut procs = Seq::new(alloc);
     for proc in g.procs.into_vec() {
-        let body = simple_block(alloc, &[], proc.body)?;
+        let body = simple_block(alloc, &mut facts, proc.body)?;
         procs.push(Proc { body, ..proc })?;
     }
     Ok(Grin { procs, ..g })

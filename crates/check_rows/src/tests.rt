@@ -38,12 +38,10 @@ fn is_judged(rt: &impl Abort, alloc: Global, text: &str, want: Verdict) -> Resul
 }
 
 /// A text behind the declarations of lists, the rule that it breaks, and the number of that rule.
-const BROKEN: [(&str, u8, u64); 14] = [
+const BROKEN: [(&str, u8, u64); 16] = [
     ("data Nil 0; main = Nil;", 11, 30),
     ("main = Nil; main = Nil;", 12, 37),
     ("f x x = x; main = Nil;", 13, 29),
-    ("main = foo;", 14, 32),
-    ("main = Cons 1;", 15, 32),
     ("f x = case x of { y -> y; Nil -> x }; main = Nil;", 16, 43),
     (
         "f x = case x of { Nil -> x; Nil -> x }; main = Nil;",
@@ -57,6 +55,16 @@ const BROKEN: [(&str, u8, u64); 14] = [
     ("main = let x = add; add = 1 in x;", 23, 40),
     ("main = Cons 1 1 1 1 1 1 1 1 1 1 1 1 1;", 33, 32),
     ("data Big 13; main = Nil;", 34, 30),
+    // Two at once: the limits come first, in the order of their numbers, and rules without a place
+    // last.
+    ("main = foo; data Big 13;", 34, 42),
+    (
+        "data Big 13; main = Cons 1 1 1 1 1 1 1 1 1 1 1 1 1;",
+        33,
+        45,
+    ),
+    ("f = foo;", 14, 29),
+    ("main x y = Cons 1;", 15, 36),
 ];
 
 /// The texts break these rules.

@@ -17,7 +17,6 @@ use grin_syntax::Grin;
 use std::alloc::Global;
 use std::test::Fail;
 use vectorised_form::vectorise_takes_inlined;
-use worked_texts::QUEENS;
 
 /// Whether a program is slim beside one of these sizes, and not too large.
 fn is_small(g: &Grin, sizes: Sizes) -> bool
@@ -58,10 +57,14 @@ fn last_stage(alloc: Global, p: &Checked) -> Result<Grin, Fail>
     Ok(last)
 }
 
+/// A program whose first function takes a list, which the last stage raises to its two fields.
+const HEAD: &str =
+    "data Nil 0; data Cons 2; hd c = case c of { Cons h t -> h }; main = case hd (Cons 65 Nil) of { x -> Cons x Nil };";
+
 #[test]
 fn code_is_that_of_the_last_stage(rt: HostRuntime) -> Result<(), Fail> {
     let alloc = rt.alloc();
-    let p = checked(alloc, QUEENS)?;
+    let p = checked(alloc, HEAD)?;
     let options = Options {
         cells: 1000,
         stack: 4096,
@@ -70,5 +73,8 @@ fn code_is_that_of_the_last_stage(rt: HostRuntime) -> Result<(), Fail> {
     let layers = layers_below(alloc, &last, options.cells, options.stack)?;
     let made = compile(alloc, &p, options)?;
     assert_eq!(rt; made.code(), layers.code.as_slice());
+    // The stage before has one parameter here.
+    let first = made.low().procs.get(0).ok_or("no procedure")?;
+    assert_eq!(rt; first.params.len(), 2);
     Ok(())
 }

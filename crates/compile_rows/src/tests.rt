@@ -97,10 +97,9 @@ const TAKES: &str =
 //           v16 <- fetch v3 0
 //           v17 <- fetch v3 1
 //           v18 <- fetch v3 2
-//           [v19 v20 v21] <- unit [v16 v17 v18]
-//           case [v19 v20 v21] of
+//           case [v16 v17 v18] of
 //             (CInt) ->
-//               write v20
+//               write v17
 //               call @print v4
 //             else ->
 //               fail
@@ -208,11 +207,8 @@ when v2 = 2
 load v16 v3 0
 load v17 v3 1
 load v18 v3 2
-set v19 v16
-set v20 v17
-set v21 v18
-when v19 = 0
-put v20
+when v16 = 0
+put v17
 tail 2 at s4 with v4
 else
 fail

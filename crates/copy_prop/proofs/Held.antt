@@ -13,7 +13,9 @@ use Rattle.grin_syntax.specs.Tree.{Code, end, store, bind, Act, unit, fetch, fet
 use Rattle.grin_syntax.specs.Binders.{target_vars, shape_vars, cell_vars, act_vars, code_vars, arms_vars}
 use Rattle.grin_syntax.specs.Formed.{Scope, InScope, with_words, with_target, WordFormed}
 use Rattle.grin_meaning.specs.Ready.{NoNodeTarget}
-use Rattle.copy_prop.specs.Resolved.{Table, Alias, put, entry, word_for, as_word, alias_of, noted_alias, noted_act, noted_code, noted_arms}
+use Rattle.copy_prop.specs.Copies.{Alias, copies_of}
+use Rattle.copy_prop.specs.Resolved.{Table, put, entry, word_for, as_word, put_all, noted_copies, noted_act, noted_code, noted_arms}
+use Rattle.copy_prop.proofs.Taken.{alias_vars, copy_vars, WordsFormed}
 use Rattle.seq.specs.Lists.{times}
 use Rattle.seq.proofs.Counted.{counts, times_left, times_right, times_append, one_at}
 
@@ -38,43 +40,21 @@ entry_other (o ∷ k) zero (suc y) w h = refl
 entry_other (o ∷ k) (suc x) zero w h = refl
 entry_other (o ∷ k) (suc x) (suc y) w h = entry_other k x y w (λ e. h (ap suc e))
 
--- ---- copies
-
-pub alias_is : (t : Target) (o : Act) (a : Alias) → alias_of t o ≡ Some a → (t ≡ to.One a.var) × (o ≡ unit (One a.word))
-alias_is to.Nothing o a e = cc
-alias_is (to.Node x) o a e = cc
-alias_is (to.Vector xs) o a e = cc
-alias_is (to.One x) (unit (One w)) a e = (ap (λ q. to.One q.var) (some_is e), ap (λ q. unit (One q.word)) (some_is e))
-  where
-    some_is : {a b : Alias} → ◌≡◌ {A = Option Alias} (Some a) (Some b) → a ≡ b
-    some_is h = cc
-alias_is (to.One x) (unit (NodeVar y)) a e = cc
-alias_is (to.One x) (unit (Node t ws)) a e = cc
-alias_is (to.One x) (unit (Vector ws)) a e = cc
-alias_is (to.One x) (fetch w) a e = cc
-alias_is (to.One x) (fetch_word w i) a e = cc
-alias_is (to.One x) (update w v) a e = cc
-alias_is (to.One x) (eval w) a e = cc
-alias_is (to.One x) (apply v w) a e = cc
-alias_is (to.One x) (call f ws) a e = cc
-alias_is (to.One x) (prim p w v) a e = cc
-alias_is (to.One x) read a e = cc
-alias_is (to.One x) (write w) a e = cc
-alias_is (to.One x) (case v as') a e = cc
-alias_is (to.One x) (nested b) a e = cc
-alias_is (to.One x) fail a e = cc
-
 -- ---- what isn't bound in a piece keeps its entry
 
 pub absent_differs : (y x : ℕ) (xs : List ℕ) → times y (x ∷ xs) ≡ 0 → y ≢ x
 absent_differs y x xs h e = let c : counts (nat_eq y x) ≡ 1 = ap (λ z. counts (nat_eq z x)) e ∙ one_at x in absurd (omega (arith, c, h))
 
-pub alias_keeps : (t : Target) (o : Act) (k : Table) (y : ℕ) → times y (target_vars t) ≡ 0 → entry (noted_alias (alias_of t o) k) y ≡ entry k y
-alias_keeps t o k y h = go (alias_of t o) refl
+all_keep : (as' : List Alias) (k : Table) (y : ℕ) → times y (alias_vars as') ≡ 0 → entry (put_all as' k) y ≡ entry k y
+all_keep [] k y h = refl
+all_keep (a ∷ as') k y h = all_keep as' (put k a.var.0 (as_word k a.word)) y (omega (arith, h)) ∙ entry_other k a.var.0 y (as_word k a.word) (absent_differs y a.var.0 (alias_vars as') h)
+
+pub copies_keep : (t : Target) (o : Act) (k : Table) (y : ℕ) → times y (target_vars t) ≡ 0 → entry (noted_copies (copies_of t o) k) y ≡ entry k y
+copies_keep t o k y h = go (copies_of t o) refl
   where
-    go : (q : Option Alias) → alias_of t o ≡ q → entry (noted_alias q k) y ≡ entry k y
+    go : (q : Option (List Alias)) → copies_of t o ≡ q → entry (noted_copies q k) y ≡ entry k y
     go None e = refl
-    go (Some a) e = entry_other k a.var.0 y (as_word k a.word) (absent_differs y a.var.0 [] (subst (λ u. times y (target_vars u) ≡ 0) ((alias_is t o a e).0) h))
+    go (Some as') e = all_keep as' k y (subst (λ xs. times y xs ≡ 0) (sym (copy_vars t o as' e)) h)
 
 mutual
   unfolding noted_act act_vars
@@ -99,8 +79,8 @@ mutual
   code_keeps (store cs b) k y h = code_keeps b k y (times_right y (cell_vars cs) (code_vars b) h)
   code_keeps (bind t o b) k y h =
       let r : times y (act_vars o ++ code_vars b) ≡ 0 = times_right y (target_vars t) (act_vars o ++ code_vars b) h in
-      code_keeps b (noted_alias (alias_of t o) (noted_act o k)) y (times_right y (act_vars o) (code_vars b) r)
-      ∙ alias_keeps t o (noted_act o k) y (times_left y (target_vars t) (act_vars o ++ code_vars b) h) ∙ act_keeps o k y (times_left y (act_vars o) (code_vars b) r)
+      code_keeps b (noted_copies (copies_of t o) (noted_act o k)) y (times_right y (act_vars o) (code_vars b) r)
+      ∙ copies_keep t o (noted_act o k) y (times_left y (target_vars t) (act_vars o ++ code_vars b) h) ∙ act_keeps o k y (times_left y (act_vars o) (code_vars b) r)
 
   pub arms_keep : (as' : Arms) (k : Table) (y : ℕ) → times y (arms_vars as') ≡ 0 → entry (noted_arms as' k) y ≡ entry k y
   arms_keep no_arm k y h = refl
@@ -179,8 +159,33 @@ module _ (g : Program) where
       new : (y : ℕ) → InScope ys y → times y os ≡ 0
       new y i = let e : times y (os ++ ys) ≡ times y os + times y ys = times_append y os ys in let o : times y scope.words + times y (os ++ ys) ≤ 1 = h.once y in omega (arith, e, o, i)
 
-  -- once a copy is in the table
-  pub held_alias : (k : Table) (scope : Scope) (scope' ys : List ℕ) (a : Alias) → WordFormed g scope a.word → Held k scope scope' (a.var.0 ∷ ys) → Held (noted_alias (Some a) k) (with_words (a.var.0 ∷ []) scope) scope' ys
+  -- where as many are in scope
+  held_scope : (k : Table) (scope other : Scope) (scope' ys : List ℕ) → ((y : ℕ) → times y other.words ≡ times y scope.words) → Held k scope scope' ys → Held k other scope' ys
+  held_scope k scope other scope' ys same h = record {
+    range = λ x i. h.range x (let e : times x.0 other.words ≡ times x.0 scope.words = same x.0 in omega (arith, i, e));
+    below = λ u. (let e : times u other.words ≡ times u scope.words = same u in let b : times u scope' ≤ times u scope.words = h.below u in omega (arith, e, b));
+    fresh = h.fresh;
+    once = λ y. (let e : times y other.words ≡ times y scope.words = same y in let o : times y scope.words + times y ys ≤ 1 = h.once y in omega (arith, e, o));
+  }
+
+  word_later : (us : List ℕ) (scope : Scope) (w : W.Word) → WordFormed g scope w → WordFormed g (with_words us scope) w
+  word_later us scope (Lit k) h = h
+  word_later us scope (Var x) h = let e : times x.0 (us ++ scope.words) ≡ times x.0 us + times x.0 scope.words = times_append x.0 us scope.words in omega (arith, e, h)
+  word_later us scope (Global i) h = h
+  word_later us scope (TagWord t) h = h
+
+  pub words_later : (us : List ℕ) (scope : Scope) (as' : List Alias) → WordsFormed g scope as' → WordsFormed g (with_words us scope) as'
+  words_later us scope [] f = tt
+  words_later us scope (a ∷ as') f = (word_later us scope a.word f.0, words_later us scope as' f.1)
+
+  pub turned_in : (x : ℕ) (xs ys : List ℕ) (y : ℕ) → times y (x ∷ (xs ++ ys)) ≡ times y (xs ++ x ∷ ys)
+  turned_in x xs ys y =
+      let e : times y (xs ++ ys) ≡ times y xs + times y ys = times_append y xs ys in
+      let f : times y (xs ++ x ∷ ys) ≡ times y xs + times y (x ∷ ys) = times_append y xs (x ∷ ys) in
+      omega (arith, e, f)
+
+  -- once a word of a copy is in the table
+  held_alias : (k : Table) (scope : Scope) (scope' ys : List ℕ) (a : Alias) → WordFormed g scope a.word → Held k scope scope' (a.var.0 ∷ ys) → Held (put k a.var.0 (as_word k a.word)) (with_words (a.var.0 ∷ []) scope) scope' ys
   held_alias k scope scope' ys a f h = record {
     range = λ x i. go x i (nat_eq x.0 a.var.0) refl;
     below = λ u. (let b : times u scope' ≤ times u scope.words = h.below u in omega (arith, b));
@@ -196,3 +201,11 @@ module _ (g : Program) where
       go x i false e =
           let c : counts (nat_eq x.0 a.var.0) ≡ 0 = ap counts e in
           subst (λ o. WordFormed g (as_scope scope') (word_for x o)) (sym (entry_other k a.var.0 x.0 (as_word k a.word) (λ s. (let t : nat_eq x.0 a.var.0 ≡ true = grind (arith, nat_tests) in not_both (nat_eq x.0 a.var.0) t e)))) (h.range x (omega (arith, i, c)))
+
+  -- once all are
+  pub held_copies : (as' : List Alias) (k : Table) (scope : Scope) (scope' ys : List ℕ) → WordsFormed g scope as' → Held k scope scope' (alias_vars as' ++ ys) → Held (put_all as' k) (with_words (alias_vars as') scope) scope' ys
+  held_copies [] k scope scope' ys f h = h
+  held_copies (a ∷ as') k scope scope' ys f h =
+      let one : Scope = with_words (a.var.0 ∷ []) scope in
+      held_scope (put_all as' (put k a.var.0 (as_word k a.word))) (with_words (alias_vars as') one) (with_words (alias_vars (a ∷ as')) scope) scope' ys (turned_in a.var.0 (alias_vars as') scope.words)
+      (held_copies as' (put k a.var.0 (as_word k a.word)) one scope' ys (words_later (a.var.0 ∷ []) scope as' f.1) (held_alias k scope scope' (alias_vars as' ++ ys) a f.0 h))

@@ -214,21 +214,18 @@ none_used b (x ∷ xs) h = λ i. not (code_absent x b h.0 i) && none_used b xs h
 was_copy : (t : Target) (o : Act) → IsCopy t (lean_act o) → IsCopy t o
 unfolding lean_act
 was_copy t (unit v) h = h
-was_copy to.Nothing o h = absurd h
-was_copy (to.Node x) o h = absurd h
-was_copy (to.Vector xs) o h = absurd h
-was_copy (to.One x) (fetch a) h = absurd h
-was_copy (to.One x) (fetch_word a i) h = absurd h
-was_copy (to.One x) (update a v) h = absurd h
-was_copy (to.One x) (eval a) h = absurd h
-was_copy (to.One x) (apply v a) h = absurd h
-was_copy (to.One x) (call f ws) h = absurd h
-was_copy (to.One x) (prim p a b) h = absurd h
-was_copy (to.One x) read h = absurd h
-was_copy (to.One x) (write a) h = absurd h
-was_copy (to.One x) (case v as') h = absurd h
-was_copy (to.One x) (nested b) h = absurd h
-was_copy (to.One x) fail h = absurd h
+was_copy t (fetch a) h = h
+was_copy t (fetch_word a i) h = h
+was_copy t (update a v) h = h
+was_copy t (eval a) h = h
+was_copy t (apply v a) h = h
+was_copy t (call f ws) h = h
+was_copy t (prim p a b) h = h
+was_copy t read h = h
+was_copy t (write a) h = h
+was_copy t (case v as') h = h
+was_copy t (nested b) h = h
+was_copy t fail h = h
 
 was_still : (o : Act) → IsStill (lean_act o) → is_still o ≡ true
 unfolding lean_act

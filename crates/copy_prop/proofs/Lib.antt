@@ -1,3 +1,4 @@
+pub mod Taken
 pub mod Used
 pub mod Bound
 pub mod LeanSame

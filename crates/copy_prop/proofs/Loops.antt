@@ -1,5 +1,6 @@
 -- What the loops of the walk that resolves copies keep.
-use Rattle.std.proofs.Common.{◌≡◌, ℕ, zero, suc, ◌+◌, ◌<◌, ◌≤◌, List, [], ◌∷◌, ◌++◌, map, length, Option, Some, None, slice_set, refl, sym, ap, ◌∙◌, arith}
+use Rattle.std.proofs.Common.{◌≡◌, ℕ, zero, suc, ◌+◌, ◌<◌, ◌≤◌, List, [], ◌∷◌, ◌++◌, map, take, length, get_or, Option, Some, None, slice_set, refl, sym, ap, ◌∙◌, arith}
+use Rattle.std.proofs.lemmas.List.{take_more}
 use Rattle.seq.proofs.Lists.{map_push}
 use Rattle.grin_syntax.specs.declared.program.Word as W
 use Rattle.grin_syntax.specs.declared.program.Val.{Val}
@@ -15,8 +16,9 @@ use Rattle.grin_syntax.specs.declared.program.Stmt.TheVariants.{Bind}
 use Rattle.grin_syntax.specs.Tree.{Code, Arms, no_arm, arm, case, act_of, before_of, arm_of, code_of, all_before, arms_of, Procedure, procedure_of, program_of}
 use Rattle.grin_syntax.proofs.TreeOf.{act_of-Case, before_of-Bind}
 use Rattle.grin_syntax.proofs.Pieces.{all_arms, all_arms_none, all_before_push, arms_push}
-use Rattle.copy_prop.specs.Resolved.{Table, Alias, put, as_word, as_val, alias_of, noted_alias, kept, noted_act, noted_code, noted_arms, resolved_act, resolved_code, resolved_arms, resolved_procs, resolved}
-use Rattle.copy_prop.proofs.Held.{alias_is}
+use Rattle.copy_prop.specs.Copies.{Alias, copies_of}
+use Rattle.copy_prop.specs.Resolved.{Table, put, as_word, as_val, put_all, noted_copies, kept, noted_act, noted_code, noted_arms, resolved_act, resolved_code, resolved_arms, resolved_procs, resolved}
+use Rattle.copy_prop.proofs.Taken.{copy_is}
 
 -- ---- the table
 
@@ -65,13 +67,21 @@ stmt_goes k0 k k' made from s o e u h n = record {
 }
 
 -- a copy, in the table
-pub copy_noted : (s : Stmt) (t : Target) (p : Op) (a : Alias) (o : Option Alias) (k k' : Table) (w : W.Word) → s ≡ Bind t p → o ≡ alias_of t (act_of p) → o ≡ Some a → w ≡ as_word k a.word → k' ≡ put k a.var.0 w
-    → (c : Code) → noted_code c k' ≡ noted_code (before_of s c) k
+pub copy_noted : (s : Stmt) (t : Target) (p : Op) (as' all : List Alias) (o : Option (List Alias)) (k k' : Table) → s ≡ Bind t p → o ≡ copies_of t (act_of p) → o ≡ Some as' → all ≡ as' → k' ≡ put_all all k → (c : Code) → noted_code c k' ≡ noted_code (before_of s c) k
 unfolding noted_act
-copy_noted s t p a o k k' w es eo ea ew ek c =
-    let e : alias_of t (act_of p) ≡ Some a = sym eo ∙ ea in
-    let same : noted_act (act_of p) k ≡ k = ap (λ q. noted_act q k) (alias_is t (act_of p) a e).1 in
-    ap (noted_code c) (ek ∙ ap (put k a.var.0) ew ∙ (λ i. noted_alias (sym e i) (sym same i))) ∙ ap (λ f. noted_code (f c) k) (sym (before_of-Bind t p)) ∙ ap (λ q. noted_code (before_of q c) k) (sym es)
+copy_noted s t p as' all o k k' es eo ea el ek c =
+    let e : copies_of t (act_of p) ≡ Some as' = sym eo ∙ ea in
+    let same : noted_act (act_of p) k ≡ k = ap (λ q. noted_act q k) (copy_is t (act_of p) as' e).1 in
+    ap (noted_code c) (ek ∙ (λ i. noted_copies (ap Some el i) k) ∙ (λ i. noted_copies (sym e i) (sym same i))) ∙ ap (λ f. noted_code (f c) k) (sym (before_of-Bind t p)) ∙ ap (λ q. noted_code (before_of q c) k) (sym es)
+
+-- the words of a copy, one after the other
+all_push : (as' : List Alias) (a : Alias) (k : Table) → put_all (as' ++ a ∷ []) k ≡ put (put_all as' k) a.var.0 (as_word (put_all as' k) a.word)
+all_push [] a k = refl
+all_push (b ∷ as') a k = all_push as' a (put k b.var.0 (as_word k b.word))
+
+pub all_next : (as' : List Alias) (i : ℕ) (a d : Alias) (k0 k new : Table) (w : W.Word) → i < length as' → a ≡ get_or as' i d → k ≡ put_all (take i as') k0 → w ≡ as_word k a.word → new ≡ put k a.var.0 w → new ≡ put_all (take (i + 1) as') k0
+all_next as' i a d k0 k new w lt at o e n =
+    n ∙ ap (put k a.var.0) e ∙ (λ j. put (o j) (at j).var.0 (as_word (o j) (at j).word)) ∙ sym (all_push (take i as') (get_or as' i d) k0) ∙ ap (λ l. put_all l k0) (sym (take_more as' i d lt))
 
 -- ---- cases
 

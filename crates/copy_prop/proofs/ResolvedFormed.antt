@@ -1,5 +1,5 @@
 -- A program without copies is well formed, and has what every pass keeps.
-use Rattle.std.proofs.Common.{◌≡◌, ℕ, zero, suc, ◌+◌, ◌≤◌, List, [], ◌∷◌, ◌++◌, map, length, Option, Some, None, slice_get, refl, sym, ap, ◌∙◌, subst, arith}
+use Rattle.std.proofs.Common.{◌≡◌, ℕ, zero, suc, ◌+◌, ◌<◌, ◌≤◌, List, [], ◌∷◌, ◌++◌, map, length, Option, Some, None, slice_get, refl, sym, ap, ◌∙◌, subst, arith}
 use Rattle.std.proofs.lemmas.List.{length-map}
 use Rattle.grin_syntax.specs.declared.program.Cell.{Cell}
 use Rattle.grin_syntax.specs.declared.program.Target.{Target}
@@ -13,10 +13,12 @@ use Rattle.grin_syntax.specs.Formed.{AllOf, Scope, with_words, with_target, para
 use Rattle.grin_syntax.specs.SameOutside.{names_of, SameOutside}
 use Rattle.grin_syntax.proofs.Scopes.{with_procs, known_again, shape_stays, same_sites, formed_with}
 use Rattle.grin_meaning.specs.Ready.{Inlined, ByWords, NoNodeTarget, NoNodeVar, EachAct, EachCode, EachArms, val_width, NarrowAct, NarrowCode, NarrowArms, Kind, EachBody, vectorised_kind}
-use Rattle.copy_prop.specs.Resolved.{Table, Alias, as_word, as_words, as_val, as_cells, alias_of, noted_alias, unless_alias, noted_act, noted_code, resolved_act, resolved_code, resolved_arms, resolved_procs, resolved}
-use Rattle.copy_prop.specs.Copied.{IsCopy, BoundAct, BoundCode, BoundArms}
-use Rattle.copy_prop.proofs.Held.{as_scope, alias_is, target_scope, Held, word_held, held_more, held_alias}
-use Rattle.copy_prop.proofs.ResolvedSame.{held_bound, held_arms, held_middle, params_held, Fresh, fresh_here, fresh_next, once_here, once_next}
+use Rattle.copy_prop.specs.Copies.{Alias, copies_of_val, copies_of}
+use Rattle.copy_prop.specs.Resolved.{Table, as_word, as_words, as_val, as_cells, put_all, noted_copies, unless_copy, noted_act, noted_code, resolved_act, resolved_code, resolved_arms, resolved_procs, resolved}
+use Rattle.copy_prop.specs.Copied.{IsTaken, IsCopy, BoundAct, BoundCode, BoundArms}
+use Rattle.copy_prop.proofs.Held.{as_scope, target_scope, Held, word_held, held_more}
+use Rattle.copy_prop.proofs.Taken.{copy_found, copy_is}
+use Rattle.copy_prop.proofs.ResolvedSame.{held_bound, held_after, held_arms, held_middle, params_held, Fresh, fresh_here, fresh_next, once_here, once_next}
 use Rattle.seq.specs.Lists.{times}
 use Rattle.seq.proofs.Counted.{times_fewer}
 
@@ -28,10 +30,10 @@ module _ (K : Kind)
   cells_stay k [] h = tt
   cells_stay k (c ∷ cs) h = (val_stays k c.val h.0, cells_stay k cs h.1)
 
-  bind_stays : (t : Target) (o' : Act) (c : Code) (q : Option Alias) → K.target t → EachAct K o' → EachCode K c → EachCode K (unless_alias q (bind t o') c)
+  bind_stays : (t : Target) (o' : Act) (c : Code) (q : Option (List Alias)) → K.target t → EachAct K o' → EachCode K c → EachCode K (unless_copy q (bind t o') c)
   unfolding EachAct
   bind_stays t o' c None h k l = (h, k, l)
-  bind_stays t o' c (Some a) h k l = l
+  bind_stays t o' c (Some as') h k l = l
 
   mutual
     unfolding resolved_act EachAct
@@ -54,7 +56,7 @@ module _ (K : Kind)
     pub code_each : (k : Table) (b : Code) → EachCode K b → EachCode K (resolved_code k b)
     code_each k (end o) h = act_each k o h
     code_each k (store cs b) h = (cells_stay k cs h.0, code_each k b h.1)
-    code_each k (bind t o b) h = bind_stays t (resolved_act k o) (resolved_code (noted_alias (alias_of t o) (noted_act o k)) b) (alias_of t o) h.0 (act_each k o h.1) (code_each (noted_alias (alias_of t o) (noted_act o k)) b h.2)
+    code_each k (bind t o b) h = bind_stays t (resolved_act k o) (resolved_code (noted_copies (copies_of t o) (noted_act o k)) b) (copies_of t o) h.0 (act_each k o h.1) (code_each (noted_copies (copies_of t o) (noted_act o k)) b h.2)
 
     arms_each : (k : Table) (as' : Arms) → EachArms K as' → EachArms K (resolved_arms k as')
     arms_each k no_arm h = tt
@@ -111,10 +113,10 @@ width_stays k w (Vector ws) = length-map ws (as_word k)
 width_stays k w (One a) = refl
 
 module _ (w most : ℕ) where
-  bind_narrow : (t : Target) (o' : Act) (c : Code) (q : Option Alias) → NarrowCode w most c → NarrowCode w most (unless_alias q (bind t o') c)
+  bind_narrow : (t : Target) (o' : Act) (c : Code) (q : Option (List Alias)) → NarrowCode w most c → NarrowCode w most (unless_copy q (bind t o') c)
   unfolding NarrowAct
   bind_narrow t o' c None h = h
-  bind_narrow t o' c (Some a) h = h
+  bind_narrow t o' c (Some as') h = h
 
   mutual
     unfolding resolved_act NarrowAct
@@ -137,7 +139,7 @@ module _ (w most : ℕ) where
     code_narrow : (k : Table) (b : Code) → NarrowCode w most b → NarrowCode w most (resolved_code k b)
     code_narrow k (end o) h = act_narrow k o h
     code_narrow k (store cs b) h = code_narrow k b h
-    code_narrow k (bind t o b) h = bind_narrow t (resolved_act k o) (resolved_code (noted_alias (alias_of t o) (noted_act o k)) b) (alias_of t o) (code_narrow (noted_alias (alias_of t o) (noted_act o k)) b h)
+    code_narrow k (bind t o b) h = bind_narrow t (resolved_act k o) (resolved_code (noted_copies (copies_of t o) (noted_act o k)) b) (copies_of t o) (code_narrow (noted_copies (copies_of t o) (noted_act o k)) b h)
 
     arms_narrow : (k : Table) (as' : Arms) → NarrowArms w most as' → NarrowArms w most (resolved_arms k as')
     arms_narrow k no_arm h = tt
@@ -156,59 +158,38 @@ procs_params most k (q ∷ qs) h = (h.0, procs_params most (noted_code q.body k)
 abbrev pub NoCopy : Target → Act → Code → Type 0
 NoCopy t o b = IsCopy t o → ⊥
 
-word_stays : (k : Table) (t : Target) (v : V.Val) → IsCopy t (unit (as_val k v)) → IsCopy t (unit v)
-word_stays k to.Nothing v h = absurd h
-word_stays k (to.Node x) v h = absurd h
-word_stays k (to.Vector xs) v h = absurd h
-word_stays k (to.One x) (NodeVar y) h = absurd h
-word_stays k (to.One x) (Node t ws) h = absurd h
-word_stays k (to.One x) (Vector ws) h = absurd h
-word_stays k (to.One x) (One a) h = tt
-
-is_alias : (t : Target) (o : Act) → alias_of t o ≡ None → IsCopy t o → ⊥
-is_alias to.Nothing o e h = h
-is_alias (to.Node x) o e h = h
-is_alias (to.Vector xs) o e h = h
-is_alias (to.One x) (unit (One a)) e h = cc
-is_alias (to.One x) (unit (NodeVar y)) e h = h
-is_alias (to.One x) (unit (Node t ws)) e h = h
-is_alias (to.One x) (unit (Vector ws)) e h = h
-is_alias (to.One x) (fetch a) e h = h
-is_alias (to.One x) (fetch_word a i) e h = h
-is_alias (to.One x) (update a v) e h = h
-is_alias (to.One x) (eval a) e h = h
-is_alias (to.One x) (apply v a) e h = h
-is_alias (to.One x) (call f ws) e h = h
-is_alias (to.One x) (prim p a b) e h = h
-is_alias (to.One x) read e h = h
-is_alias (to.One x) (write a) e h = h
-is_alias (to.One x) (case v as') e h = h
-is_alias (to.One x) (nested b) e h = h
-is_alias (to.One x) fail e h = h
+was_taken : (k : Table) (t : Target) (v : V.Val) → IsTaken t (as_val k v) → IsTaken t v
+was_taken k to.Nothing v h = h
+was_taken k (to.Node x) v h = h
+was_taken k (to.One x) (NodeVar y) h = h
+was_taken k (to.One x) (Node t ws) h = h
+was_taken k (to.One x) (Vector ws) h = sym (length-map ws (as_word k)) ∙ h
+was_taken k (to.One x) (One a) h = tt
+was_taken k (to.Vector xs) (NodeVar y) h = h
+was_taken k (to.Vector xs) (Node t ws) h = subst (λ n. n < length xs) (length-map ws (as_word k)) h
+was_taken k (to.Vector xs) (Vector ws) h = h ∙ length-map ws (as_word k)
+was_taken k (to.Vector xs) (One a) h = h
 
 was_copy : (k : Table) (t : Target) (o : Act) → IsCopy t (resolved_act k o) → IsCopy t o
 unfolding resolved_act
-was_copy k t (unit v) h = word_stays k t v h
-was_copy k to.Nothing o h = absurd h
-was_copy k (to.Node x) o h = absurd h
-was_copy k (to.Vector xs) o h = absurd h
-was_copy k (to.One x) (fetch a) h = absurd h
-was_copy k (to.One x) (fetch_word a i) h = absurd h
-was_copy k (to.One x) (update a v) h = absurd h
-was_copy k (to.One x) (eval a) h = absurd h
-was_copy k (to.One x) (apply v a) h = absurd h
-was_copy k (to.One x) (call f ws) h = absurd h
-was_copy k (to.One x) (prim p a b) h = absurd h
-was_copy k (to.One x) read h = absurd h
-was_copy k (to.One x) (write a) h = absurd h
-was_copy k (to.One x) (case v as') h = absurd h
-was_copy k (to.One x) (nested b) h = absurd h
-was_copy k (to.One x) fail h = absurd h
+was_copy k t (unit v) h = was_taken k t v h
+was_copy k t (fetch a) h = h
+was_copy k t (fetch_word a i) h = h
+was_copy k t (update a v) h = h
+was_copy k t (eval a) h = h
+was_copy k t (apply v a) h = h
+was_copy k t (call f ws) h = h
+was_copy k t (prim p a b) h = h
+was_copy k t read h = h
+was_copy k t (write a) h = h
+was_copy k t (case v as') h = h
+was_copy k t (nested b) h = h
+was_copy k t fail h = h
 
-bind_free : (k : Table) (t : Target) (o : Act) (c : Code) (q : Option Alias) → alias_of t o ≡ q → BoundAct NoCopy (resolved_act k o) → BoundCode NoCopy c → BoundCode NoCopy (unless_alias q (bind t (resolved_act k o)) c)
+bind_free : (k : Table) (t : Target) (o : Act) (c : Code) (q : Option (List Alias)) → copies_of t o ≡ q → BoundAct NoCopy (resolved_act k o) → BoundCode NoCopy c → BoundCode NoCopy (unless_copy q (bind t (resolved_act k o)) c)
 unfolding BoundAct
-bind_free k t o c None e f h = ((λ i. is_alias t o e (was_copy k t o i)), f, h)
-bind_free k t o c (Some a) e f h = h
+bind_free k t o c None e f h = ((λ i. copy_found t o e (was_copy k t o i)), f, h)
+bind_free k t o c (Some as') e f h = h
 
 mutual
   unfolding resolved_act BoundAct
@@ -231,7 +212,7 @@ mutual
   code_free : (k : Table) (b : Code) → BoundCode NoCopy (resolved_code k b)
   code_free k (end o) = act_free k o
   code_free k (store cs b) = code_free k b
-  code_free k (bind t o b) = bind_free k t o (resolved_code (noted_alias (alias_of t o) (noted_act o k)) b) (alias_of t o) refl (act_free k o) (code_free (noted_alias (alias_of t o) (noted_act o k)) b)
+  code_free k (bind t o b) = bind_free k t o (resolved_code (noted_copies (copies_of t o) (noted_act o k)) b) (copies_of t o) refl (act_free k o) (code_free (noted_copies (copies_of t o) (noted_act o k)) b)
 
   arms_free : (k : Table) (as' : Arms) → BoundArms NoCopy (resolved_arms k as')
   arms_free k no_arm = tt
@@ -251,10 +232,10 @@ cell_sites_stay : (k : Table) (cs : List Cell) → map (λ c. c.site.0) (as_cell
 cell_sites_stay k [] = refl
 cell_sites_stay k (c ∷ cs) = ap (λ xs. c.site.0 ∷ xs) (cell_sites_stay k cs)
 
-bind_counts : (y : ℕ) (t : Target) (o o' : Act) (b c : Code) (q : Option Alias) → times y (act_vars o') ≤ times y (act_vars o) → times y (code_vars c) ≤ times y (code_vars b) → times y (code_vars (unless_alias q (bind t o') c)) ≤ times y (code_vars (bind t o b))
+bind_counts : (y : ℕ) (t : Target) (o o' : Act) (b c : Code) (q : Option (List Alias)) → times y (act_vars o') ≤ times y (act_vars o) → times y (code_vars c) ≤ times y (code_vars b) → times y (code_vars (unless_copy q (bind t o') c)) ≤ times y (code_vars (bind t o b))
 unfolding act_vars
 bind_counts y t o o' b c None h k = times_fewer y (target_vars t) (act_vars o' ++ code_vars c) (target_vars t) (act_vars o ++ code_vars b) (omega arith) (times_fewer y (act_vars o') (code_vars c) (act_vars o) (code_vars b) h k)
-bind_counts y t o o' b c (Some a) h k = times_fewer y [] (code_vars c) (target_vars t) (act_vars o ++ code_vars b) (omega arith) (times_fewer y [] (code_vars c) (act_vars o) (code_vars b) (omega arith) k)
+bind_counts y t o o' b c (Some as') h k = times_fewer y [] (code_vars c) (target_vars t) (act_vars o ++ code_vars b) (omega arith) (times_fewer y [] (code_vars c) (act_vars o) (code_vars b) (omega arith) k)
 
 mutual
   unfolding resolved_act act_vars
@@ -277,7 +258,7 @@ mutual
   code_counts : (y : ℕ) (k : Table) (b : Code) → times y (code_vars (resolved_code k b)) ≤ times y (code_vars b)
   code_counts y k (end o) = act_counts y k o
   code_counts y k (store cs b) = times_fewer y (cell_vars (as_cells k cs)) (code_vars (resolved_code k b)) (cell_vars cs) (code_vars b) (subst (λ xs. times y xs ≤ times y (cell_vars cs)) (sym (cell_vars_stay k cs)) (omega arith)) (code_counts y k b)
-  code_counts y k (bind t o b) = bind_counts y t o (resolved_act k o) b (resolved_code (noted_alias (alias_of t o) (noted_act o k)) b) (alias_of t o) (act_counts y k o) (code_counts y (noted_alias (alias_of t o) (noted_act o k)) b)
+  code_counts y k (bind t o b) = bind_counts y t o (resolved_act k o) b (resolved_code (noted_copies (copies_of t o) (noted_act o k)) b) (copies_of t o) (act_counts y k o) (code_counts y (noted_copies (copies_of t o) (noted_act o k)) b)
 
   arms_counts : (y : ℕ) (k : Table) (as' : Arms) → times y (arms_vars (resolved_arms k as')) ≤ times y (arms_vars as')
   arms_counts y k no_arm = omega arith
@@ -289,10 +270,10 @@ procs_counts y k [] = omega arith
 procs_counts y k (q ∷ qs) = times_fewer y (numbers_of q.params ++ code_vars (resolved_code k q.body)) (procs_vars (resolved_procs (noted_code q.body k) qs)) (numbers_of q.params ++ code_vars q.body) (procs_vars qs)
     (times_fewer y (numbers_of q.params) (code_vars (resolved_code k q.body)) (numbers_of q.params) (code_vars q.body) (omega arith) (code_counts y k q.body)) (procs_counts y (noted_code q.body k) qs)
 
-bind_sites : (t : Target) (o o' : Act) (b c : Code) (q : Option Alias) → alias_of t o ≡ q → act_sites o' ≡ act_sites o → code_sites c ≡ code_sites b → code_sites (unless_alias q (bind t o') c) ≡ code_sites (bind t o b)
+bind_sites : (t : Target) (o o' : Act) (b c : Code) (q : Option (List Alias)) → copies_of t o ≡ q → act_sites o' ≡ act_sites o → code_sites c ≡ code_sites b → code_sites (unless_copy q (bind t o') c) ≡ code_sites (bind t o b)
 unfolding act_sites
 bind_sites t o o' b c None e h k = λ i. h i ++ k i
-bind_sites t o o' b c (Some a) e h k = k ∙ ap (λ u. act_sites u ++ code_sites b) (sym (alias_is t o a e).1)
+bind_sites t o o' b c (Some as') e h k = k ∙ ap (λ u. act_sites u ++ code_sites b) (sym (copy_is t o as' e).1)
 
 mutual
   unfolding resolved_act act_sites
@@ -315,7 +296,7 @@ mutual
   code_sites_stay : (k : Table) (b : Code) → code_sites (resolved_code k b) ≡ code_sites b
   code_sites_stay k (end o) = act_sites_stay k o
   code_sites_stay k (store cs b) = λ i. cell_sites_stay k cs i ++ code_sites_stay k b i
-  code_sites_stay k (bind t o b) = bind_sites t o (resolved_act k o) b (resolved_code (noted_alias (alias_of t o) (noted_act o k)) b) (alias_of t o) refl (act_sites_stay k o) (code_sites_stay (noted_alias (alias_of t o) (noted_act o k)) b)
+  code_sites_stay k (bind t o b) = bind_sites t o (resolved_act k o) b (resolved_code (noted_copies (copies_of t o) (noted_act o k)) b) (copies_of t o) refl (act_sites_stay k o) (code_sites_stay (noted_copies (copies_of t o) (noted_act o k)) b)
 
   arms_sites_stay : (k : Table) (as' : Arms) → arms_sites (resolved_arms k as') ≡ arms_sites as'
   arms_sites_stay k no_arm = refl
@@ -367,7 +348,7 @@ module _ (g : Program) (procs : List Procedure) (same_count : length procs ≡ l
 
   bind_formed : (k : Table) (scope : Scope) (scope' : List ℕ) (t : Target) (o : Act) (b : Code) → Held g k scope scope' (target_vars t ++ (act_vars o ++ code_vars b)) → NoNodeTarget t → ActFormed g scope o → CodeFormed g (with_target t scope) b
       → ActFormed there (as_scope scope') (resolved_act k o) → ((k' : Table) (s : Scope) (s' : List ℕ) → Held g k' s s' (code_vars b) → CodeFormed g s b → CodeFormed there (as_scope s') (resolved_code k' b))
-      → (q : Option Alias) → alias_of t o ≡ q → CodeFormed there (as_scope scope') (unless_alias q (bind t (resolved_act k o)) (resolved_code (noted_alias q (noted_act o k)) b))
+      → (q : Option (List Alias)) → copies_of t o ≡ q → CodeFormed there (as_scope scope') (unless_copy q (bind t (resolved_act k o)) (resolved_code (noted_copies q (noted_act o k)) b))
   unfolding act_vars ActFormed noted_act
   bind_formed k scope scope' t o b held nt fo fb f kk None e = (
     f,
@@ -375,13 +356,13 @@ module _ (g : Program) (procs : List Procedure) (same_count : length procs ≡ l
         (kk (noted_act o k) (with_words (target_vars t) scope) (target_vars t ++ scope') (held_more g (noted_act o k) scope scope' (target_vars t) (code_vars b) (held_bound g k scope scope' (target_vars t) o (code_vars b) held))
         (subst (λ s. CodeFormed g s b) (target_scope t scope nt) fb)),
   )
-  bind_formed k scope scope' t o b held nt fo fb f kk (Some a) e = at t o (alias_is t o a e).0 (alias_is t o a e).1 held fo fb
+  bind_formed k scope scope' t o b held nt fo fb f kk (Some as') e =
+      let z : (v : V.Val) × (o ≡ unit v) × (copies_of_val t v ≡ Some as') = copy_is t o as' e in
+      at z.0 z.2 o z.1 held fo
     where
-      at : (t : Target) (o : Act) → t ≡ to.One a.var → o ≡ unit (One a.word) → Held g k scope scope' (target_vars t ++ (act_vars o ++ code_vars b)) → ActFormed g scope o → CodeFormed g (with_target t scope) b
-          → CodeFormed there (as_scope scope') (resolved_code (noted_alias (Some a) (noted_act o k)) b)
-      at t o p q = subst (λ t. Held g k scope scope' (target_vars t ++ (act_vars o ++ code_vars b)) → ActFormed g scope o → CodeFormed g (with_target t scope) b → CodeFormed there (as_scope scope') (resolved_code (noted_alias (Some a) (noted_act o k)) b)) (sym p)
-          (subst (λ o. Held g k scope scope' (a.var.0 ∷ (act_vars o ++ code_vars b)) → ActFormed g scope o → CodeFormed g (with_words (a.var.0 ∷ []) scope) b → CodeFormed there (as_scope scope') (resolved_code (noted_alias (Some a) (noted_act o k)) b)) (sym q)
-          (λ h fo fb. kk (noted_alias (Some a) k) (with_words (a.var.0 ∷ []) scope) scope' (held_alias g k scope scope' (code_vars b) a fo h) fb))
+      at : (v : V.Val) → copies_of_val t v ≡ Some as' → (o : Act) → o ≡ unit v → Held g k scope scope' (target_vars t ++ (act_vars o ++ code_vars b)) → ActFormed g scope o → CodeFormed there (as_scope scope') (resolved_code (put_all as' (noted_act o k)) b)
+      at v e o q = subst (λ o. Held g k scope scope' (target_vars t ++ (act_vars o ++ code_vars b)) → ActFormed g scope o → CodeFormed there (as_scope scope') (resolved_code (put_all as' (noted_act o k)) b)) (sym q)
+          (λ h f. kk (put_all as' k) (with_words (target_vars t) scope) scope' (held_after g k scope scope' t v as' (code_vars b) e f h) (subst (λ s. CodeFormed g s b) (target_scope t scope nt) fb))
 
   mutual
     unfolding resolved_act noted_act act_vars ActFormed EachAct
@@ -408,7 +389,7 @@ module _ (g : Program) (procs : List Procedure) (same_count : length procs ≡ l
         subst (λ xs. AllOf (CellFormed there (as_scope (xs ++ scope'))) (as_cells k cs) × CodeFormed there (as_scope (xs ++ scope')) (resolved_code k b)) (sym (cell_vars_stay k cs))
         (cells_formed k (with_words (cell_vars cs) scope) (cell_vars cs ++ scope') (code_vars b) h cs n.0 f.0, code_formed b k (with_words (cell_vars cs) scope) (cell_vars cs ++ scope') h f.1 n.1)
     code_formed (bind t o b) k scope scope' held f n = bind_formed k scope scope' t o b held n.0 f.0 f.1 (act_formed o k scope scope' (held_middle g k scope scope' (target_vars t) (act_vars o) (code_vars b) held) f.0 n.1)
-        (λ k' s s' h fb. code_formed b k' s s' h fb n.2) (alias_of t o) refl
+        (λ k' s s' h fb. code_formed b k' s s' h fb n.2) (copies_of t o) refl
 
     arms_formed : (as' : Arms) (k : Table) (scope : Scope) (scope' : List ℕ) → Held g k scope scope' (arms_vars as') → ArmsFormed g scope as' → EachArms vectorised_kind as' → ArmsFormed there (as_scope scope') (resolved_arms k as')
     arms_formed no_arm k scope scope' held f n = tt

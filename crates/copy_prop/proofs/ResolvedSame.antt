@@ -12,9 +12,9 @@ use Rattle.grin_syntax.specs.declared.program.Val.TheVariants.{One}
 use Rattle.grin_syntax.specs.Tree.{Code, end, store, bind, Act, unit, fetch, fetch_word, update, eval, apply, call, prim, read, write, case, nested, fail, Arms, no_arm, arm, Procedure, Program}
 use Rattle.grin_syntax.specs.Binders.{numbers_of, target_vars, shape_vars, cell_vars, act_vars, code_vars, arms_vars, procs_vars}
 use Rattle.grin_syntax.specs.Formed.{AllOf, Scope, InScope, with_words, with_target, params_scope, WordFormed, ValFormed, CellFormed, ActFormed, CodeFormed, ArmsFormed, ProcedureFormed, Formed}
-use Rattle.grin_meaning.specs.Values.{Datum, cell, Value, words, Env, HeapCell, World, gives, need, and_then, Binding, with_vars, one_each, fits, fit_of, word_of, bindings_of}
-use Rattle.grin_meaning.specs.Run.{Calls, act_by, places, cells_of, place_of}
-use Rattle.grin_meaning.specs.Checks.{has_block, is_fetch, is_given, all_fill, is_bound_well}
+use Rattle.grin_meaning.specs.Values.{Datum, cell, Value, words, Env, HeapCell, World, missing, gives, stops, need, and_then, Binding, with_vars, one_each, fits, fit_of, word_of, value_of, bindings_of}
+use Rattle.grin_meaning.specs.Run.{Calls, act_by, looking, places, cells_of, place_of}
+use Rattle.grin_meaning.specs.Checks.{has_block, is_fetch, is_given, fills, all_fill, is_bound_well}
 use Rattle.grin_meaning.specs.Follows.{Same, same}
 use Rattle.grin_meaning.specs.Ready.{NoNodeTarget, NoNodeVar, BindsNothing, EachAct, EachCode, EachArms, IsInlined, IsVectorised, EachBody, inlined_kind, vectorised_kind}
 use Rattle.grin_meaning.specs.Keeps.{Keeps}
@@ -27,11 +27,13 @@ use Rattle.grin_meaning.proofs.Plain.{On, then_has, word_has, words_have, value_
 use Rattle.grin_meaning.proofs.Bodies.{AnyState, every_any}
 use Rattle.grin_meaning.proofs.KeptBy.{likewise_kept, looking_kept}
 use Rattle.grin_meaning.proofs.OneSided.{left_follows}
-use Rattle.copy_prop.specs.Resolved.{Table, Alias, put, entry, word_for, as_word, as_words, as_val, as_cells, alias_of, noted_alias, unless_alias, noted_act, noted_code, resolved_act, resolved_code, resolved_arms, resolved_procs, resolved}
+use Rattle.copy_prop.specs.Copies.{Alias, copies_of_val, copies_of}
+use Rattle.copy_prop.specs.Resolved.{Table, entry, word_for, as_word, as_words, as_val, as_cells, put_all, noted_copies, unless_copy, noted_act, noted_code, resolved_act, resolved_code, resolved_arms, resolved_procs, resolved}
 use Rattle.copy_prop.proofs.Bound.{names_places, names_target, binds_nothing}
 use Rattle.copy_prop.proofs.LeanSame.{bound_well}
-use Rattle.copy_prop.proofs.Held.{entry_put, entry_other, alias_is, act_keeps, code_keeps, target_scope, as_scope, Held, held_some, held_more, held_walked, held_alias}
-use Rattle.copy_prop.proofs.Via.{word_ok, words_ok, val_ok, cells_ok, via, looked_up, word_via, words_via, value_via, node_via, cells_via, fills_via, all_fill_via, St, st_entries, st_more}
+use Rattle.copy_prop.proofs.Taken.{alias_vars, copy_is, copy_vars, val_words, copy_given}
+use Rattle.copy_prop.proofs.Held.{act_keeps, code_keeps, target_scope, as_scope, Held, held_some, held_more, held_walked, held_copies}
+use Rattle.copy_prop.proofs.Via.{word_ok, words_ok, val_ok, cells_ok, via, looked_up, word_via, words_via, value_via, node_via, cells_via, fills_via, all_fill_via, St, st_entries, st_more, copies_hold}
 use Rattle.seq.specs.Lists.{times}
 use Rattle.seq.proofs.Counted.{counts, times_append}
 use Rattle.grin_meaning.proofs.Following.{is_same}
@@ -103,6 +105,13 @@ module _ (g : Program) where
 
   pub held_middle : (k : Table) (scope : Scope) (scope' : List ℕ) (ts os bs : List ℕ) → Held g k scope scope' (ts ++ (os ++ bs)) → Held g k scope scope' os
   held_middle k scope scope' ts os bs h = held_some g k scope scope' (ts ++ (os ++ bs)) os (middle_of ts os bs) h
+
+  -- what is held once a copy is in the table
+  pub held_after : (k : Table) (scope : Scope) (scope' : List ℕ) (t : Target) (v : V.Val) (as' : List Alias) (ys : List ℕ) → copies_of_val t v ≡ Some as' → ValFormed g scope v → Held g k scope scope' (target_vars t ++ ys)
+      → Held g (put_all as' k) (with_words (target_vars t) scope) scope' ys
+  held_after k scope scope' t v as' ys e f h =
+      let q : alias_vars as' ≡ target_vars t = copy_vars t (unit v) as' e in
+      subst (λ xs. Held g (put_all as' k) (with_words xs scope) scope' ys) q (held_copies g as' k scope scope' ys (val_words g scope t v as' e f) (subst (λ xs. Held g k scope scope' (xs ++ ys)) (sym q) h))
 
 -- ---- procedures
 
@@ -223,61 +232,49 @@ module _ (g : Program) (formed : Formed g) (inlined : IsInlined g) (vectorised :
               (st_entries g k (noted_act o k) scope x.env x.env' (λ y i. act_keeps o k y (unbound y i)) x.related);
         }
 
-    -- a unit of a word gives that word
-    unit_gave : (env : Env) (d : ℕ) (a : W.Word) (w w' : World) (v : Value) → act_by g c true env d (unit (One a)) w ≡ gives v w' → (x : Datum) × (word_of g env a ≡ Some x) × (v ≡ words (x ∷ []))
+    -- a unit gives its value
+    unit_gave : (env : Env) (d : ℕ) (v : V.Val) (w w' : World) (u : Value) → act_by g c true env d (unit v) w ≡ gives u w' → value_of g env v ≡ Some u
     unfolding act_by
-    unit_gave env d a w w' v e = go (word_of g env a) refl e
+    unit_gave env d v w w' u e = go (value_of g env v) refl e
       where
-        value_is : {y z : Value} {u u' : World} → gives y u ≡ gives z u' → y ≡ z
+        value_is : {y z : Value} {w w' : World} → gives y w ≡ gives z w' → y ≡ z
         value_is h = cc
 
-        go : (o : Option Datum) → word_of g env a ≡ o → need (and_then o (λ x. Some (words (x ∷ [])))) w (λ y. gives y w) ≡ gives v w' → (x : Datum) × (word_of g env a ≡ Some x) × (v ≡ words (x ∷ []))
+        go : (o : Option Value) → value_of g env v ≡ o → need o w (λ y. looking true (fills g env v) w (gives y w)) ≡ gives u w' → value_of g env v ≡ Some u
         go None q h = cc
-        go (Some x) q h = (x, q, sym (value_is h))
-
-    some_is : {A : Type 0} {a b : A} → ◌≡◌ {A = Option A} (Some a) (Some b) → a ≡ b
-    some_is h = cc
-
-    copy_goes : (k : Table) (scope : Scope) (a : Alias) (b b' : Code) → WordFormed g scope a.word → CodeFollows it (R (noted_alias (Some a) k) (with_words (a.var.0 ∷ []) scope)) Same b b'
-        → CodeFollows it (R k scope) Same (bind (to.One a.var) (unit (One a.word)) b) b'
-    copy_goes k scope a b b' f kk = left_follows it (to.One a.var) (unit (One a.word)) b b' tt kk (λ x v bs gave seen binds known.
-        let u : (y : Datum) × (word_of g x.env a.word ≡ Some y) × (v ≡ words (y ∷ [])) = unit_gave x.env (suc x.d) a.word x.w x.w v gave in
-        related x u.0 u.1 bs (sym (ap (bindings_of g (to.One a.var)) u.2) ∙ binds))
-      where
-        related : (x : Here plan (R k scope)) (y : Datum) → word_of g x.env a.word ≡ Some y → (bs : List Binding) → Some ((a.var.0, words (y ∷ [])) ∷ []) ≡ Some bs → St g (noted_alias (Some a) k) (with_words (a.var.0 ∷ []) scope) (with_vars bs x.env) x.env'
-        related x y e bs q = subst (λ l. St g (noted_alias (Some a) k) (with_words (a.var.0 ∷ []) scope) (with_vars l x.env) x.env') (some_is q) (λ z v i h. go z v i (nat_eq z a.var.0) refl h)
+        go (Some y) q h = looked (fills g env v) h
           where
-            go : (z : ℕ) (v : Value) → InScope (a.var.0 ∷ scope.words) z → (r : Bool) → nat_eq z a.var.0 ≡ r → cond r (Some (words (y ∷ []))) (x.env z) ≡ Some v → via g (noted_alias (Some a) k) x.env' z ≡ Some v
-            go z v i true r h =
-                ap (λ o. looked_up g (noted_alias (Some a) k) x.env' o z) (ap (entry (put k a.var.0 (as_word k a.word))) (eq_from z a.var.0 r) ∙ entry_put k a.var.0 (as_word k a.word))
-                ∙ ap (λ o. and_then o (λ d. Some (words (d ∷ [])))) (word_too k scope a.word f x.env x.env' x.related y e) ∙ h
-            go z v i false r h =
-                let n : counts (nat_eq z a.var.0) ≡ 0 = ap counts r in
-                let j : InScope scope.words z = omega (arith, i, n) in
-                ap (λ o. looked_up g (noted_alias (Some a) k) x.env' o z) (entry_other k a.var.0 z (as_word k a.word) (other z r)) ∙ x.related z v j h
-              where
-                other : (z : ℕ) → nat_eq z a.var.0 ≡ false → z ≡ a.var.0 → ⊥
-                other z r s = not_both (nat_eq z a.var.0) (ap (λ u. nat_eq u a.var.0) s ∙ eq_self a.var.0) r
+            looked : (b : Bool) → cond b (gives y w) (stops missing w) ≡ gives u w' → value_of g env v ≡ Some u
+            looked true h = q ∙ ap Some (value_is h)
+            looked false h = cc
+
+    copies_go : (k : Table) (scope : Scope) (t : Target) (v : V.Val) (as' : List Alias) (b b' : Code) → copies_of_val t v ≡ Some as' → ValFormed g scope v → ((y : ℕ) → times y scope.words + times y (target_vars t) ≤ 1)
+        → CodeFollows it (R (put_all as' k) (with_words (target_vars t) scope)) Same b b' → CodeFollows it (R k scope) Same (bind t (unit v) b) b'
+    copies_go k scope t v as' b b' e f once kk = left_follows it t (unit v) b b' tt kk (λ x u bs gave seen binds known.
+        subst (λ xs. St g (put_all as' k) (with_words xs scope) (with_vars bs x.env) x.env') (copy_vars t (unit v) as' e)
+        (copies_hold g as' bs k scope x.env x.env' (val_words g scope t v as' e f) (λ y. subst (λ xs. times y scope.words + times y xs ≤ 1) (sym (copy_vars t (unit v) as' e)) (once y))
+        (copy_given g x.env t v as' u bs e (unit_gave x.env (suc x.d) v x.w x.w u gave) binds) x.related))
 
     bind_goes : (k : Table) (scope : Scope) (scope' : List ℕ) (t : Target) (o : Act) (b : Code) → Held g k scope scope' (target_vars t ++ (act_vars o ++ code_vars b)) → NoNodeTarget t → ActFormed g scope o → CodeFormed g (with_target t scope) b
         → ActFollows it (R k scope) Same o (resolved_act k o)
         → ((k' : Table) (s : Scope) (s' : List ℕ) → Held g k' s s' (code_vars b) → CodeFormed g s b → CodeFollows it (R k' s) Same b (resolved_code k' b))
-        → (q : Option Alias) → alias_of t o ≡ q → CodeFollows it (R k scope) Same (bind t o b) (unless_alias q (bind t (resolved_act k o)) (resolved_code (noted_alias q (noted_act o k)) b))
+        → (q : Option (List Alias)) → copies_of t o ≡ q → CodeFollows it (R k scope) Same (bind t o b) (unless_copy q (bind t (resolved_act k o)) (resolved_code (noted_copies q (noted_act o k)) b))
     unfolding act_vars ActFormed noted_act
     bind_goes k scope scope' t o b held nt fo fb f kk None e =
         bind_stays k scope scope' t o b (resolved_code (noted_act o k) b) held f
         (kk (noted_act o k) (with_words (target_vars t) scope) (target_vars t ++ scope') (held_more g (noted_act o k) scope scope' (target_vars t) (code_vars b) (held_bound g k scope scope' (target_vars t) o (code_vars b) held))
         (subst (λ s. CodeFormed g s b) (target_scope t scope nt) fb))
-    bind_goes k scope scope' t o b held nt fo fb f kk (Some a) e = at t o (alias_is t o a e).0 (alias_is t o a e).1 held fo fb
+    bind_goes k scope scope' t o b held nt fo fb f kk (Some as') e =
+        let z : (v : V.Val) × (o ≡ unit v) × (copies_of_val t v ≡ Some as') = copy_is t o as' e in
+        at z.0 z.2 o z.1 held fo
       where
-        at : (t : Target) (o : Act) → t ≡ to.One a.var → o ≡ unit (One a.word) → Held g k scope scope' (target_vars t ++ (act_vars o ++ code_vars b)) → ActFormed g scope o → CodeFormed g (with_target t scope) b
-            → CodeFollows it (R k scope) Same (bind t o b) (resolved_code (noted_alias (Some a) (noted_act o k)) b)
-        at t o p q = subst (λ t. Held g k scope scope' (target_vars t ++ (act_vars o ++ code_vars b)) → ActFormed g scope o → CodeFormed g (with_target t scope) b → CodeFollows it (R k scope) Same (bind t o b) (resolved_code (noted_alias (Some a) (noted_act o k)) b)) (sym p)
-            (subst (λ o. Held g k scope scope' (a.var.0 ∷ (act_vars o ++ code_vars b)) → ActFormed g scope o → CodeFormed g (with_words (a.var.0 ∷ []) scope) b → CodeFollows it (R k scope) Same (bind (to.One a.var) o b) (resolved_code (noted_alias (Some a) (noted_act o k)) b)) (sym q) here)
+        at : (v : V.Val) → copies_of_val t v ≡ Some as' → (o : Act) → o ≡ unit v → Held g k scope scope' (target_vars t ++ (act_vars o ++ code_vars b)) → ActFormed g scope o → CodeFollows it (R k scope) Same (bind t o b) (resolved_code (put_all as' (noted_act o k)) b)
+        at v e o q = subst (λ o. Held g k scope scope' (target_vars t ++ (act_vars o ++ code_vars b)) → ActFormed g scope o → CodeFollows it (R k scope) Same (bind t o b) (resolved_code (put_all as' (noted_act o k)) b)) (sym q) (λ h f.
+            copies_go k scope t v as' b (resolved_code (put_all as' k) b) e f (once_in h)
+            (kk (put_all as' k) (with_words (target_vars t) scope) scope' (held_after g k scope scope' t v as' (code_vars b) e f h) (subst (λ s. CodeFormed g s b) (target_scope t scope nt) fb)))
           where
-            here : Held g k scope scope' (a.var.0 ∷ (act_vars (unit (One a.word)) ++ code_vars b)) → ActFormed g scope (unit (One a.word)) → CodeFormed g (with_words (a.var.0 ∷ []) scope) b
-                → CodeFollows it (R k scope) Same (bind (to.One a.var) (unit (One a.word)) b) (resolved_code (noted_alias (Some a) (noted_act (unit (One a.word)) k)) b)
-            here h fo fb = copy_goes k scope a b (resolved_code (noted_alias (Some a) k) b) fo (kk (noted_alias (Some a) k) (with_words (a.var.0 ∷ []) scope) scope' (held_alias g k scope scope' (code_vars b) a fo h) fb)
+            once_in : Held g k scope scope' (target_vars t ++ code_vars b) → (y : ℕ) → times y scope.words + times y (target_vars t) ≤ 1
+            once_in h y = let o : times y scope.words + times y (target_vars t ++ code_vars b) ≤ 1 = h.once y in let l : times y (target_vars t) ≤ times y (target_vars t ++ code_vars b) = earlier_of (target_vars t) (code_vars b) y in omega (arith, o, l)
 
     arm_goes : (k : Table) (scope : Scope) (scope' : List ℕ) (s : Shape) (b : Code) (as' : Arms) → Held g k scope scope' (shape_vars s ++ (code_vars b ++ arms_vars as')) → BindsNothing (shape_vars s) → CodeFollows it (R k scope) Same b (resolved_code k b)
         → ArmsFollow it (On (R (noted_code b k) scope)) Same as' (resolved_arms (noted_code b k) as') → ArmsFollow it (On (R k scope)) Same (arm s b as') (arm s (resolved_code k b) (resolved_arms (noted_code b k) as'))
@@ -318,7 +315,7 @@ module _ (g : Program) (formed : Formed g) (inlined : IsInlined g) (vectorised :
       code_goes (store cs b) k scope scope' held f i n = store_goes k scope scope' cs b (resolved_code k b) n.0 f.0 held
           (code_goes b k (with_words (cell_vars cs) scope) (cell_vars cs ++ scope') (held_more g k scope scope' (cell_vars cs) (code_vars b) held) f.1 i.1 n.1)
       code_goes (bind t o b) k scope scope' held f i n = bind_goes k scope scope' t o b held n.0 f.0 f.1 (act_goes o k scope scope' (held_middle g k scope scope' (target_vars t) (act_vars o) (code_vars b) held) f.0 i.1 n.1)
-          (λ k' s s' h fb. code_goes b k' s s' h fb i.2 n.2) (alias_of t o) refl
+          (λ k' s s' h fb. code_goes b k' s s' h fb i.2 n.2) (copies_of t o) refl
 
       arms_goes : (as' : Arms) (k : Table) (scope : Scope) (scope' : List ℕ) → Held g k scope scope' (arms_vars as') → ArmsFormed g scope as' → EachArms inlined_kind as' → EachArms vectorised_kind as' → ArmsFollow it (On (R k scope)) Same as' (resolved_arms k as')
       arms_goes no_arm k scope scope' held f i n = no_arm_follows it no_arm

@@ -1,5 +1,5 @@
 -- What the second program has of the first one's variables, where copies are looked up in the table.
-use Rattle.std.proofs.Common.{◌≡◌, ℕ, ◌+◌, ◌≤◌, Bool, true, false, ◌&&◌, List, [], ◌∷◌, ◌++◌, Option, Some, None, refl, sym, ap, ◌∙◌, subst, arith}
+use Rattle.std.proofs.Common.{◌≡◌, ℕ, ◌+◌, ◌≤◌, Bool, true, false, cond, ◌&&◌, nat_eq, List, [], ◌∷◌, ◌++◌, Option, Some, None, refl, sym, ap, ◌∙◌, subst, arith}
 use Rattle.grin_syntax.specs.declared.program.Cell.{Cell}
 use Rattle.grin_syntax.specs.declared.program.Word as W
 use Rattle.grin_syntax.specs.declared.program.Word.TheVariants.{Lit, Var, Global, TagWord}
@@ -14,12 +14,17 @@ use Rattle.grin_meaning.specs.Checks.{is_none_or, is_filled, fills, all_fill}
 use Rattle.grin_meaning.specs.Names.{WordOk, WordsOk, ValOk, CellsOk}
 use Rattle.grin_meaning.specs.Ready.{NoNodeVar}
 use Rattle.grin_meaning.proofs.Plain.{Has}
-use Rattle.copy_prop.specs.Resolved.{Table, entry, word_for, as_word, as_words, as_val, as_cells}
+use Rattle.copy_prop.specs.Copies.{Alias}
+use Rattle.copy_prop.specs.Resolved.{Table, put, entry, word_for, as_word, as_words, as_val, as_cells, put_all}
+use Rattle.copy_prop.proofs.Taken.{alias_vars, WordsFormed, Given}
 use Rattle.copy_prop.proofs.Used.{stands_in}
 use Rattle.copy_prop.proofs.Bound.{others_stay, bound_alike}
-use Rattle.copy_prop.proofs.Held.{as_scope, Held}
+use Rattle.copy_prop.proofs.Held.{as_scope, Held, entry_put, entry_other, words_later, turned_in}
 use Rattle.seq.specs.Lists.{times, is_among}
-use Rattle.seq.proofs.Counted.{times_append, not_among_times}
+use Rattle.seq.proofs.Counted.{counts, one_at, times_append, not_among_times}
+use Rattle.seq.proofs.Order.{eq_from, eq_self}
+use Rattle.seq.proofs.Truth.{not_both, true_not_false}
+use Rattle.grin_meaning.proofs.Plain.{word_has}
 use Rattle.grin_meaning.proofs.Bindings.{keys}
 
 -- ---- what a formed piece keys is in scope
@@ -141,3 +146,63 @@ module _ (g : Program) where
           let z : times x ts ≡ 0 = subst (λ l. times x l ≡ 0) n (not_among_times x (keys bs) q) in
           let j : InScope scope.words x = (let a : times x (ts ++ scope.words) ≡ times x ts + times x scope.words = times_append x ts scope.words in omega (arith, i, z, a)) in
           entry_by (entry k x) refl q j ∙ st x v j (sym (others_stay bs env x q) ∙ e)
+
+  -- ---- copies
+
+  -- one more variable
+  abbrev one_more : ℕ → Value → Env → Env
+  one_more x v env = λ y. cond (nat_eq y x) (Some v) (env y)
+
+  -- once a word of a copy is in the table
+  copy_holds : (k : Table) (scope : Scope) (a : Alias) (d : Datum) (env env' : Env) → WordFormed g scope a.word → word_of g env a.word ≡ Some d → St k scope env env'
+      → St (put k a.var.0 (as_word k a.word)) (with_words (a.var.0 ∷ []) scope) (one_more a.var.0 (words (d ∷ [])) env) env'
+  copy_holds k scope a d env env' f e st z v i h = go (nat_eq z a.var.0) refl h
+    where
+      word_too : word_of g env' (as_word k a.word) ≡ Some d
+      word_too = word_via g k env' a.word ∙ word_has g (InScope scope.words) env (via g k env') st a.word (word_ok g scope a.word f) d e
+
+      other : nat_eq z a.var.0 ≡ false → z ≡ a.var.0 → ⊥
+      other r s = not_both (nat_eq z a.var.0) (ap (λ u. nat_eq u a.var.0) s ∙ eq_self a.var.0) r
+
+      go : (r : Bool) → nat_eq z a.var.0 ≡ r → cond r (Some (words (d ∷ []))) (env z) ≡ Some v → via g (put k a.var.0 (as_word k a.word)) env' z ≡ Some v
+      go true r h =
+          ap (λ o. looked_up g (put k a.var.0 (as_word k a.word)) env' o z) (ap (entry (put k a.var.0 (as_word k a.word))) (eq_from z a.var.0 r) ∙ entry_put k a.var.0 (as_word k a.word))
+          ∙ ap (λ o. and_then o (λ d. Some (words (d ∷ [])))) word_too ∙ h
+      go false r h =
+          let n : counts (nat_eq z a.var.0) ≡ 0 = ap counts r in
+          let j : InScope scope.words z = omega (arith, i, n) in
+          ap (λ o. looked_up g (put k a.var.0 (as_word k a.word)) env' o z) (entry_other k a.var.0 z (as_word k a.word) (other r)) ∙ st z v j h
+
+  -- a variable that is not in scope stands in no word
+  word_past : (x : ℕ) (v : Value) (env : Env) (scope : Scope) (w : W.Word) → times x scope.words ≡ 0 → WordFormed g scope w → word_of g (one_more x v env) w ≡ word_of g env w
+  word_past x v env scope (Var y) n f = go (nat_eq y.0 x) refl
+    where
+      go : (b : Bool) → nat_eq y.0 x ≡ b → and_then (cond b (Some v) (env y.0)) only_word ≡ and_then (env y.0) only_word
+      go true q = let z : times y.0 scope.words ≡ 0 = subst (λ u. times u scope.words ≡ 0) (sym (eq_from y.0 x q)) n in absurd (omega (arith, z, f))
+      go false q = refl
+  word_past x v env scope (Lit i) n f = refl
+  word_past x v env scope (Global i) n f = refl
+  word_past x v env scope (TagWord t) n f = refl
+
+  given_past : (x : ℕ) (v : Value) (env : Env) (scope : Scope) (as' : List Alias) (bs : List Binding) → times x scope.words ≡ 0 → WordsFormed g scope as' → Given g env as' bs → Given g (one_more x v env) as' bs
+  given_past x v env scope [] [] n f h = tt
+  given_past x v env scope [] (b ∷ bs) n f h = absurd h
+  given_past x v env scope (a ∷ as') [] n f h = absurd h
+  given_past x v env scope (a ∷ as') (b ∷ bs) n f h = ((h.0.0, word_past x v env scope a.word n f.0 ∙ h.0.1, h.0.2), given_past x v env scope as' bs n f.1 h.1)
+
+  -- once all are
+  pub copies_hold : (as' : List Alias) (bs : List Binding) (k : Table) (scope : Scope) (env env' : Env) → WordsFormed g scope as' → ((y : ℕ) → times y scope.words + times y (alias_vars as') ≤ 1) → Given g env as' bs → St k scope env env'
+      → St (put_all as' k) (with_words (alias_vars as') scope) (with_vars bs env) env'
+  copies_hold [] [] k scope env env' f once h st = st
+  copies_hold [] (b ∷ bs) k scope env env' f once h st = absurd h
+  copies_hold (a ∷ as') [] k scope env env' f once h st = absurd h
+  copies_hold (a ∷ as') (b ∷ bs) k scope env env' f once h st =
+      let one : Scope = with_words (a.var.0 ∷ []) scope in
+      let more : Env = one_more a.var.0 (words (h.0.0 ∷ [])) env in
+      let new : times a.var.0 scope.words ≡ 0 = (let o : times a.var.0 scope.words + times a.var.0 (a.var.0 ∷ alias_vars as') ≤ 1 = once a.var.0 in let c : counts (nat_eq a.var.0 a.var.0) ≡ 1 = one_at a.var.0 in omega (arith, o, c)) in
+      let rest : St (put_all (a ∷ as') k) (with_words (alias_vars as') one) (with_vars bs more) env'
+      = copies_hold as' bs (put k a.var.0 (as_word k a.word)) one more env' (words_later g (a.var.0 ∷ []) scope as' f.1)
+      (λ y. (let o : times y scope.words + times y (a.var.0 ∷ alias_vars as') ≤ 1 = once y in omega (arith, o)))
+      (given_past a.var.0 (words (h.0.0 ∷ [])) env scope as' bs new f.1 h.1) (copy_holds k scope a h.0.0 env env' f.0 h.0.1 st) in
+      subst (λ c. St (put_all (a ∷ as') k) (with_words (alias_vars (a ∷ as')) scope) (with_vars (c ∷ bs) env) env') (sym h.0.2) (λ x v i. rest x v
+      (let t : times x (a.var.0 ∷ (alias_vars as' ++ scope.words)) ≡ times x (alias_vars as' ++ a.var.0 ∷ scope.words) = turned_in g a.var.0 (alias_vars as') scope.words x in omega (arith, i, t)))

@@ -1,6 +1,7 @@
 -- The shape of a program without copies and idle statements.
-use Rattle.std.specs.Prelude.{ℕ, ◌≢◌}
-use Rattle.grin_syntax.specs.declared.program.Val.TheVariants.{One}
+use Rattle.std.specs.Prelude.{ℕ, ◌≡◌, ◌≢◌, ◌<◌, length}
+use Rattle.grin_syntax.specs.declared.program.Val as V
+use Rattle.grin_syntax.specs.declared.program.Val.TheVariants.{Node, Vector, One}
 use Rattle.grin_syntax.specs.declared.program.Target.{Target}
 use Rattle.grin_syntax.specs.declared.program.Target.TheVariants as to
 use Rattle.grin_syntax.specs.Binders.{target_vars}
@@ -10,10 +11,20 @@ use Rattle.grin_meaning.specs.Names.{CodeOk}
 use Rattle.pass_ground.specs.Vectors.{StaysOfVectors}
 use Rattle.grin_meaning.specs.Pieces.{IsStill}
 
--- one variable is given one word
+-- A value has a word for each variable of a target. A vector takes a node too: its tag, its fields
+-- and then zeros. Where the words are too many or too few, a run of the statement is missing.
+abbrev pub IsTaken : Target → V.Val → Type 0
+IsTaken (to.One x) (One w) = Unit {0}
+IsTaken (to.One x) (Vector ws) = length ws ≡ 1
+IsTaken (to.Vector xs) (One w) = length xs ≡ 1
+IsTaken (to.Vector xs) (Vector ws) = length xs ≡ length ws
+IsTaken (to.Vector xs) (Node t ws) = length ws < length xs
+IsTaken _ _ = ⊥
+
+-- each variable is given a word, and nothing else is done
 abbrev pub IsCopy : Target → Act → Type 0
-IsCopy (to.One x) (unit (One w)) = Unit {0}
-IsCopy _ _ = ⊥
+IsCopy t (unit v) = IsTaken t v
+IsCopy t _ = ⊥
 
 -- no word, node or vector of a block names x
 abbrev pub Unused : Code → ℕ → Type 0

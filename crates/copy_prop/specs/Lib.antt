@@ -1,3 +1,4 @@
+pub mod Copies
 pub mod Resolved
 pub mod Lean
 pub mod Latest

@@ -1,17 +1,16 @@
--- Programs without copies. A copy `x <- unit W` goes, and W stands for x from there on.
+-- Programs without copies. A copy `[x y] <- unit [W V]` goes, and from there on W stands for x, and
+-- V for y.
 use Rattle.std.specs.Prelude.{ℕ, zero, suc, List, [], ◌∷◌, map, Option, Some, None, slice_get}
 use Rattle.grin_syntax.specs.declared.program.VarId.{VarId}
 use Rattle.grin_syntax.specs.declared.program.Word as W
 use Rattle.grin_syntax.specs.declared.program.Word.TheVariants.{Lit, Var, Global, TagWord}
 use Rattle.grin_syntax.specs.declared.program.Val as V
 use Rattle.grin_syntax.specs.declared.program.Val.TheVariants.{NodeVar, Node, Vector, One}
-use Rattle.grin_syntax.specs.declared.program.Target.{Target}
-use Rattle.grin_syntax.specs.declared.program.Target.TheVariants as to
 use Rattle.grin_syntax.specs.declared.program.Stmt.{Stmt}
 use Rattle.grin_syntax.specs.declared.program.Cell.{Cell}
 use Rattle.grin_syntax.specs.Tree.{Code, end, store, bind, Act, unit, fetch, fetch_word, update, eval, apply, call, prim, read, write, case, nested, fail, Arms, no_arm, arm, Procedure, Program, before_of}
 use Rattle.grin_meaning.specs.Values.{and_then}
-pub use Rattle.copy_prop.specs.declared.resolve.Alias.{Alias}
+use Rattle.copy_prop.specs.Copies.{Alias, copies_of}
 
 -- what stands for each variable that was a copy, by its number
 abbrev pub Table : Type 0
@@ -52,31 +51,19 @@ as_cells k cs = map {A = Cell} (λ c. record c { val = as_val k c.val }) cs
 
 -- ---- copies
 
-abbrev pub alias_val : VarId → V.Val → Option Alias
-alias_val x (One w) = Some (record { var = x; word = w })
-alias_val x (NodeVar y) = None
-alias_val x (Node t ws) = None
-alias_val x (Vector ws) = None
+-- with each copy, one after the other
+abbrev pub put_all : List Alias → Table → Table
+put_all [] k = k
+put_all (a ∷ as') k = put_all as' (put k a.var.0 (as_word k a.word))
 
-abbrev pub alias_act : VarId → Act → Option Alias
-alias_act x (unit v) = alias_val x v
-alias_act x _ = None
-
--- what a copy is a copy of
-abbrev pub alias_of : Target → Act → Option Alias
-alias_of (to.One x) o = alias_act x o
-alias_of to.Nothing o = None
-alias_of (to.Node x) o = None
-alias_of (to.Vector xs) o = None
-
-abbrev pub noted_alias : Option Alias → Table → Table
-noted_alias None k = k
-noted_alias (Some a) k = put k a.var.0 (as_word k a.word)
+abbrev pub noted_copies : Option (List Alias) → Table → Table
+noted_copies None k = k
+noted_copies (Some as') k = put_all as' k
 
 -- a statement that stays unless it is a copy
-abbrev pub unless_alias : Option Alias → (Code → Code) → Code → Code
-unless_alias None s c = s c
-unless_alias (Some a) s c = c
+abbrev pub unless_copy : Option (List Alias) → (Code → Code) → Code → Code
+unless_copy None s c = s c
+unless_copy (Some as') s c = c
 
 -- a statement that is there, before a block
 abbrev pub kept : Option Stmt → Code → Code
@@ -93,7 +80,7 @@ unfoldable mutual
   pub noted_code : Code → Table → Table
   noted_code (end o) k = noted_act o k
   noted_code (store cs b) k = noted_code b k
-  noted_code (bind t o b) k = noted_code b (noted_alias (alias_of t o) (noted_act o k))
+  noted_code (bind t o b) k = noted_code b (noted_copies (copies_of t o) (noted_act o k))
 
   pub noted_arms : Arms → Table → Table
   noted_arms no_arm k = k
@@ -119,8 +106,8 @@ unfoldable mutual
   resolved_code k (end o) = end (resolved_act k o)
   resolved_code k (store cs b) = store (as_cells k cs) (resolved_code k b)
   resolved_code k (bind t o b) =
-      unless_alias (alias_of t o) (bind t (resolved_act k o))
-      (resolved_code (noted_alias (alias_of t o) (noted_act o k)) b)
+      unless_copy (copies_of t o) (bind t (resolved_act k o))
+      (resolved_code (noted_copies (copies_of t o) (noted_act o k)) b)
 
   pub resolved_arms : Table → Arms → Arms
   resolved_arms k no_arm = no_arm

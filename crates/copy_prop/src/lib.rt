@@ -2,6 +2,7 @@
 //! what nobody uses go.
 #![tactic(auto)]
 
+mod copies;
 mod lean;
 mod pass;
 mod resolve;

@@ -16,9 +16,10 @@ use grin_syntax::{Grin, Proc};
 use seq::Seq;
 use std::alloc::{AllocError, Global};
 
-/// Copies go: where `x <- unit W` gives one variable one word, the word stands for the variable
-/// from there on. So do units, fetches and primitives that bind what nobody uses. Stores, calls,
-/// reads, writes and updates stay. It takes well-formed programs whose nodes stand in vectors.
+/// Copies go: where `[x y] <- unit [W V]` gives each variable of its target a word, the words stand
+/// for the variables from there on. So do units, fetches and primitives that bind what nobody uses.
+/// Stores, calls, reads, writes and updates stay. It takes well-formed programs whose nodes stand
+/// in vectors.
 pub struct Copies;
 
 impl Pass for Copies {

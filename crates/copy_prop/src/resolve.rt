@@ -3,18 +3,12 @@
 
 ghost use Rattle.std.specs.Prelude.{◌≡◌, [], IfOk, OnOk};
 ghost use Rattle.grin_syntax.specs.Tree.{Code, act_of, before_of, arm_of, code_of};
-ghost use Rattle.copy_prop.specs.Resolved.{put, as_word, as_words, as_val, as_cells, alias_val, alias_act, alias_of, noted_alias, noted_act, noted_code, kept, resolved_act, resolved_code};
+ghost use Rattle.copy_prop.specs.Resolved.{put, as_word, as_words, as_val, as_cells, put_all, noted_copies, noted_act, noted_code, kept, resolved_act, resolved_code};
 
-use grin_syntax::{Alt, Block, Cell, Op, Stmt, Target, Val, VarId, Word};
+use crate::copies::{Alias, copies_of};
+use grin_syntax::{Alt, Block, Cell, Op, Stmt, Val, VarId, Word};
 use seq::Seq;
 use std::alloc::{AllocError, Global};
-
-/// A variable, and the word that it is a copy of.
-#[derive(Clone, Copy, Debug)]
-pub(crate) struct Alias {
-    pub var: VarId,
-    pub word: Word,
-}
 
 /// What stands for the variables that were copies, by their numbers.
 #[derive(Drop)]
@@ -95,6 +89,17 @@ impl Aliases {
         Ok(())
     }
 
+    // From now on the words stand for their copies.
+    fn put_all(&mut self, copies: &[Alias]) -> Result<(), AllocError>
+        ensures { OnOk result (self.new.table ≡ put_all copies.now self.old.table) }
+    {
+        for alias in copies {
+            let word = self.word(alias.word);
+            self.put(alias.var, word)?;
+        }
+        Ok(())
+    }
+
     #[cycle(resolve)]
     #[tactic(auto, using(grin_syntax::proofs::TreeOf::tree_of, crate::proofs::Loops::case_resolves, crate::proofs::Loops::case_notes), unfolding(crate::specs::Resolved::resolved_act, crate::specs::Resolved::noted_act))]
     fn op(&mut self, alloc: Global, op: Op) -> Result<Op, AllocError>
@@ -156,10 +161,9 @@ impl Aliases {
     {
         match stmt {
             Stmt::Store(cells) => Ok(Some(Stmt::Store(self.cells(alloc, cells)?))),
-            Stmt::Bind(target, op) => match alias_of(&target, &op) {
-                Some(alias) => {
-                    let word = self.word(alias.word);
-                    self.put(alias.var, word)?;
+            Stmt::Bind(target, op) => match copies_of(alloc, &target, &op)? {
+                Some(copies) => {
+                    self.put_all(copies.as_slice())?;
                     Ok(None)
                 }
                 None => Ok(Some(Stmt::Bind(target, self.op(alloc, op)?))),
@@ -185,51 +189,5 @@ impl Aliases {
             stmts,
             last: Box::new(alloc, last)?,
         })
-    }
-}
-
-// What a copy is a copy of, or none where this is no copy.
-fn alias_of(target: &Target, op: &Op) -> Option<Alias>
-    ensures { result ≡ alias_of target.now (act_of op.now) }
-{
-    match target {
-        Target::One(x) => alias_op(*x, op),
-        Target::Nothing => None,
-        Target::Node(_) => None,
-        Target::Vector(_) => None,
-    }
-}
-
-fn alias_op(x: VarId, op: &Op) -> Option<Alias>
-    ensures { result ≡ alias_act x (act_of op.now) }
-{
-    match op {
-        Op::Unit(v) => alias_val(x, v),
-        Op::Fetch(_) => None,
-        Op::FetchWord(_, _) => None,
-        Op::Update(_, _) => None,
-        Op::Eval(_) => None,
-        Op::Apply(_, _) => None,
-        Op::Call(_, _) => None,
-        Op::Prim(_, _, _) => None,
-        Op::Read => None,
-        Op::Write(_) => None,
-        Op::Case(_, _) => None,
-        Op::Nested(_) => None,
-        Op::Fail => None,
-    }
-}
-
-fn alias_val(x: VarId, v: &Val) -> Option<Alias>
-    ensures { result ≡ alias_val x v.now }
-{
-    match v {
-        Val::One(word) => Some(Alias {
-            var: x,
-            word: *word,
-        }),
-        Val::NodeVar(_) => None,
-        Val::Node(_, _) => None,
-        Val::Vector(_) => None,
     }
 }

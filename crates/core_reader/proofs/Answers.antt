@@ -1,5 +1,6 @@
 -- What the reader answers, by the text alone.
 use Rattle.std.proofs.Common.{◌≡◌, ℕ, ◌+◌, ◌<◌, ◌≤◌, ◌^◌, List, [], length, map, take, Ok, Err, refl, sym, ap, subst, arith, inl}
+use Rattle.core_reader.specs.declared.dialect.Dialect.TheVariants.{Core}
 use Rattle.core_reader.specs.declared.token.Token.TheVariants as word
 use Rattle.core_reader.specs.declared.token.Lexeme.{Lexeme}
 use Rattle.core_reader.specs.declared.parser.Declarations.{Declarations}
@@ -30,7 +31,7 @@ are_tokens : {at end : ℕ} {bytes rest : List ℕ} {pieces : List Piece} (names
 are_tokens names (Stops at rest) = tt
 are_tokens names (Passes at n bytes pieces end rest h r) = are_tokens names r
 are_tokens names (Takes at n bytes k pieces end rest h r) =
-    (no_bad names (take n bytes) k h.is_token, are_tokens names r)
+    (no_bad Core names (take n bytes) k h.is_token, are_tokens names r)
 
 is_last : (at : ℕ) (rest : List ℕ) (last : Lexeme) → StopsAt at rest last → IsLast last.token
 is_last at rest last (AtEnd e) = tt

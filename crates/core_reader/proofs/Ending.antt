@@ -2,6 +2,7 @@
 use Rattle.std.proofs.Common.{◌≡◌, ℕ, false, List, [], ◌∷◌, ◌++◌, Ok, refl, sym, ap, subst, ◌∙◌, append_assoc, map}
 use Rattle.std.specs.Prelude.{codes}
 use Rattle.std.proofs.lemmas.List.{append-nil}
+use Rattle.core_reader.specs.declared.dialect.Dialect.TheVariants.{Core}
 use Rattle.core_reader.specs.declared.syntax.Pattern.TheVariants as pattern
 use Rattle.core_reader.specs.declared.token.Token.TheVariants as word
 use Rattle.core_reader.specs.declared.token.Lexeme.{Lexeme}
@@ -151,7 +152,7 @@ goes_on : (names : List (List ℕ)) (l : Room) (us : List Piece) (ts : List Lexe
     → ((s : State) → Consumed l s (ts ++ said names x ∷ []) → run l s (ended names us) ≡ Ok ds → SpellsDecls l ds ((ts ++ said names x ∷ []) ++ map (said names) us))
     → follow st (λ s. run l s (ended names us)) ≡ Ok ds → SpellsDecls l ds (ts ++ map (said names) (x ∷ us))
 goes_on names l us ts x (go s) ds good next e = subst (SpellsDecls l ds) (append_assoc ts (said names x ∷ []) (map (said names) us)) (next s good e)
-goes_on names l us ts x (done es) ds good next e = absurd (no_end names x (ap (λ (y : Lexeme). y.token) (last_same ts good.0 (said names x) (lexeme good.1 word.End) good.3).1))
+goes_on names l us ts x (done es) ds good next e = absurd (no_end Core names x (ap (λ (y : Lexeme). y.token) (last_same ts good.0 (said names x) (lexeme good.1 word.End) good.3).1))
 goes_on names l us ts x (stop er) ds good next e = absurd cc
 
 pub sound_run : (names : List (List ℕ)) (l : Room) (us : List Piece) (s : State) (ts : List Lexeme) (ds : List Decl) → Consumed l s ts → run l s (ended names us) ≡ Ok ds → SpellsDecls l ds (ts ++ map (said names) us)

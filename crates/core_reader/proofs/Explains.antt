@@ -3,6 +3,7 @@ use Rattle.std.proofs.Common.{◌≡◌, ℕ, Bool, true, false, cond, List, [],
 use Rattle.std.specs.Prelude.{ℤ, pos, negsuc, nat_lt}
 use Rattle.std.proofs.lemmas.List.{append-nil}
 use Rattle.seq.proofs.Lists.{map_push}
+use Rattle.core_reader.specs.declared.dialect.Dialect.TheVariants.{Core}
 use Rattle.core_reader.specs.declared.syntax.Pattern.TheVariants as pattern
 use Rattle.core_reader.specs.declared.token.Token.{Token}
 use Rattle.core_reader.specs.declared.token.Token.TheVariants as word
@@ -22,7 +23,7 @@ use Rattle.core_reader.proofs.Complete.{reads_program}
 use Rattle.core_reader.proofs.Sound.{Consumed, Good, sound_step}
 use Rattle.core_reader.proofs.Ending.{ending, ends, sound_run, last_same}
 use Rattle.core_reader.proofs.Proper.{no_end, no_large}
-use Rattle.core_reader.proofs.Naming.{Texts, stable}
+use Rattle.core_reader.proofs.NamingOf.{Texts, stable}
 
 -- ---- what the other limits do at a step of the reading
 
@@ -196,7 +197,7 @@ abbrev pub Agrees : Texts → List Piece → Type 0
 Agrees names ts = map (said names) ts ≡ map (said (names_of ts)) ts
 
 pub agrees_front : (us vs : List Piece) → Agrees (names_of (us ++ vs)) us
-agrees_front us vs = stable us vs
+agrees_front us vs = stable Core us vs
 
 -- Some program begins with what was read.
 pub viable : (l : Room) (names : Texts) (ts : List Piece) (s : State) → Led l names ts s → Agrees names ts → Viable l ts
@@ -205,7 +206,7 @@ viable l names ts s h agrees =
     let all = names_of (ts ++ rest) in
     let e = ends all l s in
     let spelled : SpellsDecls l e.0 (map (said names) ts ++ map (said all) rest) = sound_run all l rest s (map (said names) ts) e.0 h.consumed e.1 in
-    let same : map (said names) ts ++ map (said all) rest ≡ map (said all) (ts ++ rest) = ap (λ w. w ++ map (said all) rest) (agrees ∙ sym (stable ts rest)) ∙ sym (map_parts all ts rest) in
+    let same : map (said names) ts ++ map (said all) rest ≡ map (said all) (ts ++ rest) = ap (λ w. w ++ map (said all) rest) (agrees ∙ sym (stable Core ts rest)) ∙ sym (map_parts all ts rest) in
     record {
       rest = rest;
       whole = record { names = all; constructors = constructors_of e.0; functions = functions_of e.0 };
@@ -219,7 +220,7 @@ stops l names ts s x er h agrees e v =
     let all = ts ++ x ∷ [] in
     let own = v.whole.names in
     let y = said names x in
-    let named : map (said own) all ≡ map (said names) ts ++ y ∷ [] = ap (λ w. map (said w) all) v.is_program.names ∙ stable all v.rest ∙ sym agrees ∙ map_push (said names) ts x in
+    let named : map (said own) all ≡ map (said names) ts ++ y ∷ [] = ap (λ w. map (said w) all) v.is_program.names ∙ stable Core all v.rest ∙ sym agrees ∙ map_push (said names) ts x in
     let after = map (said own) v.rest ++ lexeme 0 word.End ∷ [] in
     let regroup : map (said own) (all ++ v.rest) ++ lexeme 0 word.End ∷ [] ≡ map (said names) ts ++ (y ∷ after) =
     ap (λ w. w ++ lexeme 0 word.End ∷ []) (map_parts own all v.rest ∙ ap (λ w. w ++ map (said own) v.rest) named) ∙ simp append_assoc in
@@ -355,10 +356,10 @@ by_step : (names : Texts) (ts us : List Piece) (last : Lexeme) (s : State) (x : 
 by_step names ts us last s x (go next) h real e v later =
     let known : Known names (ts ++ x ∷ []) next = record { b = led_on at_most_200 names ts s next x h.b e; p = led_on anywhere names ts s next x h.p v } in
     subst (λ w. Explained names w last (run at_most_200 next (map (said names) us ++ last ∷ []))) (append_assoc ts (x ∷ []) us) (later next known)
-by_step names ts us last s x (done ds) h real e v later = absurd (no_end names x v.0)
+by_step names ts us last s x (done ds) h real e v later = absurd (no_end Core names x v.0)
 by_step names ts us last s x (stop (BadByte p)) h real e v later = absurd (real v.1)
 by_step names ts us last s x (stop (Syntax p)) h real e v later = inl (record { before = ts; here = x; after = us; whole = refl; place = v.0; state = s; known = h }, v.1)
-by_step names ts us last s x (stop (NumberRange p)) h real e v later = absurd (no_large names x v.1 v.2)
+by_step names ts us last s x (stop (NumberRange p)) h real e v later = absurd (no_large Core names x v.1 v.2)
 by_step names ts us last s x (stop (TooDeep p)) h real e v later = (record { before = ts; here = x; after = us; whole = refl; place = v.0; state = s; known = h }, v.1, v.2, e, v.3)
 by_step names ts us last s x (stop TextTooLong) h real e v later = absurd v
 by_step names ts us last s x (stop (Memory er)) h real e v later = absurd v

@@ -6,10 +6,12 @@ pub mod Sound
 pub mod Taking
 pub mod Proper
 pub mod Ending
+pub mod NamingOf
 pub mod Naming
 pub mod Unique
 pub mod Explains
 pub mod Lexing
+pub mod FirstBroken
 pub mod Causes
 pub mod Readability
 pub mod Answers

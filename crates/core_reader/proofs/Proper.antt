@@ -1,12 +1,15 @@
 -- Bytes of a kind of token are never read as a bad byte, as the end or as a number out of the range.
 use Rattle.std.proofs.Common.{◌≡◌, ℕ, Bool, true, false, cond, List, Option, Some, None, sym, subst}
+use Rattle.core_reader.specs.declared.dialect.Dialect.{Dialect}
+use Rattle.core_reader.specs.declared.dialect.Dialect.TheVariants as dialect
 use Rattle.core_reader.specs.declared.look.Kind.{Kind}
 use Rattle.core_reader.specs.declared.look.Kind.TheVariants.{Lower, Upper, Digits, Sign}
 use Rattle.core_reader.specs.declared.look.Sign.TheVariants as signs
 use Rattle.core_reader.specs.declared.token.Token.{Token}
 use Rattle.core_reader.specs.declared.token.Token.TheVariants as word
-use Rattle.core_reader.specs.Tokens.{Piece, kind_of}
-use Rattle.core_reader.specs.Words.{said, said_by, said_by_letters, sign_token}
+use Rattle.core_reader.specs.declared.token.Further.TheVariants as further
+use Rattle.core_reader.specs.TokensOf.{Piece, kind_of}
+use Rattle.core_reader.specs.WordsOf.{said, said_by, said_by_letters, sign_token, keyword_of, further_keyword_of}
 
 abbrev pub IsProper : Token → Type 0
 IsProper (word.Large minus) = ⊥
@@ -22,35 +25,65 @@ sign_proper signs.CloseBrace = tt
 sign_proper signs.Open = tt
 sign_proper signs.Close = tt
 sign_proper signs.Arrow = tt
+sign_proper signs.Backslash = tt
+sign_proper signs.Bar = tt
+sign_proper signs.Colon = tt
 
-letters_proper : (names : List (List ℕ)) (w : List ℕ) (b1 b2 b3 b4 b5 : Bool)
-    → IsProper (said_by_letters names w (cond b1 (Some word.Data) (cond b2 (Some word.Let) (cond b3 (Some word.In) (cond b4 (Some word.Case) (cond b5 (Some word.Of) None))))))
-letters_proper names w true b2 b3 b4 b5 = tt
-letters_proper names w false true b3 b4 b5 = tt
-letters_proper names w false false true b4 b5 = tt
-letters_proper names w false false false true b5 = tt
-letters_proper names w false false false false true = tt
-letters_proper names w false false false false false = tt
+-- the token of a keyword
+abbrev IsKeyword : Option Token → Type 0
+IsKeyword (Some token) = IsProper token
+IsKeyword None = Unit {0}
 
-pub proper : (names : List (List ℕ)) (w : List ℕ) (kind : Kind) → IsProper (said_by names w (Some kind))
-proper names w Lower = letters_proper names w _ _ _ _ _
-proper names w Upper = tt
-proper names w Digits = tt
-proper names w (Sign s) = sign_proper s
+module_words : (b1 b2 b3 : Bool) → IsKeyword (cond b1 (Some (word.Further further.Module)) (cond b2 (Some (word.Further further.Export)) (cond b3 (Some (word.Further further.Import)) None)))
+module_words true b2 b3 = tt
+module_words false true b3 = tt
+module_words false false true = tt
+module_words false false false = tt
 
-no_end_by : (names : List (List ℕ)) (w : List ℕ) (kind : Option Kind) → said_by names w kind ≡ word.End → ⊥
-no_end_by names w None e = cc
-no_end_by names w (Some kind) e = subst IsProper e (proper names w kind)
+type_words : (b1 b2 : Bool) → IsKeyword (cond b1 (Some (word.Further further.TypeDecl)) (cond b2 (Some (word.Further further.Signature)) None))
+type_words true b2 = tt
+type_words false true = tt
+type_words false false = tt
 
-no_large_by : (names : List (List ℕ)) (w : List ℕ) (kind : Option Kind) (minus : Bool) → said_by names w kind ≡ word.Large minus → ⊥
-no_large_by names w None minus e = cc
-no_large_by names w (Some kind) minus e = subst IsProper e (proper names w kind)
+further_proper : (d : Dialect) (w : List ℕ) → IsKeyword (further_keyword_of d w)
+further_proper dialect.Core w = tt
+further_proper dialect.Modules w = module_words _ _ _
+further_proper dialect.Lambdas w = tt
+further_proper dialect.Types w = type_words _ _
 
-pub no_end : (names : List (List ℕ)) (x : Piece) → (said names x).token ≡ word.End → ⊥
-no_end names x e = no_end_by names x.bytes (kind_of x.bytes) e
+keyword_proper : (b1 b2 b3 b4 b5 : Bool) (more : Option Token) → IsKeyword more
+    → IsKeyword (cond b1 (Some word.Data) (cond b2 (Some word.Let) (cond b3 (Some word.In) (cond b4 (Some word.Case) (cond b5 (Some word.Of) more)))))
+keyword_proper true b2 b3 b4 b5 more h = tt
+keyword_proper false true b3 b4 b5 more h = tt
+keyword_proper false false true b4 b5 more h = tt
+keyword_proper false false false true b5 more h = tt
+keyword_proper false false false false true more h = tt
+keyword_proper false false false false false more h = h
 
-pub no_large : (names : List (List ℕ)) (x : Piece) (minus : Bool) → (said names x).token ≡ word.Large minus → ⊥
-no_large names x minus e = no_large_by names x.bytes (kind_of x.bytes) minus e
+letters_proper : (names : List (List ℕ)) (w : List ℕ) (keyword : Option Token) → IsKeyword keyword → IsProper (said_by_letters names w keyword)
+letters_proper names w (Some token) h = h
+letters_proper names w None h = tt
 
-pub no_bad : (names : List (List ℕ)) (w : List ℕ) (kind : Kind) → kind_of w ≡ Some kind → said_by names w (kind_of w) ≡ word.Bad → ⊥
-no_bad names w kind e h = subst IsProper h (subst (λ o. IsProper (said_by names w o)) (sym e) (proper names w kind))
+module _ (d : Dialect) where
+  pub proper : (names : List (List ℕ)) (w : List ℕ) (kind : Kind) → IsProper (said_by d names w (Some kind))
+  proper names w Lower = letters_proper names w (keyword_of d w) (keyword_proper _ _ _ _ _ (further_keyword_of d w) (further_proper d w))
+  proper names w Upper = tt
+  proper names w Digits = tt
+  proper names w (Sign s) = sign_proper s
+
+  no_end_by : (names : List (List ℕ)) (w : List ℕ) (kind : Option Kind) → said_by d names w kind ≡ word.End → ⊥
+  no_end_by names w None e = cc
+  no_end_by names w (Some kind) e = subst IsProper e (proper names w kind)
+
+  no_large_by : (names : List (List ℕ)) (w : List ℕ) (kind : Option Kind) (minus : Bool) → said_by d names w kind ≡ word.Large minus → ⊥
+  no_large_by names w None minus e = cc
+  no_large_by names w (Some kind) minus e = subst IsProper e (proper names w kind)
+
+  pub no_end : (names : List (List ℕ)) (x : Piece) → (said d names x).token ≡ word.End → ⊥
+  no_end names x e = no_end_by names x.bytes (kind_of d x.bytes) e
+
+  pub no_large : (names : List (List ℕ)) (x : Piece) (minus : Bool) → (said d names x).token ≡ word.Large minus → ⊥
+  no_large names x minus e = no_large_by names x.bytes (kind_of d x.bytes) minus e
+
+  pub no_bad : (names : List (List ℕ)) (w : List ℕ) (kind : Kind) → kind_of d w ≡ Some kind → said_by d names w (kind_of d w) ≡ word.Bad → ⊥
+  no_bad names w kind e h = subst IsProper h (subst (λ o. IsProper (said_by d names w o)) (sym e) (proper names w kind))

@@ -26,7 +26,8 @@ use Rattle.core_reader.specs.Programs.{IsProgram}
 use Rattle.core_reader.specs.Lexed.{AreInRange}
 use Rattle.core_reader.specs.Size.{term_size, terms_size, bind_size, pattern_size, expr_size, alts_size, function_size}
 use Rattle.core_reader.specs.Readable.{IsConstructor, IsTextAt, IsNamed, IsBound, ReadableTerm, ReadableTerms, ReadableApp, ReadableBind, ReadablePattern, ReadableExpr, ReadableAlts, ReadableData, ReadableFunction, AreDifferent, IsReadable}
-use Rattle.core_reader.proofs.Naming.{Texts, has, EachHeld, each_held}
+use Rattle.core_reader.proofs.NamingOf.{Texts, has}
+use Rattle.core_reader.proofs.Naming.{EachHeld, each_held}
 
 -- ---- what each token of a text says
 
@@ -79,6 +80,9 @@ sign_known names signs.CloseBrace = tt
 sign_known names signs.Open = tt
 sign_known names signs.Close = tt
 sign_known names signs.Arrow = tt
+sign_known names signs.Backslash = tt
+sign_known names signs.Bar = tt
+sign_known names signs.Colon = tt
 
 known_by : (names : Texts) (w : List ℕ) (kind : Option Kind) → kind_of w ≡ kind → (is_numbered_by w kind ≡ true → has names w ≡ true) → (kind ≡ Some Digits → IsInRange (written_number w)) → KnownToken names (said_by names w kind)
 known_by names w None e h g = tt

@@ -2,19 +2,23 @@
 
 ghost use Rattle.std.specs.Prelude.{◌≡◌, ◌<◌, ◌≤◌, ◌^◌, ℕ, length, IfOk, IfSome, pos, neg_ℤ, true, false};
 ghost use Rattle.indexmap.specs.IndexSet.{index_set_len};
-ghost use Rattle.core_reader.specs.Words.{digits_from, has_minus, keyword_of, written_number, sign_token};
-ghost use Rattle.core_reader.specs.Lexed.{texts_of, is_large, IsSize, IsSigned, IsNumberOf, IsTokenOf, IsLexed};
+ghost use Rattle.core_reader.specs.WordsOf.{digits_from, has_minus, keyword_of, further_keyword_of, written_number, sign_token};
+ghost use Rattle.core_reader.specs.LexedOf.{texts_of, is_large, IsSize, IsSigned, IsNumberOf, IsTokenOf, IsLexed};
 
+use crate::dialect::Dialect;
 use crate::look::{Found, Kind, Sign, look};
 use crate::syntax::NameId;
-use crate::token::{Lexeme, Token};
+use crate::token::{Further, Lexeme, Token};
 use indexmap::IndexSet;
 use std::alloc::{AllocError, Global};
 
 /// The tokens of a text up to the one behind which nothing is read, and the names among them.
 #[derive(Drop)]
-pub(crate) struct Lexed<'a> {
+pub struct Lexed<'a> {
+    /// The tokens with their places. The last one is the end of the text, a byte at which no token
+    /// begins, or an integer that is out of the range.
     pub lexemes: Vec<Lexeme>,
+    /// Each name once, in the order of first appearance.
     pub names: IndexSet<&'a [u8]>,
 }
 
@@ -87,12 +91,35 @@ impl Sign {
             Sign::Open => Token::Open,
             Sign::Close => Token::Close,
             Sign::Arrow => Token::Arrow,
+            Sign::Backslash => Token::Further(Further::Backslash),
+            Sign::Bar => Token::Further(Further::Bar),
+            Sign::Colon => Token::Further(Further::Colon),
         }
     }
 }
 
-fn keyword(word: &[u8]) -> Option<Token>
-    ensures { result ≡ keyword_of word.now }
+/// A keyword that the dialect has besides those of Core.
+fn further_keyword(dialect: Dialect, word: &[u8]) -> Option<Token>
+    ensures { result ≡ further_keyword_of dialect word.now }
+{
+    match dialect {
+        Dialect::Core | Dialect::Lambdas => None,
+        Dialect::Modules => match word {
+            b"module" => Some(Token::Further(Further::Module)),
+            b"export" => Some(Token::Further(Further::Export)),
+            b"import" => Some(Token::Further(Further::Import)),
+            _ => None,
+        },
+        Dialect::Types => match word {
+            b"type" => Some(Token::Further(Further::TypeDecl)),
+            b"sig" => Some(Token::Further(Further::Signature)),
+            _ => None,
+        },
+    }
+}
+
+fn keyword(dialect: Dialect, word: &[u8]) -> Option<Token>
+    ensures { result ≡ keyword_of dialect word.now }
 {
     match word {
         b"data" => Some(Token::Data),
@@ -100,7 +127,7 @@ fn keyword(word: &[u8]) -> Option<Token>
         b"in" => Some(Token::In),
         b"case" => Some(Token::Case),
         b"of" => Some(Token::Of),
-        _ => None,
+        _ => further_keyword(dialect, word),
     }
 }
 
@@ -125,16 +152,17 @@ fn name_id<'a>(names: &mut IndexSet<&'a [u8]>, word: &'a [u8]) -> Result<NameId,
 
 /// The token that the bytes are.
 fn token_of<'a>(
+    dialect: Dialect,
     names: &mut IndexSet<&'a [u8]>,
     word: &'a [u8],
     kind: Kind,
 ) -> Result<Token, AllocError>
     requires { index_set_len names.old < 2 ^ 32 }
     ensures { IfOk result (λ token.
-        IsTokenOf (texts_of names.old.keys) (texts_of names.new.keys) word.now kind token) }
+        IsTokenOf dialect (texts_of names.old.keys) (texts_of names.new.keys) word.now kind token) }
 {
     match kind {
-        Kind::Lower => match keyword(word) {
+        Kind::Lower => match keyword(dialect, word) {
             Some(token) => Ok(token),
             None => Ok(Token::Name(name_id(names, word)?)),
         },
@@ -146,18 +174,18 @@ fn token_of<'a>(
 
 /// The longest-token reading of the text, to its end, to the first byte at which nothing begins, or
 /// to the first integer that is out of the range.
-pub(crate) fn lex<'a>(alloc: Global, text: &'a [u8]) -> Result<Lexed<'a>, AllocError>
+pub fn lex<'a>(alloc: Global, dialect: Dialect, text: &'a [u8]) -> Result<Lexed<'a>, AllocError>
     requires { length text.now < 2 ^ 32 }
-    ensures { IfOk result (λ l. IsLexed text.now l.lexemes.items (texts_of l.names.keys)) }
+    ensures { IfOk result (λ l. IsLexed dialect text.now l.lexemes.items (texts_of l.names.keys)) }
 {
     let mut names = IndexSet::new(alloc);
     let mut lexemes = Vec::new(alloc);
     let mut at = 0;
     loop {
-        match look(&text[at..]) {
+        match look(dialect, &text[at..]) {
             Found::Gap(len) => at += len,
             Found::Token(len, kind) => {
-                let token = token_of(&mut names, &text[at..at + len], kind)?;
+                let token = token_of(dialect, &mut names, &text[at..at + len], kind)?;
                 lexemes.push(Lexeme {
                     at: at as u32,
                     token,

@@ -1,9 +1,10 @@
 //! What stands at the front of a text.
 
 ghost use Rattle.std.specs.Prelude.{◌≡◌};
-ghost use Rattle.core_reader.specs.Look.{looks, sign_of};
+ghost use Rattle.core_reader.specs.LookOf.{looks, sign_of, further_sign_of};
 
 use crate::bytes::{digit_len, inner_len, is_digit, is_lower, is_space, is_upper, line_len};
+use crate::dialect::Dialect;
 
 /// A sign.
 #[derive(Clone, Copy, Debug, PartialEq, Eq)]
@@ -15,6 +16,9 @@ pub enum Sign {
     Open,
     Close,
     Arrow,
+    Backslash,
+    Bar,
+    Colon,
 }
 
 /// A kind of token. Keywords are of the kind `Lower`.
@@ -35,8 +39,26 @@ pub enum Found {
     End,
 }
 
-fn sign_of(byte: u8) -> Found
-    ensures { result ≡ sign_of byte }
+/// A sign that the dialect has besides those of Core.
+fn further_sign_of(dialect: Dialect, byte: u8) -> Found
+    ensures { result ≡ further_sign_of dialect byte }
+{
+    match dialect {
+        Dialect::Core | Dialect::Modules => Found::Bad,
+        Dialect::Lambdas => match byte {
+            b'\\' => Found::Token(1, Kind::Sign(Sign::Backslash)),
+            _ => Found::Bad,
+        },
+        Dialect::Types => match byte {
+            b'|' => Found::Token(1, Kind::Sign(Sign::Bar)),
+            b':' => Found::Token(1, Kind::Sign(Sign::Colon)),
+            _ => Found::Bad,
+        },
+    }
+}
+
+fn sign_of(dialect: Dialect, byte: u8) -> Found
+    ensures { result ≡ sign_of dialect byte }
 {
     match byte {
         b';' => Found::Token(1, Kind::Sign(Sign::Semicolon)),
@@ -45,13 +67,13 @@ fn sign_of(byte: u8) -> Found
         b'}' => Found::Token(1, Kind::Sign(Sign::CloseBrace)),
         b'(' => Found::Token(1, Kind::Sign(Sign::Open)),
         b')' => Found::Token(1, Kind::Sign(Sign::Close)),
-        _ => Found::Bad,
+        _ => further_sign_of(dialect, byte),
     }
 }
 
 /// The token, separator or comment that begins with the first byte.
-pub(crate) fn look(bytes: &[u8]) -> Found
-    ensures { result ≡ looks bytes.now }
+pub(crate) fn look(dialect: Dialect, bytes: &[u8]) -> Found
+    ensures { result ≡ looks dialect bytes.now }
 {
     let [b, rest @ ..] = bytes else {
         return Found::End;
@@ -69,7 +91,7 @@ pub(crate) fn look(bytes: &[u8]) -> Found
         return Found::Token(1 + digit_len(rest), Kind::Digits);
     }
     if *b != b'-' {
-        return sign_of(*b);
+        return sign_of(dialect, *b);
     }
     let [c, tail @ ..] = rest else {
         return Found::Bad;

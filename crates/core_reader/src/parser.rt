@@ -13,8 +13,10 @@ use std::alloc::Global;
 
 /// The declarations of a program, each kind in text order.
 #[derive(Drop)]
-pub(crate) struct Declarations {
+pub struct Declarations {
+    /// The constructors.
     pub constructors: Vec<Data>,
+    /// The functions.
     pub functions: Vec<Function>,
 }
 
@@ -22,23 +24,21 @@ pub(crate) struct Declarations {
 pub(crate) fn parse(alloc: Global, lexemes: &[Lexeme]) -> Result<Declarations, ReadRefusal>
     ensures { ReadsProgram lexemes.now result }
 {
-    let mut parser = Parser {
-        alloc,
-        rest: lexemes,
-        depth: 0,
-    };
-    parser.program()
+    Parser::new(alloc, lexemes).program()
 }
 
 /// The most brackets, lets and cases that are open at one place.
 const MOST_OPEN: u32 = 200;
 
-/// The tokens that are left, and how many brackets are open.
+/// A reader of tokens, one after the other, which has a method for each part of Core.
 #[derive(Drop)]
-struct Parser<'a> {
-    alloc: Global,
-    rest: &'a [Lexeme],
-    depth: u32,
+pub struct Parser<'a> {
+    /// Where the memory of the trees comes from.
+    pub alloc: Global,
+    /// The tokens that are left.
+    pub rest: &'a [Lexeme],
+    /// How many brackets, lets and cases are open.
+    pub depth: u32,
 }
 
 impl Token {
@@ -53,8 +53,20 @@ impl Token {
 }
 
 impl<'a> Parser<'a> {
+    /// A reader of these tokens, where nothing is open.
+    pub fn new(alloc: Global, lexemes: &'a [Lexeme]) -> Parser<'a>
+        ensures rest { result.rest.now ≡ lexemes.now }
+        ensures depth { result.depth ≡ 0 }
+    {
+        Parser {
+            alloc,
+            rest: lexemes,
+            depth: 0,
+        }
+    }
+
     /// The next token, which stays.
-    fn peek(&self) -> Lexeme
+    pub fn peek(&self) -> Lexeme
         ensures { result ≡ front self.now.rest.now }
     {
         match self.rest {
@@ -67,7 +79,7 @@ impl<'a> Parser<'a> {
     }
 
     /// Takes the next token.
-    fn advance(&mut self)
+    pub fn advance(&mut self)
         ensures rest { self.new.rest.now ≡ behind self.old.rest.now }
         ensures depth { self.new.depth ≡ self.old.depth }
     {
@@ -77,7 +89,7 @@ impl<'a> Parser<'a> {
     }
 
     /// What is wrong with the next token, which cannot stand here.
-    fn refusal(&self) -> ReadRefusal
+    pub fn refusal(&self) -> ReadRefusal
         ensures { result ≡ refusal (front self.now.rest.now) }
     {
         let next = self.peek();
@@ -162,7 +174,7 @@ impl<'a> Parser<'a> {
     }
 
     /// Takes the token that has to stand here.
-    fn take(&mut self, wanted: Token) -> Result<(), ReadRefusal>
+    pub fn take(&mut self, wanted: Token) -> Result<(), ReadRefusal>
         ensures takes { Takes wanted self.old.rest.now self.new.rest.now result }
         ensures depth { self.new.depth ≡ self.old.depth }
     {
@@ -239,7 +251,7 @@ impl<'a> Parser<'a> {
 
     /// An expression, to the first token that cannot go on with it.
     #[cycle(expr)]
-    fn expr(&mut self) -> Result<Expr, ReadRefusal>
+    pub fn expr(&mut self) -> Result<Expr, ReadRefusal>
         ensures reads { ReadsExpr self.old.depth self.old.rest.now self.new.rest.now result }
         ensures shorter { OnOk result (length self.new.rest.now < length self.old.rest.now) }
         ensures depth { OnOk result (self.new.depth ≡ self.old.depth) }
@@ -358,7 +370,7 @@ impl<'a> Parser<'a> {
     }
 
     /// The names of a list: the parameters of a function, or the variables of a pattern.
-    fn names(&mut self) -> Result<Vec<Binder>, ReadRefusal>
+    pub fn names(&mut self) -> Result<Vec<Binder>, ReadRefusal>
         ensures reads { ReadsNames self.old.rest.now self.new.rest.now result }
         ensures depth { self.new.depth ≡ self.old.depth }
         ensures whole { OnOk result (is_name (front self.new.rest.now).token ≡ false) }
@@ -406,7 +418,7 @@ impl<'a> Parser<'a> {
     }
 
     /// A constructor's declaration, at its first word.
-    fn constructor(&mut self) -> Result<Data, ReadRefusal>
+    pub fn constructor(&mut self) -> Result<Data, ReadRefusal>
         requires { (front self.old.rest.now).token ≡ word.Data }
         ensures reads { ReadsDecl data_decl self.old.rest.now self.new.rest.now result }
         ensures depth { self.new.depth ≡ self.old.depth }
@@ -430,7 +442,7 @@ impl<'a> Parser<'a> {
     }
 
     /// A function's declaration, at its name.
-    fn function(&mut self, name: NameId, at: u32) -> Result<Function, ReadRefusal>
+    pub fn function(&mut self, name: NameId, at: u32) -> Result<Function, ReadRefusal>
         requires name { (front self.old.rest.now).token ≡ word.Name name }
         requires at { (front self.old.rest.now).at ≡ at }
         requires depth { self.old.depth ≡ 0 }
@@ -452,7 +464,7 @@ impl<'a> Parser<'a> {
     }
 
     /// All declarations, to the end of the text.
-    fn program(&mut self) -> Result<Declarations, ReadRefusal>
+    pub fn program(&mut self) -> Result<Declarations, ReadRefusal>
         requires { self.old.depth ≡ 0 }
         ensures { ReadsProgram self.old.rest.now result }
     {

@@ -8,6 +8,7 @@ ghost use Rattle.core_reader.specs.Different.{AreDifferent};
 ghost use Rattle.core_reader.specs.Readable.{IsReadable};
 ghost use Rattle.core_reader.specs.Lexed.{texts_of};
 
+use crate::dialect::Dialect;
 use crate::lexer::lex;
 use crate::parser::parse;
 use crate::refusal::ReadRefusal;
@@ -35,7 +36,7 @@ pub fn read(alloc: Global, text: &[u8]) -> Result<Core, ReadRefusal>
     if text.len() > MOST_BYTES {
         return Err(ReadRefusal::TextTooLong);
     }
-    let lexed = lex(alloc, text)?;
+    let lexed = lex(alloc, Dialect::Core, text)?;
     let declarations = parse(alloc, lexed.lexemes.as_slice())?;
     Ok(Core {
         names: copied(alloc, &lexed.names)?,

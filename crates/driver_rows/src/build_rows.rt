@@ -1,8 +1,8 @@
 //! Texts whose images are put, and whose code is listed.
 
 use crate::outside::{Ended, LISTS, Object, Outside};
+use rv32_isa::{decode, show};
 use std::alloc::{AllocError, Global};
-use std::fmt::Write;
 use std::test::Fail;
 use worked_texts::QUEENS;
 
@@ -79,33 +79,42 @@ fn parts_of_an_image(rt: HostRuntime) -> Result<(), Fail> {
     Ok(())
 }
 
-/// The front of the line of a word, of which these are the bytes.
-fn front(alloc: Global, address: u32, word: &[u8]) -> Result<String, AllocError> {
-    let mut front = String::new(alloc);
-    write!(front, "{address:08x} ")?;
-    for byte in word.iter().rev() {
-        write!(front, "{byte:02x}")?;
+/// How the listing of the first text begins: the end of the frames, the first cell, and the end of
+/// a million cells of three words.
+const FIRST_LINES: &str = "\
+00010000 78000137 lui x2, 491520
+00010004 500001b7 lui x3, 327680
+00010008 50b72237 lui x4, 330610
+0001000c b0020213 addi x4, x4, -1280
+";
+
+/// The line of a word at an address, of which these are the bytes.
+fn line_of(alloc: Global, address: u32, bytes: &[u8]) -> Result<Vec<u8>, Fail> {
+    let mut word: u32 = 0;
+    for byte in bytes.iter().rev() {
+        word = word.wrapping_mul(256).wrapping_add(u32::from(*byte));
     }
-    front.push_str(" ")?;
-    Ok(front)
+    let front = format!(in alloc; "{address:08x} {word:08x} ")?;
+    let shown = show(alloc, decode(word).ok_or("no instruction")?)?;
+    let mut line = Vec::from_slice(alloc, front.as_bytes())?;
+    line.extend_from_slice(shown.as_slice())?;
+    Ok(line)
 }
 
 #[test]
 fn code_of_the_default_image(rt: HostRuntime) -> Result<(), Fail> {
-    for text in [GREETS, QUEENS] {
+    for (text, first) in [(GREETS, FIRST_LINES), (QUEENS, "")] {
         let image = built(rt.alloc(), text, &BUILD)?;
         let words = ["grinc", "list", "a", "--after", "code"];
         let listing = Outside::of(text.as_bytes()).run(rt.alloc(), &words)?;
         assert!(rt; listing.is_done());
+        assert!(rt; listing.bytes().starts_with(first.as_bytes()));
         let mut lines = listing.bytes().split(|byte| *byte == b'\n');
         let code = image.bytes().get(4096..).ok_or("an image without code")?;
         let mut address: u32 = 0x0001_0000;
         for word in code.chunks(4) {
-            let front = front(rt.alloc(), address, word)?;
-            let line = lines.next().ok_or("a word without a line")?;
-            assert!(rt; line.starts_with(front.as_bytes()), "{front}");
-            // The word's instruction stands after it.
-            assert!(rt; line.len() > front.len(), "{front}");
+            let line = line_of(rt.alloc(), address, word)?;
+            assert_eq!(rt; lines.next(), Some(line.as_slice()));
             address = address.wrapping_add(4);
         }
         assert_eq!(rt; lines.next(), Some(&b""[..]));

@@ -31,40 +31,26 @@ fn nested(
 }
 
 #[test]
-fn refused_programs(rt: HostRuntime) -> Result<(), Fail> {
-    let rows = [
-        ("main = foo;", "grinc: refused 14 at 32\n"),
-        ("main = Cons 1;", "grinc: refused 15 at 32\n"),
-        ("main = Cons 2147483648 Nil;", "grinc: refused 3 at 37\n"),
-        (
-            "main = case Nil of { Nil -> Nil",
-            "grinc: refused 2 at 56\n",
-        ),
-        ("main = case", "grinc: refused 2 at 36\n"),
-        ("main = - 1;", "grinc: refused 1 at 32\n"),
-        ("data T 2147483648;", "grinc: refused 3 at 32\n"),
-        ("data T 13;", "grinc: refused 34 at 30\n"),
-        (
-            "main = Cons 1 Nil; main = Nil;",
-            "grinc: refused 12 at 44\n",
-        ),
-    ];
-    for (text, err) in rows {
-        let text = format!(in rt.alloc(); "{LISTS}{text}")?;
-        let shown = checked(rt.alloc(), text.as_bytes())?;
-        assert!(rt; shown.is(1, "", err), "{text}");
-    }
-    Ok(())
-}
-
-#[test]
 fn refused_texts(rt: HostRuntime) -> Result<(), Fail> {
     let spaces = vec![in rt.alloc(); b' '; 1_048_577]?;
-    let rows: [(&[u8], &str); 5] = [
+    let rows: [(&[u8], &str); 6] = [
+        (
+            b"data Nil 0; data Cons 2; main = foo;",
+            "grinc: refused 14 at 32\n",
+        ),
+        (
+            b"data Nil 0; data Cons 2; main = Cons 1;",
+            "grinc: refused 15 at 32\n",
+        ),
+        (
+            b"data Nil 0; data Cons 2; main = Cons 2147483648 Nil;",
+            "grinc: refused 3 at 37\n",
+        ),
+        (
+            b"data Nil 0; data Cons 2; main = case Nil of { Nil -> Nil",
+            "grinc: refused 2 at 56\n",
+        ),
         (b"", "grinc: refused 19 at 0\n"),
-        (&[0xFF], "grinc: refused 1 at 0\n"),
-        (b"data Nil 0; data Cons 2", "grinc: refused 2 at 23\n"),
-        (b"data Nil 0; data Nil 0;", "grinc: refused 11 at 17\n"),
         (&spaces, "grinc: refused 5 at 1048576\n"),
     ];
     for (text, err) in rows {

@@ -2,14 +2,18 @@
 
 use crate::outside::Outside;
 use std::test::Fail;
-use worked_texts::{INTERPRETER, PRIMES};
+use worked_texts::{INTERPRETER, LIFE};
 
 #[test]
 fn longer_programs(rt: HostRuntime) -> Result<(), Fail> {
     let rows = [
         (
-            PRIMES,
-            "2\n3\n5\n7\n11\n13\n17\n19\n23\n29\n31\n37\n41\n43\n47\n53\n59\n",
+            LIFE,
+            ".#....\n..#...\n###...\n......\n......\n......\n\n\
+             ......\n#.#...\n.##...\n.#....\n......\n......\n\n\
+             ......\n..#...\n#.#...\n.##...\n......\n......\n\n\
+             ......\n.#....\n..##..\n.##...\n......\n......\n\n\
+             ......\n..#...\n...#..\n.###..\n......\n......\n\n",
         ),
         (INTERPRETER, "120\n"),
     ];

@@ -19,32 +19,15 @@ fn changed(alloc: Global, offset: usize, bytes: &[u8]) -> Result<Vec<u8>, AllocE
 }
 
 #[test]
-fn images_with_changed_bytes(rt: HostRuntime) -> Result<(), Fail> {
-    let rows: [(usize, &[u8], u8, &str); 21] = [
-        (0, &[0x7F], 7, "grinc: exited 7\n"),
-        (0, &[0x00], 1, "grinc: refused 42 at 0\n"),
-        (4, &[0x02], 1, "grinc: refused 43 at 0\n"),
-        (42, &[0x1F], 1, "grinc: refused 43 at 0\n"),
-        (28, &[0xFF, 0xFF, 0xFF, 0xFF], 1, "grinc: refused 44 at 0\n"),
-        (44, &[0xFF, 0xFF], 1, "grinc: refused 44 at 0\n"),
-        (60, &[0xFC, 0xFF, 0xFF, 0xFF], 1, "grinc: refused 45 at 0\n"),
-        (72, &[0x08], 1, "grinc: refused 45 at 0\n"),
-        (24, &[0x00, 0x00, 0x00, 0x00], 1, "grinc: refused 47 at 0\n"),
-        (76, &[0x04], 1, "grinc: refused 47 at 0\n"),
-        (44, &[0x00], 1, "grinc: refused 47 at 0\n"),
-        (72, &[0x01, 0x00, 0x00, 0x80], 1, "grinc: refused 48 at 0\n"),
-        (24, &[0x55], 7, "grinc: trap misaligned-jump at 65621\n"),
+fn lines_of_traps_and_exits(rt: HostRuntime) -> Result<(), Fail> {
+    // Other first words of the code, and another number to exit with.
+    let rows: [(usize, &[u8], u8, &str); 8] = [
+        (84, &[0x93, 0x08, 0xD0, 0x05], 7, "grinc: exited 7\n"),
         (
             84,
             &[0x00, 0x00, 0x00, 0x00],
             7,
             "grinc: trap illegal-instruction 0 at 65620\n",
-        ),
-        (
-            84,
-            &[0x01, 0x00, 0x00, 0x00],
-            7,
-            "grinc: trap illegal-instruction 1 at 65620\n",
         ),
         (
             84,

@@ -1,7 +1,6 @@
-//! Generated texts: their summaries, and that they are in canonical form.
+//! Generated texts: their summaries.
 
 use crate::outside::Outside;
-use generator::generated;
 use std::test::Fail;
 
 #[test]
@@ -28,17 +27,6 @@ fn summaries_of_generated_texts(rt: HostRuntime) -> Result<(), Fail> {
             let shown = Outside::of(b"").run(rt.alloc(), &words)?;
             assert!(rt; shown.is(0, summary, ""), "{seed} {size}");
         }
-    }
-    Ok(())
-}
-
-#[test]
-fn canonical_form_of_generated_texts(rt: HostRuntime) -> Result<(), Fail> {
-    for (seed, size) in [(1, 1), (1, 2), (2, 20)] {
-        let text = generated(rt.alloc(), seed, size)?;
-        let words = ["grinc", "list", "a", "--after", "read"];
-        let shown = Outside::of(text.as_slice()).run(rt.alloc(), &words)?;
-        assert!(rt; shown.is_bytes(0, text.as_slice(), ""), "{seed} {size}");
     }
     Ok(())
 }

@@ -17,17 +17,18 @@ const COUNT: &str =
     "count xs acc = case xs of { Nil -> acc; Cons h t -> case add acc 1 of { a -> count t a } }; \
                      main = case count (upto 1 100000) 0 of { 100000 -> Cons 79 Nil };";
 
-/// A function with a branch for each number below 300.
-fn many_branches(alloc: Global) -> Result<String, AllocError> {
+/// A function with so many branches, for the numbers from 0 on, which is given the last of them.
+fn many_branches(alloc: Global, count: u32) -> Result<String, AllocError> {
     let mut text = String::from_str(alloc, LISTS)?;
     text.push_str("f n = case n of { ")?;
-    for k in 0..300 {
+    for k in 0..count {
         if k > 0 {
             text.push_str("; ")?;
         }
         write!(text, "{k} -> Cons {k} Nil")?;
     }
-    text.push_str(" }; main = f 299;")?;
+    let last = count.saturating_sub(1);
+    write!(text, " }}; main = f {last};")?;
     Ok(text)
 }
 
@@ -45,16 +46,29 @@ fn deep_and_long_evaluations(rt: HostRuntime) -> Result<(), Fail> {
 
 #[test]
 fn a_function_longer_than_a_branch_reaches(rt: HostRuntime) -> Result<(), Fail> {
-    let text = many_branches(rt.alloc())?;
+    let text = many_branches(rt.alloc(), 300)?;
     let shown = Outside::of(text.as_bytes()).run(rt.alloc(), &["grinc", "run", "a"])?;
     assert!(rt; shown.is_bytes(0, &[0x2B], ""));
+    // With one branch all the other code is there too.
+    let long = Outside::of(text.as_bytes()).run(rt.alloc(), &["grinc", "build", "a"])?;
+    let text = many_branches(rt.alloc(), 1)?;
+    let short = Outside::of(text.as_bytes()).run(rt.alloc(), &["grinc", "build", "a"])?;
+    assert!(rt; long.is_done() && short.is_done());
+    let longer = long.bytes().len().saturating_sub(short.bytes().len());
+    assert!(rt; longer > 4096, "{longer}");
     Ok(())
 }
 
 #[test]
 fn eight_queens(rt: HostRuntime) -> Result<(), Fail> {
-    let shown = Outside::of(QUEENS.as_bytes()).run(rt.alloc(), &["grinc", "run", "a"])?;
-    assert!(rt; shown.is(0, "92\n", ""));
+    let lines: [&[&str]; 2] = [
+        &["grinc", "run", "a"],
+        &["grinc", "run", "a", "--heap", "300000"],
+    ];
+    for words in lines {
+        let shown = Outside::of(QUEENS.as_bytes()).run(rt.alloc(), words)?;
+        assert!(rt; shown.is(0, "92\n", ""));
+    }
     Ok(())
 }
 

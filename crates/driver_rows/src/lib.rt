@@ -20,10 +20,10 @@ mod input_rows;
 #[cfg(test)]
 mod large_rows;
 #[cfg(test)]
-mod line_rows;
-#[cfg(test)]
 mod list_rows;
 #[cfg(test)]
 mod outside;
+#[cfg(test)]
+mod quiet_rows;
 #[cfg(test)]
 mod run_rows;

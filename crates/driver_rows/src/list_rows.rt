@@ -166,7 +166,7 @@ main =
       fail
 ";
 
-// After fetches of words and copies: no line fetches a node.
+// After fetches of words: no line fetches a node.
 const TAKES_BY_WORDS: &str = "global main = (Fmain)
 
 take v0 =
@@ -234,6 +234,80 @@ main =
       case [v19 v20 v21] of
         (CInt) ->
           write v20
+          call @print v4
+        else ->
+          fail
+    else ->
+      fail
+";
+
+// The copy of a vector is gone.
+const TAKES_WITHOUT_COPIES: &str = "global main = (Fmain)
+
+take v0 =
+  v1 <- fetch v0 0
+  [v2 v3 v4] <- case [v1 0 0] of
+    (CNil) ->
+      v5 <- fetch v0 1
+      v6 <- fetch v0 2
+      unit [v1 v5 v6]
+    (CCons) ->
+      v7 <- fetch v0 1
+      v8 <- fetch v0 2
+      unit [v1 v7 v8]
+    (Ftake) ->
+      v9 <- fetch v0 1
+      [v10 v11 v12] <- call take v9
+      update v0 [v10 v11 v12]
+      unit [v10 v11 v12]
+  case [v2 v3 v4] of
+    (CNil) ->
+      unit (CNil)
+    (CCons) ->
+      store
+        v13 = (Ftake v4)
+      unit (CCons v3 v13)
+    else ->
+      fail
+
+main =
+  store
+    v0 = (CInt 65)
+    v1 = (CNil)
+    v2 = (CCons v0 v1)
+    v3 = (Ftake v2)
+  call take v3
+
+@print v0 =
+  v1 <- fetch v0 0
+  [v2 v3 v4] <- case [v1 0 0] of
+    (CNil) ->
+      v5 <- fetch v0 1
+      v6 <- fetch v0 2
+      unit [v1 v5 v6]
+    (CCons) ->
+      v7 <- fetch v0 1
+      v8 <- fetch v0 2
+      unit [v1 v7 v8]
+    (Ftake) ->
+      v9 <- fetch v0 1
+      [v10 v11 v12] <- call take v9
+      update v0 [v10 v11 v12]
+      unit [v10 v11 v12]
+    (Fmain) ->
+      [v13 v14 v15] <- call main
+      update v0 [v13 v14 v15]
+      unit [v13 v14 v15]
+  case [v2 v3 v4] of
+    (CNil) ->
+      unit (CNil)
+    (CCons) ->
+      v16 <- fetch v3 0
+      v17 <- fetch v3 1
+      v18 <- fetch v3 2
+      case [v16 v17 v18] of
+        (CInt) ->
+          write v17
           call @print v4
         else ->
           fail
@@ -317,10 +391,9 @@ main =
       v16 <- fetch v3 0
       v17 <- fetch v3 1
       v18 <- fetch v3 2
-      [v19 v20 v21] <- unit [v16 v17 v18]
-      case [v19 v20 v21] of
+      case [v16 v17 v18] of
         (CInt) ->
-          write v20
+          write v17
           call @print v4
         else ->
           fail
@@ -350,7 +423,7 @@ fn listings(rt: HostRuntime) -> Result<(), Fail> {
         (TAKES_TEXT, "apply", TAKES),
         (TAKES_TEXT, "vectorise", TAKES_IN_VECTORS),
         (TAKES_TEXT, "fetch", TAKES_BY_WORDS),
-        (TAKES_TEXT, "copy", TAKES_BY_WORDS),
+        (TAKES_TEXT, "copy", TAKES_WITHOUT_COPIES),
         (TAKES_TEXT, "update", TAKES_WITH_TAGS),
         // No procedure gives numbers alone, and each parameter's cell is updated.
         (TAKES_TEXT, "unbox", TAKES_WITH_TAGS),
@@ -361,6 +434,51 @@ fn listings(rt: HostRuntime) -> Result<(), Fail> {
         let shown = listed(rt.alloc(), text.as_str(), after)?;
         assert!(rt; shown.is(0, out, ""), "{text} {after}");
     }
+    Ok(())
+}
+
+/// What prints a list of one element after the cases were simplified: the case over a number, whose
+/// one alternative gives back what it is over, is a unit.
+const ONE_SIMPLER: &str = "global main = (Fmain)
+
+main =
+  store
+    v0 = (CInt 65)
+    v1 = (CNil)
+  unit (CCons v0 v1)
+
+@print v0 =
+  [v1 v2 v3] <- fetch v0
+  [v4 v5 v6] <- case [v1 v2 v3] of
+    (CNil) ->
+      unit [v1 v2 v3]
+    (CCons) ->
+      unit [v1 v2 v3]
+    (Fmain) ->
+      [v7 v8 v9] <- call main
+      update v0 [v7 v8 v9]
+      unit [v7 v8 v9]
+  case [v4 v5 v6] of
+    (CNil) ->
+      unit (CNil)
+    (CCons) ->
+      [v10 v11 v12] <- fetch v5
+      [v13 v14 v15] <- unit [v10 v11 v12]
+      case [v13 v14 v15] of
+        (CInt) ->
+          write v14
+          call @print v6
+        else ->
+          fail
+    else ->
+      fail
+";
+
+#[test]
+fn a_listing_with_simpler_cases(rt: HostRuntime) -> Result<(), Fail> {
+    let text = format!(in rt.alloc(); "{LISTS}main = Cons 65 Nil;")?;
+    let shown = listed(rt.alloc(), text.as_str(), "simplify")?;
+    assert!(rt; shown.is(0, ONE_SIMPLER, ""));
     Ok(())
 }
 
@@ -405,10 +523,11 @@ fn refused_listings(rt: HostRuntime) -> Result<(), Fail> {
 
 #[test]
 fn pieces_up_to_a_failure(rt: HostRuntime) -> Result<(), Fail> {
-    // A thousand lines of nine or more bytes each.
     let mut text = String::from_str(rt.alloc(), LISTS)?;
+    let mut lines = String::from_str(rt.alloc(), "data Nil 0;\ndata Cons 2;\n")?;
     for i in 0..1000 {
         write!(text, "f{i} = 1; ")?;
+        writeln!(lines, "f{i} = 1;")?;
     }
     let words = ["grinc", "list", "--after=read", "a"];
     let outside = Outside {
@@ -417,10 +536,9 @@ fn pieces_up_to_a_failure(rt: HostRuntime) -> Result<(), Fail> {
         failing: Some((Object::Out, 1)),
     };
     let shown = outside.run(rt.alloc(), &words)?;
-    assert!(rt; shown.took(10, 4096));
+    let piece = lines.as_bytes().get(..4096).ok_or("a short listing")?;
+    assert!(rt; shown.is_bytes(10, piece, "grinc: write fault\n"));
     let shown = listed(rt.alloc(), text.as_str(), "read")?;
-    // 25 bytes of declarations with their line feeds, and ten lines of 8, ninety of 9 and nine
-    // hundred of 10 bytes.
-    assert!(rt; shown.took(0, 9915));
+    assert!(rt; shown.is(0, lines.as_str(), ""));
     Ok(())
 }

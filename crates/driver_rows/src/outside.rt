@@ -62,9 +62,11 @@ impl Ended {
         self.status.code() == 0 && self.err.taken().is_empty()
     }
 
-    /// Whether this is the status of the process, and whether the output took so many bytes.
-    pub(crate) fn took(&self, code: u8, bytes: usize) -> bool {
-        self.status.code() == code && self.out.taken().len() == bytes
+    /// Whether this is the status of the process, whether the output took this byte and no other,
+    /// at least once, and whether the error output took this text.
+    pub(crate) fn is_repeated(&self, code: u8, byte: u8, err: &str) -> bool {
+        let out = self.out.taken();
+        self.is_bytes(code, out, err) && !out.is_empty() && out.iter().all(|other| *other == byte)
     }
 }
 

@@ -117,29 +117,34 @@ fn lines_and_a_comment(rt: HostRuntime) -> Result<(), Fail> {
 
 #[test]
 fn endless_programs(rt: HostRuntime) -> Result<(), Fail> {
+    let words = ["grinc", "run", "a", "--steps", "1000000"];
     for text in [
         "main = let c = Cons 46 c in c;",
         "main = Cons 46 main;",
         "main = let c = Cons 46 c in Cons 46 c;",
     ] {
         let text = format!(in rt.alloc(); "{LISTS}{text}")?;
-        let mut input = MemSource::new(Vec::new(rt.alloc()), Vec::new(rt.alloc()));
-        let mut out = MemSink::new(rt.alloc(), 1_000_000, Vec::new(rt.alloc()))?;
-        let status = run_text(
-            rt.alloc(),
-            text.as_bytes(),
-            1_000_000,
-            1_048_576,
-            1_000_000,
-            &mut input,
-            &mut out,
-        );
-        assert_eq!(rt; status.code(), 6, "{text}");
-        assert!(rt; !out.taken().is_empty());
-        for byte in out.taken() {
-            assert_eq!(rt; *byte, 46);
-        }
+        let shown = Outside::of(text.as_bytes()).run(rt.alloc(), &words)?;
+        assert!(rt; shown.is_repeated(6, b'.', "grinc: step limit\n"), "{text}");
     }
+    Ok(())
+}
+
+#[test]
+fn a_text_that_is_run_alone(rt: HostRuntime) -> Result<(), Fail> {
+    let text = format!(in rt.alloc(); "{LISTS}main xs = Cons 72 xs;")?;
+    let mut input = MemSource::new(Vec::from_slice(rt.alloc(), b"i")?, Vec::new(rt.alloc()));
+    let mut out = MemSink::new(rt.alloc(), 2, Vec::new(rt.alloc()))?;
+    let status = run_text(
+        rt.alloc(),
+        text.as_bytes(),
+        1000,
+        4096,
+        1_000_000,
+        &mut input,
+        &mut out,
+    );
+    assert_eq!(rt; (status.code(), out.taken()), (0, &b"Hi"[..]));
     Ok(())
 }
 

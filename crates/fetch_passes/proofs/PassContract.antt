@@ -92,6 +92,7 @@ module _ (g : Program) (v : OfVectors g) where
     outside = record { same_tags = refl; same_globals = refl; same_start = refl; same_argument = refl; same_names = names_stay g.tags g.procs base };
     narrow = split_narrow;
     by_words = split_by_words;
+    made = refl;
     used = λ h. procs_fetch g.tags g.procs base v.formed.variables_once v.vectorised h;
     placed = λ h. procs_placed g.tags base g.procs base (omega arith) (omega arith) v.formed.variables_once v.vectorised h;
     fetched = λ h. procs_fronts g.tags g.procs base h;

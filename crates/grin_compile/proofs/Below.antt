@@ -67,10 +67,11 @@ module _ (g : grin.Program) (l : low.Program) (a : Assignment) (cells stack : �
         few_words (length l.procs) (length l.globals) (low_all l) (calls_of l) lowerable.size (size_of items) (size_of items) lowerable.fits procs few_globals light calls
         (selects.few small.few_tests) (omega arith)
 
-pub has_layers : (g : grin.Program) (cells stack : ℕ) (m : Layers) (items : List Item) → Lowers g (low.program_of m.low) → LowersSmall g (low.program_of m.low)
+pub has_layers : (g : grin.Program) (cells stack : ℕ) (m : Layers) (items : List Item) → low_formed.Formed (low.program_of m.low) → Lowers g (low.program_of m.low) → LowersSmall g (low.program_of m.low)
     → Fits (low.program_of m.low) m.places → Selects (low.program_of m.low) m.places cells stack items → Placed items m.code.items
     → AllDecode m.code.items → size_of items ≤ 268435456 → UsesRegisters (low.program_of m.low) m.places → HasLayers g cells stack m
-has_layers g cells stack m items lowers small fits selects placed decode few uses = record {
+has_layers g cells stack m items formed lowers small fits selects placed decode few uses = record {
+  formed = formed;
   items = items;
   made = record { lowers = lowers; small = small; fits = fits; selects = selects; placed = placed };
   some_words = placed.some selects.some_item.0 selects.some_item.1;

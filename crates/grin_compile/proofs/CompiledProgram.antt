@@ -97,8 +97,10 @@ module _ (does : ValidTranslationDoesAs) (p : core.Program) (valid : IsValid p) 
     stages = subst (λ h. AreStages p passes h (later c)) (sym stages.applied) stages.later;
     g = g;
     last = stages.last;
-    lowers = layers.made.lowers;
-    fits = layers.made.fits;
+    formed_stages = stages.formed;
+    formed = layers.formed;
+    items = layers.items;
+    layers = layers.made;
     decode = layers.decode;
     uses = layers.uses;
     small_frames = λ f. omega (arith, few_frame_words _ _ g l c.places stages.last.slim layers.made.small layers.made.fits f);

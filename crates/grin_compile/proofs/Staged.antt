@@ -1,9 +1,10 @@
 -- The stages of a program, and the last of them, of which code can be made.
-use Rattle.std.proofs.Common.{◌≡◌, ℕ, ◌≤◌, length, refl, sym, ap, ◌∙◌, subst, arith}
+use Rattle.std.proofs.Common.{◌≡◌, ℕ, ◌≤◌, [], ◌∷◌, length, refl, sym, ap, ◌∙◌, subst, arith}
 use Rattle.arity_check.specs.Accepted.{IsValid}
 use Rattle.arity_check.specs.Program as core
 use Rattle.grin_syntax.specs.declared.program.Grin.{Grin}
 use Rattle.grin_syntax.specs.Tree.{Program, program_of}
+use Rattle.grin_syntax.specs.Formed.{AllOf, Formed}
 use Rattle.grin_syntax.specs.SameOutside.{SameOutside}
 use Rattle.grin_meaning.specs.Keeps.{Keeps}
 use Rattle.grin_meaning.specs.Slim.{Slim}
@@ -16,7 +17,7 @@ use Rattle.grin_measure.specs.declared.measure.Sizes.{Sizes}
 use Rattle.grin_measure.specs.Within.{HasSizes}
 use Rattle.grin_translate.specs.Translation.{tr}
 use Rattle.grin_opt.specs.declared.pass.PassName.{PassName}
-use Rattle.grin_opt.specs.declared.pass.PassName.TheVariants.{Translate, Eval, Apply, Vectorise}
+use Rattle.grin_opt.specs.declared.pass.PassName.TheVariants.{Translate, Eval, Apply, Vectorise, Simplify, Fetch, Copy, Update, Unbox, Raise}
 use Rattle.grin_opt.specs.Schedule.{IsTaken, shape_of}
 use Rattle.grin_stages.specs.Stage.{Analyses, IsStage, translated, evaluations_inlined, both_inlined, by_pass, Fits, OneExpandedSize, VectorisedIsSlim}
 use Rattle.grin_compile.specs.declared.later.Later.{Later}
@@ -99,10 +100,18 @@ module _ (taken : VectoriseTakesInlined) (slim : VectorisedIsSlim) (one : OneExp
       subst (λ n. Slim n s.largest (program_of l.vectorised)) (sym program_is)
       (subst (λ m. Slim (inlined_size A (tr p)) m (program_of l.vectorised)) (sym largest_is) slim_beside)
 
+  -- each stage after the inlining is well formed
+  later_formed : AllOf Formed (programs_of l)
+  later_formed = (formed Vectorise, (formed Simplify, (formed Fetch, (formed Copy, (formed Update, (formed Unbox, (formed Raise, tt)))))))
+    where
+      formed : (k : PassName) → Formed (later_after l k)
+      formed k = (can_be_lowered a (taken_by taken p valid a stage) l passed k).of_vectors.formed
+
   pub has_stages : (t e : Grin) (k : PassName) → IsStage p Translate (program_of t) → IsStage p Eval (program_of e) → (b : Grin) → program_of b ≡ a
+      → AllOf Formed (program_of t ∷ program_of e ∷ program_of b ∷ [])
       → IsLastOf (SlimBeside s) (programs_of l) (later_after l k)
       → HasStages p (record { translated = t; evaluated = e; applied = b; later = l; last = k })
-  has_stages t e k first second b is last =
+  has_stages t e k first second b is formed last =
       let can = can_be_lowered a (taken_by taken p valid a stage) l passed k in
       let last_slim : IsLastSlim p A (programs_of l) (later_after l k) =
       subst (λ n. IsLastOf (Beside n (largest_procedure (inlined A (tr p)))) (programs_of l) (later_after l k)) program_is
@@ -117,6 +126,7 @@ module _ (taken : VectoriseTakesInlined) (slim : VectorisedIsSlim) (one : OneExp
         fits = small;
         later = subst (λ g. AreStages p passes g (programs_of l)) by.is (are_stages p passes a (programs_of l) kept passed);
         last = last_slim;
+        formed = (formed.0, (formed.1.0, (formed.1.1.0, later_formed)));
         lowerable = record {
           formed = can.of_vectors.formed;
           ready = can.of_vectors.ready;

@@ -1,8 +1,9 @@
 -- What a compiled program holds.
-use Rattle.std.specs.Prelude.{◌≡◌, ◌*◌, ◌≤◌, ℕ, List, map, length}
+use Rattle.std.specs.Prelude.{◌≡◌, ◌*◌, ◌≤◌, ℕ, List, ◌∷◌, map, length}
 use Rattle.arity_check.specs.Program as core
 use Rattle.grin_syntax.specs.Tree as grin
 use Rattle.grin_syntax.specs.Tree.{program_of}
+use Rattle.grin_syntax.specs.Formed.{AllOf, Formed}
 use Rattle.flow_system.specs.Solution.{Solution}
 use Rattle.apply_inline.specs.Inlining.{inlined}
 use Rattle.grin_translate.specs.Translation.{tr}
@@ -10,14 +11,16 @@ use Rattle.grin_opt.specs.declared.pass.PassName.{PassName}
 use Rattle.grin_opt.specs.declared.pass.PassName.TheVariants.{Translate, Eval, Apply}
 use Rattle.grin_stages.specs.Stage.{Analyses, IsStage}
 use Rattle.low_code.specs.Tree as low
+use Rattle.low_code.specs.Formed as low_formed
 use Rattle.low_code.specs.Told.{of_low, entered_by_low}
-use Rattle.low_translate.specs.Lowers.{Lowers}
 use Rattle.register_alloc.specs.Assignment.{words_at}
-use Rattle.register_alloc.specs.Fits.{Fits, UsesRegisters}
+use Rattle.register_alloc.specs.Fits.{UsesRegisters}
+use Rattle.rv32_items.specs.declared.Item.{Item}
 use Rattle.rv32_layout.specs.Places.{AllDecode}
 use Rattle.grin_compile.specs.declared.compilation.Compiled.{Compiled}
 use Rattle.grin_compile.specs.Limits.{HeapOver, FramesOver, frame_bound, heap_bytes}
 use Rattle.grin_compile.specs.Code.{start_with, IsCodeFor}
+use Rattle.grin_compile.specs.Layers.{AreLayers}
 use Rattle.grin_compile.specs.Passed.{later_after}
 use Rattle.grin_compile.specs.Stages.{passes, AreStages, IsLastSlim}
 use Rattle.grin_compile.specs.Made.{IsImageOf}
@@ -33,8 +36,11 @@ after c k = later_after c.stages.later k
 abbrev pub later : Compiled → List grin.Program
 later c = map (after c) passes
 
--- the stages of p; the low code of the last one that is slim, with places that fit it; and an image
--- that is made of that stage, of words that decode, and keeps within the frames of these places
+-- the stages of p, each well formed; the low code of the last one that is slim, well formed too and
+-- small beside that stage; places that fit it; items that do what it does in the frames of these
+-- places, each jump going to a label that stands among them; the code, which is these items as they
+-- are placed, of words that decode; and an image that is made of that stage and keeps within these
+-- frames
 pub record IsCompilation (p : core.Program) (cells stack : ℕ) (c : Compiled) : Type 0 where
   pub translated : IsStage p Translate (after c Translate)
   pub evaluated : IsStage p Eval (after c Eval)
@@ -42,10 +48,13 @@ pub record IsCompilation (p : core.Program) (cells stack : ℕ) (c : Compiled) :
   pub least : Analyses p solution
   pub applied : after c Apply ≡ inlined solution (tr p)
   pub stages : AreStages p passes (after c Apply) (later c)
+  pub formed_stages :
+      AllOf Formed (after c Translate ∷ after c Eval ∷ after c Apply ∷ later c)
   pub g : grin.Program
   pub last : IsLastSlim p solution (later c) g
-  pub lowers : Lowers g (low.program_of c.low)
-  pub fits : Fits (low.program_of c.low) c.places
+  pub formed : low_formed.Formed (low.program_of c.low)
+  pub items : List Item
+  pub layers : AreLayers g (low.program_of c.low) c.places cells stack items c.code.items
   pub decode : AllDecode c.code.items
   pub uses : UsesRegisters (low.program_of c.low) c.places
   pub small_frames : (f : ℕ) → 4 * words_at c.places f ≤ frame_bound p solution

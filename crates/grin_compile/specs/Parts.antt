@@ -3,12 +3,14 @@ use Rattle.std.specs.Prelude.{◌≡◌, ◌≤◌, ◌<◌, ◌%◌, ℕ, List,
 use Rattle.arity_check.specs.Program as core
 use Rattle.grin_syntax.specs.Tree as grin
 use Rattle.grin_syntax.specs.Tree.{program_of}
+use Rattle.grin_syntax.specs.Formed.{AllOf, Formed}
 use Rattle.flow_system.specs.Solution.{Solution}
 use Rattle.apply_inline.specs.Inlining.{inlined, inlined_size}
 use Rattle.grin_translate.specs.Translation.{tr}
 use Rattle.grin_opt.specs.declared.pass.PassName.TheVariants.{Translate, Eval}
 use Rattle.grin_stages.specs.Stage.{Analyses, IsStage}
 use Rattle.low_code.specs.Tree as low
+use Rattle.low_code.specs.Formed as low_formed
 use Rattle.rv32_items.specs.declared.Item.{Item}
 use Rattle.rv32_layout.specs.Places.{AllDecode}
 use Rattle.register_alloc.specs.Fits.{UsesRegisters}
@@ -24,6 +26,11 @@ use Rattle.grin_compile.specs.Stages.{passes, AreStages, IsLastSlim}
 abbrev pub made_of : Stages → grin.Program
 made_of s = later_after s.later s.last
 
+-- the programs of all stages, in their order
+abbrev pub all_programs : Stages → List grin.Program
+all_programs s =
+    program_of s.translated ∷ program_of s.evaluated ∷ program_of s.applied ∷ programs_of s.later
+
 -- the stages of a program that is not too large, of which one can be lowered
 pub record HasStages (p : core.Program) (s : Stages) : Type 0 where
   pub translated : IsStage p Translate (program_of s.translated)
@@ -34,6 +41,7 @@ pub record HasStages (p : core.Program) (s : Stages) : Type 0 where
   pub fits : inlined_size solution (tr p) ≤ 131072
   pub later : AreStages p passes (inlined solution (tr p)) (programs_of s.later)
   pub last : IsLastSlim p solution (programs_of s.later) (made_of s)
+  pub formed : AllOf Formed (all_programs s)
   pub lowerable : IsLowerable (made_of s)
 
 -- the cells and the bytes of stack, in whole words
@@ -43,6 +51,7 @@ pub record AreSizes (cells stack : ℕ) : Type 0 where
 
 -- the layers below a program of GRIN, with as much code as can be placed
 pub record HasLayers (g : grin.Program) (cells stack : ℕ) (m : Layers) : Type 0 where
+  pub formed : low_formed.Formed (low.program_of m.low)
   pub items : List Item
   pub made : AreLayers g (low.program_of m.low) m.places cells stack items m.code.items
   pub some_words : 0 < length m.code.items

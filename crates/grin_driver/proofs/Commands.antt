@@ -35,7 +35,7 @@ module _ {F I K : Type 0} (f : ShelfChange F) (i : SourceChange I) (o : SinkChan
       of_answer (inl memory) = inl memory
       of_answer (inr answer) = inr (bytes, taken, answer)
 
-    pub command_gives : OneAccepted → (command : Option CommandLine) (status : Status) → Answers f i o command status → Gives f i command status
+    pub command_gives : OneAccepted → (command : Option CommandLine) (status : Status) → Answers f i o command status → Gives f command status
     command_gives one None status h = h.0
     command_gives one (Some (RunFile file cells stack steps)) status h =
         of_bytes most_of_text (IsUntouched i o) file (λ text status. Outcome i o text cells stack steps status) status _ (λ text. run_gives i o n.input n.out one text cells stack steps status) h

@@ -21,7 +21,7 @@ use Rattle.grin_opt.specs.declared.pass.PassName.TheVariants.{Translate}
 use Rattle.command_line.specs.declared.command.Listing.{Listing}
 use Rattle.command_line.specs.declared.command.Listing.TheVariants as listing
 use Rattle.grin_driver.specs.declared.status.Status.{Status}
-use Rattle.grin_driver.specs.declared.status.Status.TheVariants.{Done, Refused, Usage, NoAlternative, HeapFull, StackFull, StepLimit, Exited, Trapped, OutOfMemory, ReadFault, WriteFault}
+use Rattle.grin_driver.specs.declared.status.Status.TheVariants.{Done, Refused, NoAlternative, HeapFull, StackFull, StepLimit, OutOfMemory, ReadFault, WriteFault}
 use Rattle.grin_driver.specs.Text.{IsRefusedBy, Unread, Unaccepted, IsAccepted}
 use Rattle.grin_driver.specs.Listing.{IsLargeText, IsNotListed, Lists, Prints}
 use Rattle.grin_driver.specs.CodeListing.{ListsCode}
@@ -31,7 +31,7 @@ use Rattle.grin_driver.specs.Checking.{Checks}
 use Rattle.grin_driver.specs.Execution.{status_of, Execution}
 use Rattle.grin_driver.specs.Outcome.{IsNotRun, Outcome}
 use Rattle.grin_driver.specs.Generating.{Generates}
-use Rattle.grin_driver.specs.Completeness.{IsAcceptable, IsCompilable, OneAccepted, IsListable, IsStop, IsGenerationsEnd, HasRun}
+use Rattle.grin_driver.specs.Completeness.{IsAcceptable, IsCompilable, OneAccepted, IsListable, IsStop, IsEnd, IsGenerationsEnd}
 use Rattle.grin_driver.proofs.Outcomes.{rule_below}
 
 -- ---- accepted texts are not refused
@@ -149,21 +149,19 @@ module _ {I K : Type 0} (i : SourceChange I) (o : SinkChange K) (dry : Rose (i.f
   pub exec_gives : (bytes : List ℕ) (steps : ℕ) (status : Status) → Execution i o bytes steps status → (status ≡ OutOfMemory) ⊎ (KeepsBelow 49 bytes → IsStop status)
   exec_gives bytes steps (Refused k at) h = inr (λ keeps. absurd (keeps h.0.refusal (rule_below h.0.refusal) h.0.broken))
   exec_gives bytes steps OutOfMemory h = inl refl
-  exec_gives bytes steps ReadFault h = absurd (dry h.2.raised)
-  exec_gives bytes steps WriteFault h = absurd (well h.2.raised)
+  exec_gives bytes steps ReadFault h = absurd (dry h.2.1.1.raised)
+  exec_gives bytes steps WriteFault h = absurd (well h.2.1.1.raised)
   exec_gives bytes steps status h = inr (λ keeps. subst IsStop h.2.1 (stop_is h.2.0))
 
   pub run_gives : OneAccepted → (text : List ℕ) (cells stack steps : ℕ) (status : Status) → Outcome i o text cells stack steps status
-      → (status ≡ OutOfMemory) ⊎ (IsCompilable text → HasRun i status)
+      → (status ≡ OutOfMemory) ⊎ (IsCompilable text → IsEnd status)
   run_gives one text cells stack steps (Refused k at) h = inr (λ c. absurd (runnable one text c k at h.0))
   run_gives one text cells stack steps OutOfMemory h = inl refl
   run_gives one text cells stack steps ReadFault h = absurd (dry h.ran.raised)
   run_gives one text cells stack steps WriteFault h = absurd (well h.ran.raised)
-  run_gives one text cells stack steps Done h = inr (λ c. record { stopped = inl tt; ended = λ bytes is are. tt })
-  run_gives one text cells stack steps NoAlternative h = inr (λ c. record { stopped = inl tt; ended = λ bytes is are. tt })
-  run_gives one text cells stack steps HeapFull h = inr (λ c. record { stopped = inl tt; ended = λ bytes is are. tt })
-  run_gives one text cells stack steps StackFull h = inr (λ c. record { stopped = inl tt; ended = λ bytes is are. tt })
-  run_gives one text cells stack steps StepLimit h = inr (λ c. record { stopped = inl tt; ended = λ bytes is are. tt })
-  run_gives one text cells stack steps (Exited code) h = inr (λ c. record { stopped = inr tt; ended = λ bytes is are. h.says bytes is are })
-  run_gives one text cells stack steps (Trapped kind pc) h = inr (λ c. record { stopped = inr tt; ended = λ bytes is are. h.says bytes is are })
-  run_gives one text cells stack steps Usage h = absurd h.ran
+  run_gives one text cells stack steps Done h = inr (λ c. tt)
+  run_gives one text cells stack steps NoAlternative h = inr (λ c. tt)
+  run_gives one text cells stack steps HeapFull h = inr (λ c. tt)
+  run_gives one text cells stack steps StackFull h = inr (λ c. tt)
+  run_gives one text cells stack steps StepLimit h = inr (λ c. tt)
+  run_gives one text cells stack steps status h = absurd h.ran

@@ -1,16 +1,18 @@
 -- The runs of executables.
-use Rattle.std.proofs.Common.{◌≡◌, ℕ, ◌<◌, false, List, length, refl, subst, arith}
+use Rattle.std.proofs.Common.{◌≡◌, ℕ, zero, suc, ◌<◌, false, List, length, refl, sym, subst, arith}
 use Rattle.elf32.specs.Image.{Image}
-use Rattle.elf32.specs.Rules.{Breaks, KeepsBelow, rule}
+use Rattle.elf32.specs.Rules.{Breaks, KeepsBelow, Loads, rule}
 use Rattle.elf32.specs.declared.refusal.ElfRefusal.{ElfRefusal}
 use Rattle.elf32.specs.declared.refusal.ElfRefusal.TheVariants.{ImageTooLong, Memory}
-use Rattle.grin_io.specs.Changes.{Told, SourceChange, SinkChange, Broke, Raised}
+use Rattle.grin_io.specs.Changes.{SourceChange, SinkChange, Raised}
 use Rattle.grin_io.specs.declared.outside.Fault.{Fault}
 use Rattle.rv32_machine.specs.Steps.{Stand, IsAt, start_of, state_of}
-use Rattle.rv32_machine.specs.Runs.{pieces}
+use Rattle.rv32_machine.specs.Runs.{End, Going, Exited, Stopped, StandsAt, run, Answered, Interrupted}
+use Rattle.rv32_machine.specs.declared.machine.Stop.{Stop}
+use Rattle.rv32_machine.specs.declared.machine.Stop.TheVariants.{Steps, Exit, Trap}
 use Rattle.grin_driver.specs.declared.status.Status.{Status}
 use Rattle.grin_driver.specs.declared.status.Status.TheVariants.{Refused, OutOfMemory}
-use Rattle.grin_driver.specs.Execution.{IsUnloadable, shown_number, Fails, Execution}
+use Rattle.grin_driver.specs.Execution.{IsUnloadable, shown_number, status_of, stop_at, OfGiven, Stops, Fails, Executes, Execution}
 use Rattle.elf32.proofs.Chain.{below40}
 
 -- a refusal that is no want of memory is the smallest broken rule
@@ -30,13 +32,54 @@ unloadable_long front bytes short long k at u = go u.refusal u.broken u.smallest
 
 -- ---- the statuses
 
+-- the end that an answer of the machine names
+stop_is : (e : End) (stop : Stop) (m : Stand) → StandsAt e stop m → stop_at e ≡ stop
+stop_is (Going s) stop m h = sym h.0
+stop_is (Exited code s) stop m h = sym h.0
+stop_is (Stopped kind s) stop m h = sym h.0
+
 module _ {I K : Type 0} (i : SourceChange I) (o : SinkChange K) where
+  -- what the machine answers of a run from the start of a program
+  pub stopped : (program : Image) (m new : Stand) (steps : ℕ) (stop : Stop) → IsAt m (start_of program) false false
+      → Answered i o steps (state_of m) stop new → OfGiven i o (Stops i o program steps stop)
+  stopped program m new steps stop begins h =
+      let a : Answered i o steps (start_of program) stop new = subst (λ s. Answered i o steps s stop new) begins.0 h in (
+        a.given,
+        (
+          a.ended,
+          record {
+            gave = a.gave;
+            wanted = a.wanted;
+            stands = λ bytes b. let s = a.stays bytes b in (stop_is (run steps bytes (start_of program)).end stop new s.stands, s.used_is);
+            took = a.took;
+          },
+        ),
+      )
+
+  -- the status names the stop
+  pub executes : (program : Image) (steps : ℕ) (stop : Stop) → OfGiven i o (Stops i o program steps stop) → Executes i o program steps (status_of stop)
+  executes program steps Steps h = (Steps, refl, h)
+  executes program steps (Exit zero) h = (Exit zero, refl, h)
+  executes program steps (Exit (suc code)) h = (Exit (suc code), refl, h)
+  executes program steps (Trap kind pc) h = (Trap kind pc, refl, h)
+
+  -- what a program does that its bytes stand for
+  pub execution : (bytes : List ℕ) (program : Image) (steps : ℕ) → Loads bytes program → (status : Status) → Executes i o program steps status → Execution i o bytes steps status
+  execution bytes program steps loads (Refused k at) h = absurd (refuses_none h.0 h.1)
+    where
+      refuses_none : (stop : Stop) → status_of stop ≡ Refused k at → ⊥
+      refuses_none Steps e = cc
+      refuses_none (Exit zero) e = cc
+      refuses_none (Exit (suc code)) e = cc
+      refuses_none (Trap kind pc) e = cc
+  execution bytes program steps loads OutOfMemory h = h
+  execution bytes program steps loads status h = (program, loads, h)
+
   pub failed : (program : Image) (m : Stand) (steps : ℕ) (fault : Fault) → IsAt m (start_of program) false false
-      → Raised fault i o → Told (i.left i.old) (λ bytes. Broke fault o (pieces steps bytes (state_of m))) → Fails i o program steps fault
-  failed program m steps fault begins raised puts = record {
-    raised = raised;
-    puts = λ bytes e. subst (λ s. Broke fault o (pieces steps bytes s)) begins.0 (puts bytes e);
-  }
+      → Raised fault i o → Interrupted i o steps (state_of m) fault → OfGiven i o (Fails i o program steps fault)
+  failed program m steps fault begins raised h =
+      let a : Interrupted i o steps (start_of program) fault = subst (λ s. Interrupted i o steps s fault) begins.0 h in
+      (a.given, (a.ended, record { raised = raised; gave = a.gave; wanted = a.wanted; uses = a.uses; puts = a.puts }))
 
   pub execution_long : (front bytes : List ℕ) (steps : ℕ) → 1342177280 < length front → 1342177280 < length bytes → (status : Status)
       → Execution i o front steps status → Execution i o bytes steps status

@@ -3,32 +3,15 @@ use Rattle.std.proofs.Common.{◌≡◌, ℕ, ◌+◌, ◌-◌, ◌≤◌, List,
 use Rattle.std.specs.List.{concat}
 use Rattle.std.proofs.lemmas.List.{length-append, take-append-drop}
 use Rattle.std.proofs.lemmas.List.Folds.{concat-append}
-use Rattle.std.proofs.Math.Seq.{drop-append_seam}
 use Rattle.grin_io.specs.Changes.{SourceChange, SinkChange, TookAll, Broke}
 use Rattle.grin_io.specs.declared.outside.Fault.{Fault}
 use Rattle.grin_io.specs.declared.outside.Fault.TheVariants.{Read, Write}
 use Rattle.headline.specs.Carries.{Begins}
 use Rattle.rv32_machine.specs.Steps.{State}
 use Rattle.rv32_machine.specs.Runs.{run, pieces, used}
-use Rattle.rv32_machine.proofs.Composed.{run_none, input_is_used_in_order}
 use Rattle.rv32_machine.proofs.Loops.{pieces_are_the_output}
-use Rattle.grin_driver.specs.Outcome.{Took, Gave}
+use Rattle.grin_driver.specs.Outcome.{Took}
 use Rattle.low_code.proofs.Steady.{begins_on}
-
--- ---- what is left of an input
-
--- a run uses at most its input, and leaves the rest
-pub leaves : (n : ℕ) (input : List ℕ) (s : State) → (used input (run n input s) ≤ length input) × ((run n input s).left ≡ drop (used input (run n input s)) input)
-leaves n input s =
-    let u = input_is_used_in_order 0 n input s in
-    let none : 0 + n ≡ n = omega arith in
-    let same : run (0 + n) input s ≡ run n input s = ap (λ k. run k input s) none in
-    let parts : input ≡ u.0 ++ (run n input s).left = ap (λ r. r.left) (sym (run_none input s)) ∙ u.1 ∙ ap (λ r. u.0 ++ r.left) same in
-    let count : length input ≡ length u.0 + length (run n input s).left = ap length parts ∙ length-append u.0 (run n input s).left in
-    let used_is : length input - length (run n input s).left ≡ length u.0 = omega (arith, count) in
-    let dropped : drop (length input - length (run n input s).left) input ≡ (run n input s).left =
-    ap (λ k. drop k input) used_is ∙ ap (λ l. drop (length u.0) l) parts ∙ drop-append_seam u.0 (run n input s).left in
-    (omega arith, sym dropped)
 
 -- ---- fronts
 
@@ -56,11 +39,12 @@ module _ {I K : Type 0} (i : SourceChange I) (o : SinkChange K) (n : ℕ) (input
     holds,
   )
 
-  -- all that a run uses was given
-  pub gave_used : (Holds : ℕ → Type 0) → i.left i.new ≡ Some (run n input s).left → Holds (used input (run n input s)) → Gave i o input Holds
-  gave_used Holds left holds =
-      let l = leaves n input s in
-      (used input (run n input s), l.0, left ∙ ap Some l.1, holds)
+  -- as many bytes as a run uses were given
+  pub gave_used : (given : List ℕ) (Holds : ℕ → Type 0) → input ≡ given ++ (run n input s).left → Holds (used input (run n input s)) → Holds (length given)
+  gave_used given Holds parts holds =
+      let count : length input ≡ length given + length (run n input s).left = ap length parts ∙ length-append given (run n input s).left in
+      let used_is : length input - length (run n input s).left ≡ length given = omega (arith, count) in
+      subst Holds used_is holds
 
   -- what was put before a fault begins what the run puts
   pub took_front : (fault : Fault) (out : List ℕ) → Broke fault o (pieces n input s) → Begins (run n input s).out out → Took i o (λ taken. Begins taken out)

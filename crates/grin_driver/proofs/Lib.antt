@@ -1,6 +1,7 @@
 pub mod Files
 pub mod Texts
 pub mod Fronts
+pub mod Unread
 pub mod Outcomes
 pub mod Execution
 pub mod Checks

@@ -1,13 +1,15 @@
 -- What the end of a run says of the program.
-use Rattle.std.proofs.Common.{◌≡◌, ℕ, zero, suc, ◌+◌, ◌*◌, ◌<◌, ◌≤◌, Bool, true, false, List, length, Some, refl, sym, ap, ◌∙◌, subst, arith}
+use Rattle.std.proofs.Common.{◌≡◌, ℕ, zero, suc, ◌+◌, ◌*◌, ◌<◌, ◌≤◌, Bool, true, false, List, [], ◌∷◌, ◌++◌, length, Option, refl, sym, ap, ◌∙◌, subst, arith, length-append}
 use mathlib.Core.Logic.{inl, inr}
 use Rattle.arity_check.specs.Program.{Program}
+use Rattle.core_meaning.specs.Evaluation.{params}
 use Rattle.core_meaning.specs.Told.{of_core}
 use Rattle.elf32.specs.Image.{Image}
 use Rattle.elf32.specs.Rules.{Loads, rule}
 use Rattle.elf32.specs.declared.refusal.ElfRefusal.{ElfRefusal}
 use Rattle.elf32.specs.declared.refusal.ElfRefusal.TheVariants.{ImageTooLong, TooShort, NotElf, NotRiscv32Exec, HeaderOutside, SegmentOutside, SegmentsOverlap, EntryOutside, SegmentsTooLarge, Memory as OutOfMemory'}
-use Rattle.grin_io.specs.Changes.{SourceChange, SinkChange, TookAll}
+use Rattle.grin_io.specs.Changes.{SourceChange, SinkChange, Gave, no_read, next_byte, at_end, BeginsWith, GaveAll, TookAll}
+use Rattle.grin_io.specs.declared.outside.Fault.{Fault}
 use Rattle.grin_io.specs.declared.outside.Fault.TheVariants.{Read, Write}
 use Rattle.grin_opt.specs.declared.pass.PassName.{PassName}
 use Rattle.grin_opt.specs.declared.pass.PassName.TheVariants.{Translate, Eval}
@@ -17,7 +19,7 @@ use Rattle.grin_stages.specs.declared.refusal.CompileRefusal.TheVariants.{Expand
 use Rattle.headline.specs.Carries as carries
 use Rattle.headline.specs.Carries.{Told as Telling, going, done, no_alternative, missing, Seen, Finish, runs, exits, traps, IsBytes, Begins, Matches, Reaches, After, Finishes, Comes, Carries, KeepsPace}
 use Rattle.rv32_machine.specs.Steps.{start_of}
-use Rattle.rv32_machine.specs.Runs.{End, Going, Exited as exited, Stopped, run, pieces}
+use Rattle.rv32_machine.specs.Runs.{End, Going, Exited as exited, Stopped, run, pieces, used, AsksForMore}
 use Rattle.rv32_machine.specs.declared.machine.Stop.{Stop}
 use Rattle.rv32_machine.specs.declared.machine.Stop.TheVariants.{Steps, Exit, Trap}
 use Rattle.rv32_steps.specs.Seen.{seen, finish_of}
@@ -25,10 +27,12 @@ use Rattle.grin_compile.specs.Limits.{HeapOver, StackOver, frame_bound, steps_ea
 use Rattle.grin_driver.specs.declared.status.Status.{Status}
 use Rattle.grin_driver.specs.declared.status.Status.TheVariants.{Refused, OutOfMemory, ReadFault, WriteFault}
 use Rattle.grin_driver.specs.Listing.{IsUnlisted}
-use Rattle.grin_driver.specs.Execution.{Stops, Execution, IsUnloadable, stop_at, status_of}
-use Rattle.grin_driver.specs.Outcome.{IsNotRun, IsImageOf, IsUnmade, named, Says, Outcome}
+use Rattle.rv32_machine.proofs.Sources.{itself}
+use Rattle.grin_driver.specs.Execution.{OfGiven, Stops, Fails, Execution, IsUnloadable, stop_at, status_of}
+use Rattle.grin_driver.specs.Outcome.{IsNotRun, IsImageOf, IsUnmade, named, RunsTo, Breaks, Says, Runs, Outcome}
 use Rattle.grin_driver.proofs.Texts.{refused_long, accepted_short}
 use Rattle.grin_driver.proofs.Fronts.{took_output, gave_used, took_front}
+use Rattle.grin_driver.proofs.Unread.{takes_no_byte}
 
 -- ---- refusals
 
@@ -104,24 +108,24 @@ finish_at (Going s) = refl
 finish_at (exited code s) = refl
 finish_at (Stopped kind s) = refl
 
-module _ {I K : Type 0} (i : SourceChange I) (o : SinkChange K) (Heap Stack : Telling → Type 0) (told : ℕ → Telling) (image : Image) (steps : ℕ) (bytes : List ℕ)
+module _ {I K : Type 0} (i : SourceChange I) (o : SinkChange K) (Heap Stack : Telling → Type 0) (told : ℕ → Telling) (image : Image) (steps : ℕ) (bytes given : List ℕ)
     (c : (n : ℕ) × Comes Heap Stack told n (seen image bytes steps)) (each : ℕ) (reaches : (n : ℕ) → each * (n + 1) ≤ steps → Reaches (told n) (seen image bytes steps)) where
   pub says_stopped : (stop : Stop) → (seen image bytes steps).finish ≡ finish_by stop → Finishes Heap Stack told c.0 (seen image bytes steps) (finish_by stop)
-      → TookAll o (pieces steps bytes (start_of image)) → i.left i.new ≡ Some (run steps bytes (start_of image)).left
-      → Says i o Heap Stack told bytes each steps (named (status_of stop))
+      → TookAll o (pieces steps bytes (start_of image)) → bytes ≡ given ++ (run steps bytes (start_of image)).left
+      → Says i o Heap Stack told given each steps (named (status_of stop))
   says_stopped Steps is f took left = record {
     keeps_pace = λ n enough.
         let r = runs_on (told n) (seen image bytes steps) is (reaches n enough) in
         (r.0, took_output i o steps bytes (start_of image) (λ out. Begins (told n).out out) took r.1);
     units = c.0;
     took = took_output i o steps bytes (start_of image) (λ out. Begins out (told c.0).out) took c.1.output;
-    gave = gave_used i o steps bytes (start_of image) (λ count. count ≤ (told c.0).used) left c.1.used;
+    gave = gave_used i o steps bytes (start_of image) given (λ count. count ≤ (told c.0).used) left c.1.used;
   }
   says_stopped (Exit zero) is f took left = record {
     units = c.0;
     ended = f.2;
     took = took_output i o steps bytes (start_of image) (λ out. out ≡ (told c.0).out) took f.0;
-    gave = gave_used i o steps bytes (start_of image) (λ count. count ≡ (told c.0).used) left f.1;
+    gave = gave_used i o steps bytes (start_of image) given (λ count. count ≡ (told c.0).used) left f.1;
   }
   says_stopped (Exit (suc zero)) is f took left = absurd f
   says_stopped (Exit (suc (suc zero))) is f took left = absurd f
@@ -129,19 +133,19 @@ module _ {I K : Type 0} (i : SourceChange I) (o : SinkChange K) (Heap Stack : Te
     units = c.0;
     ended = f.2;
     took = took_output i o steps bytes (start_of image) (λ out. out ≡ (told c.0).out) took f.0;
-    gave = gave_used i o steps bytes (start_of image) (λ count. count ≡ (told c.0).used) left f.1;
+    gave = gave_used i o steps bytes (start_of image) given (λ count. count ≡ (told c.0).used) left f.1;
   }
   says_stopped (Exit (suc (suc (suc (suc zero))))) is f took left = record {
     units = c.0;
     needs = f.0;
     took = took_output i o steps bytes (start_of image) (λ out. After told c.0 out × Begins out (told c.0).out) took (f.1, c.1.output);
-    gave = gave_used i o steps bytes (start_of image) (λ count. count ≤ (told c.0).used) left c.1.used;
+    gave = gave_used i o steps bytes (start_of image) given (λ count. count ≤ (told c.0).used) left c.1.used;
   }
   says_stopped (Exit (suc (suc (suc (suc (suc zero)))))) is f took left = record {
     units = c.0;
     needs = f.0;
     took = took_output i o steps bytes (start_of image) (λ out. After told c.0 out × Begins out (told c.0).out) took (f.1, c.1.output);
-    gave = gave_used i o steps bytes (start_of image) (λ count. count ≤ (told c.0).used) left c.1.used;
+    gave = gave_used i o steps bytes (start_of image) given (λ count. count ≤ (told c.0).used) left c.1.used;
   }
   says_stopped (Exit (suc (suc (suc (suc (suc (suc k))))))) is f took left = absurd f
   says_stopped (Trap kind pc) is f took left = absurd f
@@ -154,68 +158,171 @@ module _ {I K : Type 0} (i : SourceChange I) (o : SinkChange K) (Heap Stack : Te
       subst (λ f. Finishes Heap Stack told c.0 (seen image bytes steps) f)
       (finish_is stop is) c.1.finish
 
--- ---- the statuses
+-- ---- what was given
+
+one_byte_more : (bs : List ℕ) (b : ℕ) → IsBytes bs → b < 256 → IsBytes (bs ++ (b ∷ []))
+one_byte_more [] b are small = (small, tt)
+one_byte_more (x ∷ bs) b are small = (are.0, one_byte_more bs b are.1 small)
+
+-- what reads gave are bytes
+pub are_bytes : {I : Type 0} (gives : I → ℕ → Option (List ℕ) → I → Type 0) (from to : I) (given : List ℕ) (ended : Bool) → Gave gives from given ended to → IsBytes given
+are_bytes gives from to given ended no_read = tt
+are_bytes gives from end all ended (next_byte {before} {given} {byte} {last} {to} g exactly small is) =
+    subst IsBytes (sym is) (one_byte_more before byte (are_bytes gives from last before false g) small)
+are_bytes gives from end all over (at_end {given} {ended} {last} {to} g exactly) = are_bytes gives from last given ended g
+
+length_zero : (bs : List ℕ) → length bs ≡ 0 → bs ≡ []
+length_zero [] e = refl
+length_zero (b ∷ bs) e = cc
+
+-- where no bytes were given and the end wasn't met, there was no read
+no_reads : {I : Type 0} (gives : I → ℕ → Option (List ℕ) → I → Type 0) (from to : I) (given : List ℕ) (ended : Bool) → Gave gives from given ended to → given ≡ [] → ended ≡ false → to ≡ from
+no_reads gives from to given ended no_read none goes_on = refl
+no_reads gives from end all ended (next_byte {before} {given} {byte} {last} {to} g exactly small is) none goes_on = absurd (some before (sym is ∙ none))
+  where
+    some : (bs : List ℕ) → bs ++ (byte ∷ []) ≡ [] → ⊥
+    some [] e = cc
+    some (x ∷ bs) e = cc
+no_reads gives from to given ended (at_end g exactly) none goes_on = cc
+
+not_ended : (ended : Bool) → (ended ≡ true → ⊥) → ended ≡ false
+not_ended true never = absurd (never refl)
+not_ended false never = refl
+
+-- a program whose `main` has no parameter, and its image
+module _ (text : List ℕ) (cells stack : ℕ) (file : List ℕ) (from : IsImageOf text cells stack file) (image : Image) (loads : Loads file image)
+    (none : params from.program from.program.main ≡ 0) (steps : ℕ) where
+  -- its run uses nothing of an input
+  uses_nothing : (bytes : List ℕ) → IsBytes bytes → used bytes (run steps bytes (start_of image)) ≡ 0
+  uses_nothing bytes are =
+      let c = (carried text cells stack file from image loads).comes bytes are steps in
+      let most = c.1.used in
+      let told = takes_no_byte from.program none bytes c.0 in
+      omega (arith, most, told)
+
+  -- so none is given
+  given_none : (given : List ℕ) → IsBytes given → length given ≤ used given (run steps given (start_of image)) → given ≡ []
+  given_none given are uses = let nothing = uses_nothing given are in length_zero given (omega (arith, uses, nothing))
+
+  -- nor asked for
+  asks_nothing : (given : List ℕ) → IsBytes given → AsksForMore steps (start_of image) given → ⊥
+  asks_nothing given are asks =
+      let one : List ℕ = given ++ (0 ∷ []) in
+      let nothing = uses_nothing one (one_byte_more given 0 are (omega arith)) in
+      let left : length (run steps one (start_of image)).left ≡ 0 = ap length (asks 0) in
+      let count : length one ≡ length given + 1 = length-append given (0 ∷ []) in
+      omega (arith, nothing, left, count)
 
 module _ {I K : Type 0} (i : SourceChange I) (o : SinkChange K) (text : List ℕ) (cells stack steps : ℕ) (file : List ℕ) (from : IsImageOf text cells stack file) where
-  -- the program says this status, where the source tells its bytes
-  abbrev Said : Status → Type 0
-  Said status =
-      (bytes : List ℕ) → i.left i.old ≡ Some bytes → IsBytes bytes
-      → Says i o (HeapOver cells) (StackOver (frame_bound from.program from.made.solution) (whole_words stack)) (of_core from.program bytes) bytes
+  -- the program says this status, on whatever input begins with these bytes
+  abbrev Said : (given : List ℕ) → (ended : Bool) → Status → Type 0
+  Said given ended status =
+      (bytes : List ℕ) → BeginsWith given ended bytes → IsBytes bytes
+      → Says i o (HeapOver cells) (StackOver (frame_bound from.program from.made.solution) (whole_words stack)) (of_core from.program bytes) given
       (steps_each from.program from.made.solution) steps status
 
-  said : (image : Image) → Loads file image → (stop : Stop) → Stops i o image steps stop → Said (named (status_of stop))
-  said image loads stop stops bytes is are =
-      let c = (carried text cells stack file from image loads).comes bytes are steps in
-      let s = stops.stands bytes is in
-      let each = steps_each from.program from.made.solution in
-      let reaches = λ (n : ℕ) (enough : each * (n + 1) ≤ steps). paced text cells stack file from image loads bytes are n steps enough in
-      let Heap = HeapOver cells in
-      let Stack = StackOver (frame_bound from.program from.made.solution) (whole_words stack) in
-      says_stopped i o Heap Stack (of_core from.program bytes) image steps bytes c each reaches stop
-      (finish_is i o Heap Stack (of_core from.program bytes) image steps bytes c each reaches stop s.0)
-      (finishes i o Heap Stack (of_core from.program bytes) image steps bytes c each reaches stop s.0) (stops.took bytes is) s.1
+  module _ (image : Image) (loads : Loads file image) (given : List ℕ) (ended : Bool) where
+    said : (stop : Stop) → Stops i o image steps stop given ended → Said given ended (named (status_of stop))
+    said stop stops bytes begins are =
+        let c = (carried text cells stack file from image loads).comes bytes are steps in
+        let s = stops.stands bytes begins in
+        let each = steps_each from.program from.made.solution in
+        let reaches = λ (n : ℕ) (enough : each * (n + 1) ≤ steps). paced text cells stack file from image loads bytes are n steps enough in
+        let Heap = HeapOver cells in
+        let Stack = StackOver (frame_bound from.program from.made.solution) (whole_words stack) in
+        says_stopped i o Heap Stack (of_core from.program bytes) image steps bytes given c each reaches stop
+        (finish_is i o Heap Stack (of_core from.program bytes) image steps bytes given c each reaches stop s.0)
+        (finishes i o Heap Stack (of_core from.program bytes) image steps bytes given c each reaches stop s.0) (stops.took bytes begins) s.1
 
-  -- the run stopped
-  runs_to : (image : Image) → Loads file image → (stop : Stop) → Stops i o image steps stop → Said (named (status_of stop)) → Outcome i o text cells stack steps (named (status_of stop))
-  runs_to image loads Steps ran says = record { file = file; from = from; image = image; loads = loads; ran = ran; says = says }
-  runs_to image loads (Exit zero) ran says = record { file = file; from = from; image = image; loads = loads; ran = ran; says = says }
-  runs_to image loads (Exit (suc zero)) ran says = record { file = file; from = from; image = image; loads = loads; ran = ran; says = says }
-  runs_to image loads (Exit (suc (suc zero))) ran says = record { file = file; from = from; image = image; loads = loads; ran = ran; says = says }
-  runs_to image loads (Exit (suc (suc (suc zero)))) ran says = record { file = file; from = from; image = image; loads = loads; ran = ran; says = says }
-  runs_to image loads (Exit (suc (suc (suc (suc zero))))) ran says = record { file = file; from = from; image = image; loads = loads; ran = ran; says = says }
-  runs_to image loads (Exit (suc (suc (suc (suc (suc zero)))))) ran says = record { file = file; from = from; image = image; loads = loads; ran = ran; says = says }
-  runs_to image loads (Exit (suc (suc (suc (suc (suc (suc k))))))) ran says = record { file = file; from = from; image = image; loads = loads; ran = ran; says = says }
-  runs_to image loads (Trap kind pc) ran says = record { file = file; from = from; image = image; loads = loads; ran = ran; says = says }
+    -- where `main` has no parameter nothing was read
+    untouched : (stop : Stop) → Stops i o image steps stop given ended → params from.program from.program.main ≡ 0 → i.new ≡ i.old
+    untouched stop stops none =
+        let gave = stops.gave.reads in
+        let are = are_bytes i.gives i.old i.new given ended gave in
+        let used_up = gave_used i o steps given (start_of image) given (λ count. count ≤ used given (run steps given (start_of image))) (stops.stands given (itself given ended)).1 (omega arith) in
+        no_reads i.gives i.old i.new given ended gave (given_none text cells stack file from image loads none steps given are used_up)
+        (not_ended ended (λ e. asks_nothing text cells stack file from image loads none steps given are (stops.wanted e)))
 
-  stopped : (status : Status) → (image : Image) × Loads file image × ((stop : Stop) × (status_of stop ≡ status) × Stops i o image steps stop)
+    runs_from : (status : Status) (stop : Stop) → Stops i o image steps stop given ended → RunsTo i o image steps status given ended → Said given ended status → Runs i o text cells stack steps status
+    runs_from status stop stops ran says = record {
+      file = file;
+      from = from;
+      image = image;
+      loads = loads;
+      given = given;
+      ended = ended;
+      are_bytes = are_bytes i.gives i.old i.new given ended stops.gave.reads;
+      unread = untouched stop stops;
+      ran = ran;
+      says = says;
+    }
+
+    -- no program says this of the bytes that were given
+    never : (status : Status) → GaveAll i given ended → Said given ended status → Says i o (HeapOver cells) (StackOver (frame_bound from.program from.made.solution) (whole_words stack)) (of_core from.program given) given
+        (steps_each from.program from.made.solution) steps status
+    never status gave says = says given (itself given ended) (are_bytes i.gives i.old i.new given ended gave.reads)
+
+    -- the run stopped
+    runs_to : (stop : Stop) → Stops i o image steps stop given ended → Said given ended (named (status_of stop)) → Outcome i o text cells stack steps (named (status_of stop))
+    runs_to Steps ran says = runs_from (named (status_of Steps)) Steps ran ran says
+    runs_to (Exit zero) ran says = runs_from (named (status_of (Exit 0))) (Exit 0) ran ran says
+    runs_to (Exit (suc zero)) ran says = absurd (never (named (status_of (Exit 1))) ran.gave says)
+    runs_to (Exit (suc (suc zero))) ran says = absurd (never (named (status_of (Exit 2))) ran.gave says)
+    runs_to (Exit (suc (suc (suc zero)))) ran says = runs_from (named (status_of (Exit 3))) (Exit 3) ran ran says
+    runs_to (Exit (suc (suc (suc (suc zero))))) ran says = runs_from (named (status_of (Exit 4))) (Exit 4) ran ran says
+    runs_to (Exit (suc (suc (suc (suc (suc zero)))))) ran says = runs_from (named (status_of (Exit 5))) (Exit 5) ran ran says
+    runs_to (Exit (suc (suc (suc (suc (suc (suc k))))))) ran says = absurd (never (named (status_of (Exit (suc (suc (suc (suc (suc (suc k))))))))) ran.gave says)
+    runs_to (Trap kind pc) ran says = absurd (never (named (status_of (Trap kind pc))) ran.gave says)
+
+  stopped : (status : Status) → (image : Image) × Loads file image × ((stop : Stop) × (status_of stop ≡ status) × OfGiven i o (Stops i o image steps stop))
       → Outcome i o text cells stack steps (named status)
-  stopped status h = subst (λ s. Outcome i o text cells stack steps (named s)) h.2.1 (runs_to h.0 h.1 h.2.0 h.2.2 (said h.0 h.1 h.2.0 h.2.2))
+  stopped status h =
+      let g = h.2.2 in
+      subst (λ s. Outcome i o text cells stack steps (named s)) h.2.1 (runs_to h.0 h.1 g.0 g.1.0 h.2.0 g.1.1 (said h.0 h.1 g.0 g.1.0 h.2.0 g.1.1))
+
+  -- a call failed
+  broken : (fault : Fault) (image : Image) → Loads file image → (given : List ℕ) (ended : Bool) → IsBytes given → (f : Fails i o image steps fault given ended)
+      → (bytes : List ℕ) → BeginsWith given ended bytes → IsBytes bytes
+      → Breaks i o (HeapOver cells) (StackOver (frame_bound from.program from.made.solution) (whole_words stack)) (of_core from.program bytes) given
+  broken fault image loads given ended are f bytes begins all =
+      let c = (carried text cells stack file from image loads).comes bytes all steps in
+      record { units = c.0; took = took_front i o steps bytes (start_of image) fault (of_core from.program bytes c.0).out (f.puts bytes begins) c.1.output; gave = let uses = f.uses bytes begins in let most = c.1.used in omega (arith, uses, most) }
 
   -- the status of the run of a text's file is that of the text, under its name
   pub outcome : (status : Status) → Execution i o file steps status → Outcome i o text cells stack steps (named status)
   outcome (Refused k at) h = absurd (loadable file _ k at from.made.image.loads h.0)
   outcome OutOfMemory h = h
-  outcome ReadFault h = record {
-    file = file;
-    from = from;
-    image = h.0;
-    loads = h.1;
-    ran = h.2;
-    says = λ bytes is are.
-        let c = (carried text cells stack file from h.0 h.1).comes bytes are steps in
-        record { units = c.0; took = took_front i o steps bytes (start_of h.0) Read (of_core from.program bytes c.0).out (h.2.puts bytes is) c.1.output };
-  }
-  outcome WriteFault h = record {
-    file = file;
-    from = from;
-    image = h.0;
-    loads = h.1;
-    ran = h.2;
-    says = λ bytes is are.
-        let c = (carried text cells stack file from h.0 h.1).comes bytes are steps in
-        record { units = c.0; took = took_front i o steps bytes (start_of h.0) Write (of_core from.program bytes c.0).out (h.2.puts bytes is) c.1.output };
-  }
+  outcome ReadFault h =
+      let g = h.2 in
+      let gave = g.1.1.gave in
+      let are = are_bytes i.gives i.old gave.last g.0 g.1.0 gave.gave.reads in record {
+        file = file;
+        from = from;
+        image = h.0;
+        loads = h.1;
+        given = g.0;
+        ended = g.1.0;
+        are_bytes = are;
+        unread = λ none. absurd (asks_nothing text cells stack file from h.0 h.1 none steps g.0 are (g.1.1.wanted (inr refl)));
+        ran = g.1.1;
+        says = λ bytes begins all. broken Read h.0 h.1 g.0 g.1.0 are g.1.1 bytes begins all;
+      }
+  outcome WriteFault h =
+      let g = h.2 in
+      let are = are_bytes i.gives i.old i.new g.0 g.1.0 g.1.1.gave.reads in record {
+        file = file;
+        from = from;
+        image = h.0;
+        loads = h.1;
+        given = g.0;
+        ended = g.1.0;
+        are_bytes = are;
+        unread = λ none.
+            no_reads i.gives i.old i.new g.0 g.1.0 g.1.1.gave.reads (given_none text cells stack file from h.0 h.1 none steps g.0 are (g.1.1.uses g.0 (itself g.0 g.1.0)))
+            (not_ended g.1.0 (λ e. asks_nothing text cells stack file from h.0 h.1 none steps g.0 are (g.1.1.wanted (inl e))));
+        ran = g.1.1;
+        says = λ bytes begins all. broken Write h.0 h.1 g.0 g.1.0 are g.1.1 bytes begins all;
+      }
   outcome status h = stopped status h
 
 -- ---- texts that are too long

@@ -10,8 +10,7 @@ use Rattle.command_line.specs.declared.command.Listing.{Listing}
 use Rattle.command_line.specs.declared.command.Listing.TheVariants.{Read, Translate}
 use Rattle.generator.specs.Generated.{generated}
 use Rattle.grin_io.specs.Causes.{Rose}
-use Rattle.grin_io.specs.Changes.{Told, ShelfChange, SourceChange, SinkChange}
-use Rattle.headline.specs.Carries.{IsBytes}
+use Rattle.grin_io.specs.Changes.{ShelfChange, SourceChange, SinkChange}
 use Rattle.grin_stages.specs.Stage.{Fits}
 use Rattle.grin_driver.specs.declared.status.Status.{Status}
 use Rattle.grin_driver.specs.declared.status.Status.TheVariants.{Done, Refused, Usage, NoAlternative, HeapFull, StackFull, StepLimit, Exited, Trapped, OutOfMemory}
@@ -71,11 +70,6 @@ IsGenerationsEnd status = IsEnd status
 
 -- ---- commands
 
--- A run ends as an executable does; where the source tells its bytes, it has one of the five ends.
-pub record HasRun {I : Type 0} (i : SourceChange I) (status : Status) : Type 0 where
-  pub stopped : IsEnd status ⊎ IsStop status
-  pub ended : Told (i.left i.old) (λ bytes. IsBytes bytes → IsEnd status)
-
 -- want of memory, or the file has bytes of which this holds
 abbrev pub Or :
     {F : Type 0} → ShelfChange F → (most : ℕ) → (file : List ℕ) → Status
@@ -91,11 +85,11 @@ module _ {F I K : Type 0} (f : ShelfChange F) (i : SourceChange I) (o : SinkChan
 
 -- What a command gives where nothing failed: want of memory, or else for what breaks no rule its
 -- answer.
-module _ {F I : Type 0} (f : ShelfChange F) (i : SourceChange I) where
+module _ {F : Type 0} (f : ShelfChange F) where
   abbrev pub Gives : Option CommandLine → Status → Type 0
   Gives None status = status ≡ Usage
   Gives (Some (RunFile file cells stack steps)) status =
-      Or f most_of_text file status (λ text. IsCompilable text → HasRun i status)
+      Or f most_of_text file status (λ text. IsCompilable text → IsEnd status)
   Gives (Some (CheckFile file)) status =
       Or f most_of_text file status (λ text. IsAcceptable text → status ≡ Done)
   Gives (Some (ListFile file after)) status =

@@ -1,15 +1,15 @@
 -- What each status says of an executable that is run.
-use Rattle.std.specs.Prelude.{◌≡◌, ℕ, zero, suc, List, Some}
+use Rattle.std.specs.Prelude.{◌≡◌, ◌≤◌, ◌⊎◌, ℕ, zero, suc, Bool, true, List, ◌++◌, length}
 use Rattle.elf32.specs.Image.{Image}
 use Rattle.elf32.specs.Rules as elf
 use Rattle.elf32.specs.Rules.{Breaks, KeepsBelow, Loads}
 use Rattle.elf32.specs.declared.refusal.ElfRefusal.{ElfRefusal}
 use Rattle.elf32.specs.declared.refusal.ElfRefusal.TheVariants.{SegmentOutside, SegmentsOverlap}
-use Rattle.grin_io.specs.Changes.{Told, SourceChange, SinkChange, TookAll, Broke, Raised}
+use Rattle.grin_io.specs.Changes.{SourceChange, SinkChange, BeginsWith, GaveAll, GaveTo, TookAll, Broke, Raised}
 use Rattle.grin_io.specs.declared.outside.Fault.{Fault}
 use Rattle.grin_io.specs.declared.outside.Fault.TheVariants.{Read, Write}
 use Rattle.rv32_machine.specs.Steps.{start_of}
-use Rattle.rv32_machine.specs.Runs.{End, Going, Exited as exited, Stopped, run, pieces}
+use Rattle.rv32_machine.specs.Runs.{End, Going, Exited as exited, Stopped, run, pieces, used, AsksForMore}
 use Rattle.rv32_machine.specs.declared.machine.Stop.{Stop}
 use Rattle.rv32_machine.specs.declared.machine.Stop.TheVariants.{Steps, Exit, Trap}
 use Rattle.grin_driver.specs.declared.status.Status.{Status}
@@ -50,29 +50,47 @@ stop_at (Stopped kind s) = Trap kind s.pc
 
 -- A program runs from a source to a sink.
 module _ {I K : Type 0} (i : SourceChange I) (o : SinkChange K) where
-  -- the run stopped so: the sink took just the pieces that the run puts, and what the run left of
-  -- the input is left
-  pub record Stops (program : Image) (steps : ℕ) (stop : Stop) : Type 0 where
-    pub stands : Told (i.left i.old) (λ bytes. let r = run steps bytes (start_of program) in
-        (stop_at r.end ≡ stop) × (i.left i.new ≡ Some r.left))
-    pub took : Told (i.left i.old) (λ bytes. TookAll o (pieces steps bytes (start_of program)))
+  -- The source gave some bytes, one by one as they were asked for, and its end was met or not; and
+  -- this holds of them.
+  abbrev pub OfGiven : (List ℕ → Bool → Type 0) → Type 0
+  OfGiven Holds = (given : List ℕ) × ((ended : Bool) × Holds given ended)
 
-  -- a call of the source or the sink failed, which was the last one; the pieces that were put were
-  -- due
-  pub record Fails (program : Image) (steps : ℕ) (fault : Fault) : Type 0 where
+  -- The source gave just these bytes, and the sink took just the pieces that the run puts: on
+  -- whatever input begins with these bytes, the run stopped so, and used just these. The end was met
+  -- only where the run asks for more.
+  pub record Stops (program : Image) (steps : ℕ) (stop : Stop) (given : List ℕ) (ended : Bool)
+      : Type 0 where
+    pub gave : GaveAll i given ended
+    pub wanted : ended ≡ true → AsksForMore steps (start_of program) given
+    pub stands : (bytes : List ℕ) → BeginsWith given ended bytes
+        → let r = run steps bytes (start_of program) in
+        (stop_at r.end ≡ stop) × (bytes ≡ given ++ r.left)
+    pub took : (bytes : List ℕ) → BeginsWith given ended bytes
+        → TookAll o (pieces steps bytes (start_of program))
+
+  -- A call of the source or the sink failed, which was the last one. Before it the source gave just
+  -- these bytes. On whatever input begins with them the run uses these, and the pieces that were put
+  -- were due. The end was met, or a read failed, only where the run asks for more.
+  pub record Fails (program : Image) (steps : ℕ) (fault : Fault) (given : List ℕ) (ended : Bool)
+      : Type 0 where
     pub raised : Raised fault i o
-    pub puts : Told (i.left i.old) (λ bytes. Broke fault o (pieces steps bytes (start_of program)))
+    pub gave : GaveTo fault i given ended
+    pub wanted : (ended ≡ true) ⊎ (fault ≡ Read) → AsksForMore steps (start_of program) given
+    pub uses : (bytes : List ℕ) → BeginsWith given ended bytes
+        → length given ≤ used bytes (run steps bytes (start_of program))
+    pub puts : (bytes : List ℕ) → BeginsWith given ended bytes
+        → Broke fault o (pieces steps bytes (start_of program))
 
   abbrev pub IsUntouched : Type 0
   IsUntouched = (i.new ≡ i.old) × (o.new ≡ o.old)
 
   -- The status of a program: a fault, or the machine's answer.
   abbrev pub Executes : (program : Image) → (steps : ℕ) → Status → Type 0
-  Executes program steps ReadFault = Fails program steps Read
-  Executes program steps WriteFault = Fails program steps Write
+  Executes program steps ReadFault = OfGiven (Fails program steps Read)
+  Executes program steps WriteFault = OfGiven (Fails program steps Write)
   Executes program steps OutOfMemory = IsUntouched
   Executes program steps status =
-      (stop : Stop) × (status_of stop ≡ status) × Stops program steps stop
+      (stop : Stop) × (status_of stop ≡ status) × OfGiven (Stops program steps stop)
 
   -- The status of the bytes of a file: the rule that they break, or that of their program.
   abbrev pub Execution : (bytes : List ℕ) → (steps : ℕ) → Status → Type 0

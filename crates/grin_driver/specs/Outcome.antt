@@ -1,19 +1,20 @@
 -- What each status says of a text that is run.
-use Rattle.std.specs.Prelude.{◌≡◌, ◌≤◌, ◌⊎◌, ℕ, zero, suc, ◌+◌, ◌*◌, List, ◌++◌, length, drop, Some}
+use Rattle.std.specs.Prelude.{◌≡◌, ◌≤◌, ◌⊎◌, ℕ, zero, suc, ◌+◌, ◌*◌, Bool, List, ◌++◌, length, Some}
 use Rattle.core_reader.specs.Tree as tree
 use Rattle.arity_check.specs.Program.{Program}
+use Rattle.core_meaning.specs.Evaluation.{params}
 use Rattle.core_meaning.specs.Told.{of_core}
 use Rattle.elf32.specs.Image.{Image}
 use Rattle.elf32.specs.Rules.{Loads}
-use Rattle.grin_io.specs.Changes.{Told, SourceChange, SinkChange}
+use Rattle.grin_io.specs.Changes.{Told, SourceChange, SinkChange, BeginsWith}
 use Rattle.grin_io.specs.declared.outside.Fault.TheVariants.{Read, Write}
 use Rattle.headline.specs.Carries.{End, going, done, no_alternative, Told as Telling, IsBytes, Begins, After}
-use Rattle.rv32_machine.specs.declared.machine.Stop.TheVariants.{Steps, Exit, Trap}
+use Rattle.rv32_machine.specs.declared.machine.Stop.TheVariants.{Steps, Exit}
 use Rattle.grin_stages.specs.Stage.{Fits}
 use Rattle.grin_compile.specs.Limits.{HeapOver, StackOver, frame_bound, steps_each, whole_words}
 use Rattle.grin_compile.specs.Made.{Made}
 use Rattle.grin_driver.specs.declared.status.Status.{Status}
-use Rattle.grin_driver.specs.declared.status.Status.TheVariants.{Done, Refused, NoAlternative, HeapFull, StackFull, StepLimit, Exited, Trapped, OutOfMemory, ReadFault, WriteFault}
+use Rattle.grin_driver.specs.declared.status.Status.TheVariants.{Done, Refused, NoAlternative, HeapFull, StackFull, StepLimit, Exited, OutOfMemory, ReadFault, WriteFault}
 use Rattle.grin_driver.specs.Text.{IsRefusedBy, IsAccepted}
 use Rattle.grin_driver.specs.Listing.{IsLargeText}
 use Rattle.grin_driver.specs.Execution.{Stops, Fails, IsUntouched}
@@ -50,39 +51,32 @@ named status = status
 -- ---- its run from a source to a sink
 
 module _ {I K : Type 0} (i : SourceChange I) (o : SinkChange K) where
-  -- the status names the end of the run
-  abbrev pub RunsTo : Image → (steps : ℕ) → Status → Type 0
-  RunsTo image steps Done = Stops i o image steps (Exit 0)
-  RunsTo image steps NoAlternative = Stops i o image steps (Exit 3)
-  RunsTo image steps HeapFull = Stops i o image steps (Exit 4)
-  RunsTo image steps StackFull = Stops i o image steps (Exit 5)
-  RunsTo image steps StepLimit = Stops i o image steps Steps
-  RunsTo image steps (Exited code) = Stops i o image steps (Exit code)
-  RunsTo image steps (Trapped kind pc) = Stops i o image steps (Trap kind pc)
-  RunsTo image steps ReadFault = Fails i o image steps Read
-  RunsTo image steps WriteFault = Fails i o image steps Write
-  RunsTo image steps _ = ⊥
+  -- the status names the end of the run, in which the source gave these bytes
+  abbrev pub RunsTo : Image → (steps : ℕ) → Status → (given : List ℕ) → (ended : Bool) → Type 0
+  RunsTo image steps Done given ended = Stops i o image steps (Exit 0) given ended
+  RunsTo image steps NoAlternative given ended = Stops i o image steps (Exit 3) given ended
+  RunsTo image steps HeapFull given ended = Stops i o image steps (Exit 4) given ended
+  RunsTo image steps StackFull given ended = Stops i o image steps (Exit 5) given ended
+  RunsTo image steps StepLimit given ended = Stops i o image steps Steps given ended
+  RunsTo image steps ReadFault given ended = Fails i o image steps Read given ended
+  RunsTo image steps WriteFault given ended = Fails i o image steps Write given ended
+  RunsTo image steps _ given ended = ⊥
 
   -- the sink took bytes of which this holds, where it tells what it takes
   abbrev pub Took : (List ℕ → Type 0) → Type 0
   Took Holds = Told (o.taken o.old) (λ before.
       (out : List ℕ) × (o.taken o.new ≡ Some (before ++ out)) × Holds out)
 
-  -- the source gave so many of these bytes, and this holds of their number
-  abbrev pub Gave : List ℕ → (ℕ → Type 0) → Type 0
-  Gave bytes Holds =
-      (count : ℕ) × (count ≤ length bytes) × (i.left i.new ≡ Some (drop count bytes)) × Holds count
-
-  -- What a program tells on the bytes of an input, within each number of units; and when that needs
-  -- more than was given.
-  module _ (OutOfHeap OutOfStack : Telling → Type 0) (told : ℕ → Telling) (bytes : List ℕ) where
-    -- within some units the program has this end: just its output was taken, and just the bytes
-    -- that it used were given
+  -- What a program tells within each number of units on an input that begins with the bytes that
+  -- the source gave; and when that needs more heap or stack than there is.
+  module _ (OutOfHeap OutOfStack : Telling → Type 0) (told : ℕ → Telling) (given : List ℕ) where
+    -- within some units the program has this end: just its output was taken, and just as many bytes
+    -- as it used were given
     pub record Ends (end : End) : Type 0 where
       pub units : ℕ
       pub ended : (told units).end ≡ end
       pub took : Took (λ out. out ≡ (told units).out)
-      pub gave : Gave bytes (λ count. count ≡ (told units).used)
+      pub gave : length given ≡ (told units).used
 
     -- within some units the program needs more than it was given: what was taken lies between its
     -- output within one unit less and within these, and no more was given than it used
@@ -90,7 +84,7 @@ module _ {I K : Type 0} (i : SourceChange I) (o : SinkChange K) where
       pub units : ℕ
       pub needs : Needs (told units)
       pub took : Took (λ out. After told units out × Begins out (told units).out)
-      pub gave : Gave bytes (λ count. count ≤ (told units).used)
+      pub gave : length given ≤ (told units).used
 
     -- What was taken begins the program's output within some units, and no more was given than it
     -- used. For whatever number of units the steps are enough, at so many steps for the start and
@@ -99,14 +93,16 @@ module _ {I K : Type 0} (i : SourceChange I) (o : SinkChange K) where
     pub record Pauses (each steps : ℕ) : Type 0 where
       pub units : ℕ
       pub took : Took (λ out. Begins out (told units).out)
-      pub gave : Gave bytes (λ count. count ≤ (told units).used)
+      pub gave : length given ≤ (told units).used
       pub keeps_pace : (n : ℕ) → each * (n + 1) ≤ steps
           → ((told n).end ≡ going) × Took (λ out. Begins (told n).out out)
 
-    -- what was taken begins the program's output within some units
+    -- what was taken begins the program's output within some units, and no more was given than it
+    -- used
     pub record Breaks : Type 0 where
       pub units : ℕ
       pub took : Took (λ out. Begins out (told units).out)
+      pub gave : length given ≤ (told units).used
 
     -- what the program says of the end of a run; there is no other end
     abbrev pub Says : (each steps : ℕ) → Status → Type 0
@@ -121,19 +117,24 @@ module _ {I K : Type 0} (i : SourceChange I) (o : SinkChange K) where
 
   -- ---- the statuses of a text
 
-  -- There is an image of the text that loads. The status is the end of its run, and where the
-  -- source tells its bytes, it is what the program says on them.
+  -- There is an image of the text that loads. The source gave some bytes, one by one as they were
+  -- asked for, and its end was met or not. The status is the end of the image's run, and it is what
+  -- the program says: on these bytes, and on whatever input begins with them, if its end wasn't met.
   pub record Runs (text : List ℕ) (cells stack steps : ℕ) (status : Status) : Type 0 where
     pub file : List ℕ
     pub from : IsImageOf text cells stack file
     pub image : Image
     pub loads : Loads file image
-    pub ran : RunsTo image steps status
-    pub says :
-        Told (i.left i.old) (λ bytes. IsBytes bytes
+    pub given : List ℕ
+    pub ended : Bool
+    pub are_bytes : IsBytes given
+    -- where `main` has no parameter, nothing was asked of the source
+    pub unread : params from.program from.program.main ≡ 0 → i.new ≡ i.old
+    pub ran : RunsTo image steps status given ended
+    pub says : (bytes : List ℕ) → BeginsWith given ended bytes → IsBytes bytes
         → Says (HeapOver cells) (StackOver (frame_bound from.program from.made.solution)
-        (whole_words stack)) (of_core from.program bytes) bytes
-        (steps_each from.program from.made.solution) steps status)
+        (whole_words stack)) (of_core from.program bytes) given
+        (steps_each from.program from.made.solution) steps status
 
   -- The status of a text, with so many cells, bytes of stack and steps. At a refusal and for want
   -- of memory nothing was touched.

@@ -50,7 +50,7 @@ fn run_file<F: Shelf, I: Source, K: Sink>(
     ensures answer { OfOperand (of_shelf F.content F.faults shelf.old shelf.new) most_of_text
         ((input.new ≡ input.old)
         × (out.new ≡ out.old)) file.now (λ text status.
-        Outcome (of_source I.left I.faults input.old input.new)
+        Outcome (of_source I.read_gives I.left I.is_over I.faults input.old input.new)
         (of_sink K.put_gives K.taken K.faults out.old out.new) text options.cells options.stack
         steps status) result }
     ensures later { (F.faults shelf.old ≤ F.faults shelf.new)
@@ -138,7 +138,7 @@ fn exec_file<F: Shelf, I: Source, K: Sink>(
     ensures answer { OfOperand (of_shelf F.content F.faults shelf.old shelf.new) most_of_image
         ((input.new ≡ input.old)
         × (out.new ≡ out.old)) file.now (λ bytes status.
-        Execution (of_source I.left I.faults input.old input.new)
+        Execution (of_source I.read_gives I.left I.is_over I.faults input.old input.new)
         (of_sink K.put_gives K.taken K.faults out.old out.new) bytes steps status) result }
     ensures later { (F.faults shelf.old ≤ F.faults shelf.new)
         × ((I.faults input.old ≤ I.faults input.new) × (K.faults out.old ≤ K.faults out.new)) }
@@ -160,7 +160,7 @@ fn run_command<F: Shelf, I: Source, K: Sink>(
     requires permitted { OfNamed F.permitted (asked_by command.now) }
     requires within { IsWithin (asked_by command.now) }
     ensures answer { Answers (of_shelf F.content F.faults shelf.old shelf.new)
-        (of_source I.left I.faults input.old input.new)
+        (of_source I.read_gives I.left I.is_over I.faults input.old input.new)
         (of_sink K.put_gives K.taken K.faults out.old out.new) (Some (asked_by command.now))
         result }
     ensures later { (F.faults shelf.old ≤ F.faults shelf.new)
@@ -203,7 +203,7 @@ fn run_line<F: Shelf, I: Source, K: Sink>(
 ) -> Status
     requires { IfSome (command_of line.now) (OfNamed F.permitted) }
     ensures answer { Answers (of_shelf F.content F.faults shelf.old shelf.new)
-        (of_source I.left I.faults input.old input.new)
+        (of_source I.read_gives I.left I.is_over I.faults input.old input.new)
         (of_sink K.put_gives K.taken K.faults out.old out.new) (command_of line.now) result }
     ensures later { (F.faults shelf.old ≤ F.faults shelf.new)
         × ((I.faults input.old ≤ I.faults input.new) × (K.faults out.old ≤ K.faults out.new)) }
@@ -230,14 +230,13 @@ pub fn grinc_main<F: Shelf, I: Source, K: Sink, E: Sink>(
 ) -> Status
     requires permitted { IfSome (command_of line.now) (OfNamed F.permitted) }
     ensures answer { Answers (of_shelf F.content F.faults shelf.old shelf.new)
-        (of_source I.left I.faults input.old input.new)
+        (of_source I.read_gives I.left I.is_over I.faults input.old input.new)
         (of_sink K.put_gives K.taken K.faults out.old out.new) (command_of line.now) result }
     ensures told { IsTold (of_sink E.put_gives E.taken E.faults err.old err.new) result }
     ensures complete { NothingFailed (of_shelf F.content F.faults shelf.old shelf.new)
-        (of_source I.left I.faults input.old input.new)
+        (of_source I.read_gives I.left I.is_over I.faults input.old input.new)
         (of_sink K.put_gives K.taken K.faults out.old out.new)
-        → Gives (of_shelf F.content F.faults shelf.old shelf.new)
-        (of_source I.left I.faults input.old input.new) (command_of line.now) result }
+        → Gives (of_shelf F.content F.faults shelf.old shelf.new) (command_of line.now) result }
     ensures memory { result ≡ OutOfMemory → out.new ≡ out.old }
     ensures later { (F.faults shelf.old ≤ F.faults shelf.new)
         × ((I.faults input.old ≤ I.faults input.new) × (K.faults out.old ≤ K.faults out.new)) }

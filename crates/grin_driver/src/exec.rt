@@ -49,7 +49,7 @@ fn execute<I: Source, K: Sink>(
     input: &mut I,
     out: &mut K,
 ) -> Status
-    ensures executes { Executes (of_source I.left I.faults input.old input.new)
+    ensures executes { Executes (of_source I.read_gives I.left I.is_over I.faults input.old input.new)
         (of_sink K.put_gives K.taken K.faults out.old out.new) program.now steps result }
     ensures input_later { I.faults input.old ≤ I.faults input.new }
     ensures out_later { K.faults out.old ≤ K.faults out.new }
@@ -72,7 +72,7 @@ pub(crate) fn exec_image<I: Source, K: Sink>(
     input: &mut I,
     out: &mut K,
 ) -> Status
-    ensures executes { Execution (of_source I.left I.faults input.old input.new)
+    ensures executes { Execution (of_source I.read_gives I.left I.is_over I.faults input.old input.new)
         (of_sink K.put_gives K.taken K.faults out.old out.new) bytes.now steps result }
     ensures input_later { I.faults input.old ≤ I.faults input.new }
     ensures out_later { K.faults out.old ≤ K.faults out.new }

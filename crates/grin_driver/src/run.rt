@@ -25,8 +25,9 @@ pub(crate) fn named(status: Status) -> Status
 }
 
 /// Compiles a text to an image with so many cells and bytes of stack, and runs it on the input for
-/// at most so many instructions. The stack is rounded down to a multiple of four. `Exited` and
-/// `Trapped` can't come of an input that tells its bytes.
+/// at most so many instructions. The stack is rounded down to a multiple of four. Whatever the input
+/// gives, the status says what the program does on the bytes that its reads gave; `Exited` and
+/// `Trapped` are no status of it.
 pub fn run_text<I: Source, K: Sink>(
     alloc: Global,
     text: &[u8],
@@ -37,7 +38,7 @@ pub fn run_text<I: Source, K: Sink>(
     out: &mut K,
 ) -> Status
     requires { InRange cells stack }
-    ensures outcome { Outcome (of_source I.left I.faults input.old input.new)
+    ensures outcome { Outcome (of_source I.read_gives I.left I.is_over I.faults input.old input.new)
         (of_sink K.put_gives K.taken K.faults out.old out.new) text.now cells stack steps result }
     ensures input_later { I.faults input.old ≤ I.faults input.new }
     ensures out_later { K.faults out.old ≤ K.faults out.new }

@@ -1,5 +1,5 @@
 -- What became of a sink, a source or a shelf over some calls.
-use Rattle.std.specs.Prelude.{◌≡◌, ℕ, ◌≤◌, Bool, true, false, List, ◌∷◌, ◌++◌, take, Option, Some, Result, IfErr}
+use Rattle.std.specs.Prelude.{◌≡◌, ℕ, ◌<◌, ◌≤◌, Bool, true, false, List, [], ◌∷◌, ◌++◌, take, Option, Some, None, Result, IfErr}
 use Rattle.std.specs.List.{concat, FoldsTo}
 use Rattle.grin_io.specs.Causes.{Rose}
 use Rattle.grin_io.specs.Content.{Files}
@@ -24,16 +24,20 @@ abbrev pub of_sink : {K : Type 0} → (K → List ℕ → Bool → K → Type 0)
 of_sink gives taken faults old new =
     record { gives = gives; taken = taken; faults = faults; old = old; new = new }
 
--- a source before and after the calls: the bytes that it tells to be left, and its count of faults
-pub record SourceChange (I : Type 0) : Type 0 where
+-- a source before and after the calls: all that its kind says of a read, the bytes that it tells to
+-- be left, whether its end was met, and its count of faults
+pub record SourceChange (I : Type 0) : Type 1 where
+  pub gives : I → ℕ → Option (List ℕ) → I → Type 0
   pub left : I → Option (List ℕ)
+  pub is_over : I → Type 0
   pub faults : I → ℕ
   pub old : I
   pub new : I
 
-abbrev pub of_source : {I : Type 0} → (I → Option (List ℕ)) → (I → ℕ)
-    → (old new : I) → SourceChange I
-of_source left faults old new = record { left = left; faults = faults; old = old; new = new }
+abbrev pub of_source : {I : Type 0} → (I → ℕ → Option (List ℕ) → I → Type 0)
+    → (I → Option (List ℕ)) → (I → Type 0) → (I → ℕ) → (old new : I) → SourceChange I
+of_source gives left is_over faults old new =
+    record { gives = gives; left = left; is_over = is_over; faults = faults; old = old; new = new }
 
 -- a shelf before and after the calls: the files that it tells, and its count of faults
 pub record ShelfChange (F : Type 0) : Type 0 where
@@ -83,6 +87,47 @@ pub record BrokeOff {K : Type 0} (o : SinkChange K) (due : List (List ℕ)) : Ty
 abbrev pub Broke : {K : Type 0} → Fault → SinkChange K → (due : List (List ℕ)) → Type 0
 Broke Read o due = Paused o due
 Broke Write o due = BrokeOff o due
+
+-- ---- sources
+
+-- By reads of one byte each, one after the other, a source went from this state to another: they
+-- gave these bytes, and then its end was met or not. Behind the end no read gives a byte.
+pub data Gave {I : Type 0} (gives : I → ℕ → Option (List ℕ) → I → Type 0) (from : I)
+    : (given : List ℕ) → (ended : Bool) → (to : I) → Type 0 where
+  no_read : Gave gives from [] false from
+  next_byte : {before given : List ℕ} {byte : ℕ} {last to : I} → Gave gives from before false last
+      → gives last 1 (Some (byte ∷ [])) to → byte < 256 → given ≡ before ++ (byte ∷ [])
+      → Gave gives from given false to
+  at_end : {given : List ℕ} {ended : Bool} {last to : I} → Gave gives from given ended last
+      → gives last 1 (Some []) to → Gave gives from given true to
+
+-- an input whose first bytes are these, and of which there are no others where its end was met
+pub record BeginsWith (given : List ℕ) (ended : Bool) (input : List ℕ) : Type 0 where
+  pub rest : List ℕ
+  pub is_input : input ≡ given ++ rest
+  pub whole : ended ≡ true → rest ≡ []
+
+-- a source gave just these bytes, by a read of each, and its end was met by a read or not
+pub record GaveAll {I : Type 0} (i : SourceChange I) (given : List ℕ) (ended : Bool)
+    : Type 0 where
+  pub reads : Gave i.gives i.old given ended i.new
+  pub content : Told (i.left i.old) (λ before.
+      (input : BeginsWith given ended before) × (i.left i.new ≡ Some input.rest))
+  pub over : ended ≡ true → i.is_over i.new
+  pub stays : i.is_over i.old → (given ≡ []) × i.is_over i.new
+
+-- behind such bytes a read failed, which was the last call
+pub record GaveUntil {I : Type 0} (i : SourceChange I) (given : List ℕ) (ended : Bool)
+    : Type 0 where
+  pub last : I
+  pub gave : GaveAll (of_source i.gives i.left i.is_over i.faults i.old last) given ended
+  pub refused : i.gives last 1 None i.new
+
+-- what a source gave, by the fault that ended a run
+abbrev pub GaveTo : {I : Type 0} → Fault → SourceChange I → (given : List ℕ) → (ended : Bool)
+    → Type 0
+GaveTo Read i given ended = GaveUntil i given ended
+GaveTo Write i given ended = GaveAll i given ended
 
 -- ---- faults
 

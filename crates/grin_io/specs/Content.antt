@@ -1,6 +1,6 @@
 -- What shelves, sources and sinks hold, and what a call does to it. An object that tells its
 -- content before a call tells it after the call; of one that doesn't tell it nothing is said.
-use Rattle.std.specs.Prelude.{◌≡◌, ℕ, ◌+◌, ◌≤◌, ◌<◌, ◌↔◌, List, [], ◌++◌, length, take, drop, Option, Some, None, IfSome, IsSome, option_map, unwrap_or, Result, Ok, Err, bytes_eq}
+use Rattle.std.specs.Prelude.{◌≡◌, ℕ, ◌+◌, ◌≤◌, ◌<◌, ◌↔◌, List, [], ◌++◌, length, take, drop, Option, Some, None, IfSome, IsSome, IfOk, option_map, unwrap_or, Result, Ok, Err, bytes_eq}
 use Rattle.std.specs.Map.{lookup}
 
 -- named files, and which of them is open at which place
@@ -49,6 +49,18 @@ abbrev pub Reads : {E : Type 0} → Option (List ℕ) → Option (List ℕ)
 Reads before now buffer filled (Ok k) =
     IfSome before (λ left. Fills left buffer filled k × (now ≡ Some (drop k left)))
 Reads before now buffer filled (Err _) = IfSome before (λ left. now ≡ Some left)
+
+-- the bytes that a read gave, which stand at the buffer's front
+abbrev pub bytes_read : {E : Type 0} → Result ℕ E → (filled : List ℕ) → Option (List ℕ)
+bytes_read (Ok k) filled = Some (take k filled)
+bytes_read (Err _) filled = None
+
+-- A read that has room and gives nothing meets the end. From then on no read gives a byte.
+pub record KeepsEnd {E : Type 0} (before now : Type 0) (room : ℕ) (result : Result ℕ E)
+    : Type 0 where
+  pub met : IfOk result (λ k. 0 < room → k ≡ 0 → now)
+  pub stays : before → now
+  pub none : before → IfOk result (λ k. k ≡ 0)
 
 -- a put: the whole piece is taken, or at a failure some of it from its front on
 abbrev pub Takes : {E : Type 0} → Option (List ℕ) → Option (List ℕ)

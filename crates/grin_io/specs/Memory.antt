@@ -100,12 +100,12 @@ pub record Supply : Type 0 where
 
 -- the answer to a read into so much room: none at a planned failure, else as many bytes as there
 -- are and fit
-abbrev pub supplied : Supply → ℕ → Option ℕ
-supplied s room = cond (is_planned s.calls) None (Some (min (length s.left) room))
+abbrev pub supplied : Supply → ℕ → Option (List ℕ)
+supplied s room = cond (is_planned s.calls) None (Some (take room s.left))
 
 abbrev pub after_read : Supply → ℕ → Supply
 after_read s room = record {
-  left = cond (is_planned s.calls) s.left (drop (min (length s.left) room) s.left);
+  left = cond (is_planned s.calls) s.left (drop room s.left);
   calls = called s.calls;
 }
 

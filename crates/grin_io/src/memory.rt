@@ -129,9 +129,13 @@ impl MemSource {
 impl Source for MemSource {
     ghost left = { λ s. Some s.left };
 
+    ghost is_over = { λ s. s.left ≡ [] };
+
     ghost faults = { λ s. s.calls.faults };
 
     ghost read_gives = { λ s room answer t. (answer ≡ supplied s room) × (t ≡ after_read s room) };
+
+    ghost ends = { λ _ none. none };
 
     fn read(&mut self, buf: &mut [u8]) -> Result<usize, Failed> {
         self.schedule.call()?;

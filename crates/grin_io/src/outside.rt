@@ -1,7 +1,7 @@
-ghost use Rattle.std.specs.Prelude.{◌≡◌, ℕ, ◌≤◌, Bool, true, List, Option, length, is_ok, is_some, IfOk, IfSome};
+ghost use Rattle.std.specs.Prelude.{◌≡◌, ℕ, ◌≤◌, Bool, true, List, [], Option, length, is_ok, is_some, IfOk, IfSome};
 ghost use Rattle.std.specs.Result.{result_ok};
 ghost use Rattle.grin_io.specs.Causes.{HasCause};
-ghost use Rattle.grin_io.specs.Content.{Files, Opens, ReadsFile, Reads, Takes};
+ghost use Rattle.grin_io.specs.Content.{Files, Opens, ReadsFile, Reads, bytes_read, KeepsEnd, Takes};
 
 /// An opening, a read or a put failed.
 #[derive(Clone, Copy, PartialEq, Eq, Debug, Drop)]
@@ -61,25 +61,32 @@ pub trait Shelf {
     ghost told: { (s : Self) → IfSome (content s) (λ c. is_some c.opened ≡ is_open s) };
 }
 
-/// What gives bytes.
+/// What gives bytes, up to an end that stays.
 pub trait Source {
     /// The bytes that are left, where the source tells them.
     ghost left: { Self → Option (List ℕ) };
+
+    /// Whether the end was met. Every source tells this.
+    ghost is_over: { Self → Type 0 };
 
     /// How many faults there were. No call lowers it.
     ghost faults: { Self → ℕ };
 
     /// All that this kind of source says of a read: the source before, the room in bytes, the bytes
-    /// read, the source after.
-    ghost read_gives: { Self → ℕ → Option ℕ → Self → Type 0 } = { λ _ _ _ _. Unit {0} };
+    /// that were read, the source after.
+    ghost read_gives: { Self → ℕ → Option (List ℕ) → Self → Type 0 } = { λ _ _ _ _. Unit {0} };
 
     /// Reads the next bytes into the front of the buffer; their number, which is 0 for a buffer
     /// that isn't empty exactly where none is left. After `Failed` all bytes are still left.
     fn read(&mut self, buf: &mut [u8]) -> Result<usize, Failed>
         ensures content { Reads (left self.old) (left self.new) buf.old buf.new result }
         ensures within { IfOk result (λ k. k ≤ length buf.old) }
+        ensures end { KeepsEnd (is_over self.old) (is_over self.new) (length buf.old) result }
         ensures cause { HasCause (faults self.old) (faults self.new) result }
-        ensures exactly { read_gives self.old (length buf.old) (result_ok result) self.new };
+        ensures exactly { read_gives self.old (length buf.old) (bytes_read result buf.new) self.new };
+
+    /// Behind the end no byte is left.
+    ghost ends: { (s : Self) → is_over s → IfSome (left s) (λ bytes. bytes ≡ []) };
 }
 
 /// What takes bytes.

@@ -99,10 +99,13 @@ impl SureSource {
 impl Source for SureSource {
     ghost left = { λ s. Some s };
 
+    ghost is_over = { λ s. s ≡ [] };
+
     ghost faults = { λ _. 0 };
 
-    ghost read_gives = { λ s room answer t. (answer ≡ Some (min (length s) room))
-        × (t ≡ drop (min (length s) room) s) };
+    ghost read_gives = { λ s room answer t. (answer ≡ Some (take room s)) × (t ≡ drop room s) };
+
+    ghost ends = { λ _ none. none };
 
     fn read(&mut self, buf: &mut [u8]) -> Result<usize, Failed> {
         let count = fill(&self.bytes[self.given..], buf);

@@ -1,4 +1,4 @@
-ghost use Rattle.std.specs.Prelude.{◌≡◌, ℕ, ◌≤◌, ◌<◌, None, IfOk, OnErr, is_some, length};
+ghost use Rattle.std.specs.Prelude.{◌≡◌, ℕ, ◌≤◌, ◌<◌, false, true, None, IfOk, OnErr, length};
 ghost use Rattle.grin_io.specs.Causes.{HasCause, Rose};
 
 use crate::outside::{Failed, Shelf, Sink, Source};
@@ -56,10 +56,13 @@ pub(crate) fn write_whole<W: Write>(
     Ok(())
 }
 
-/// The files of the system. It tells no content.
+/// The files of the system. It tells no content. A file whose end was met is given back to the system
+/// at once: where the standard input was closed, the file has got its descriptor, and would be read
+/// as the input.
 #[derive(Drop)]
 pub struct FileShelf {
     runtime: HostRuntime,
+    open: bool,
     file: Option<File>,
     faults: u64,
 }
@@ -68,10 +71,11 @@ impl FileShelf {
     /// No file is open.
     pub fn new(runtime: HostRuntime) -> FileShelf
         ensures faults { result.faults ≡ 0 }
-        ensures closed { result.file ≡ None }
+        ensures closed { result.open ≡ false }
     {
         FileShelf {
             runtime,
+            open: false,
             file: None,
             faults: 0,
         }
@@ -81,7 +85,7 @@ impl FileShelf {
 impl Shelf for FileShelf {
     ghost content = { λ _. None };
 
-    ghost is_open = { λ s. is_some s.file };
+    ghost is_open = { λ s. s.open };
 
     ghost permitted = { λ _. Unit {0} };
 
@@ -93,10 +97,12 @@ impl Shelf for FileShelf {
         match File::open(&self.runtime, name) {
             Ok(file) => {
                 self.file = Some(file);
+                self.open = true;
                 Ok(())
             }
             Err(_) => {
                 self.file = None;
+                self.open = false;
                 Err(fault(&mut self.faults))
             }
         }
@@ -104,26 +110,34 @@ impl Shelf for FileShelf {
 
     fn read(&mut self, buf: &mut [u8]) -> Result<usize, Failed> {
         let Some(file) = &mut self.file else {
-            unreachable!();
+            return Ok(0);
         };
-        read_once(file, &mut self.faults, buf)
+        let count = read_once(file, &mut self.faults, buf)?;
+        if count == 0 && !buf.is_empty() {
+            self.file = None;
+        }
+        Ok(count)
     }
 }
 
-/// The standard input. It tells no content.
+/// The standard input. It tells no content. Once a read met its end it isn't read again, so that the
+/// end stays also where more would come, as at a terminal.
 #[derive(Drop)]
 pub struct StdIn {
     stream: Stdin,
+    over: bool,
     faults: u64,
 }
 
 impl StdIn {
     /// The input of the program, of which no call has failed.
     pub fn new(runtime: &HostRuntime) -> StdIn
-        ensures { result.faults ≡ 0 }
+        ensures faults { result.faults ≡ 0 }
+        ensures begins { result.over ≡ false }
     {
         StdIn {
             stream: runtime.stdin(),
+            over: false,
             faults: 0,
         }
     }
@@ -132,10 +146,19 @@ impl StdIn {
 impl Source for StdIn {
     ghost left = { λ _. None };
 
+    ghost is_over = { λ s. s.over ≡ true };
+
     ghost faults = { λ s. s.faults };
 
+    ghost ends = { λ _ _. tt };
+
     fn read(&mut self, buf: &mut [u8]) -> Result<usize, Failed> {
-        read_once(&mut self.stream, &mut self.faults, buf)
+        if self.over {
+            return Ok(0);
+        }
+        let count = read_once(&mut self.stream, &mut self.faults, buf)?;
+        self.over = count == 0 && !buf.is_empty();
+        Ok(count)
     }
 }
 

@@ -65,31 +65,31 @@ fn allots(
     Ok(())
 }
 
-/// x0 comes in x10; 7 is live across the call and has x8; results come in x10 to x12. The called
-/// procedure doesn't change x8.
+/// x0 comes in x10; 7 is live across the call and has the last register, x31; results come in x10
+/// to x12. The called procedure doesn't change x31.
 #[test]
 fn a_call_saves_what_the_callee_changes(rt: HostRuntime) -> Result<(), AllocError> {
     let low = two(rt.alloc())?;
     let spots = [
         Spot::Reg(10),
-        Spot::Reg(8),
+        Spot::Reg(31),
         Spot::Reg(10),
         Spot::Reg(11),
         Spot::Reg(10),
         Spot::Reg(12),
     ];
-    let procedures = [(0x1D00, 1), (0x1C00, 1)];
+    let procedures = [(0x80001C00, 1), (0x1C00, 1)];
     allots(&rt, rt.alloc(), &low, &spots, &[], &procedures)
 }
 
-/// Each of x8 to x31 has a variable, and the 25th that is live at once has a slot.
+/// Each of x8 to x31 has a variable, and the 25th that is live at once has a slot. They stand where
+/// the tail call wants them as arguments, as long as there are registers from x10 on, and the next
+/// two in x8 and x9.
 #[test]
 fn the_25th_of_those_live_at_once_has_a_slot(rt: HostRuntime) -> Result<(), AllocError> {
     let low = crowded(rt.alloc())?;
     let spots = [
         Spot::Reg(10),
-        Spot::Reg(8),
-        Spot::Reg(9),
         Spot::Reg(11),
         Spot::Reg(12),
         Spot::Reg(13),
@@ -111,6 +111,8 @@ fn the_25th_of_those_live_at_once_has_a_slot(rt: HostRuntime) -> Result<(), Allo
         Spot::Reg(29),
         Spot::Reg(30),
         Spot::Reg(31),
+        Spot::Reg(8),
+        Spot::Reg(9),
         Spot::Slot(0),
     ];
     allots(&rt, rt.alloc(), &low, &spots, &[], &[(0xFFFFFF00, 2)])
@@ -126,7 +128,7 @@ fn a_dead_target_is_apart_from_live_ones(rt: HostRuntime) -> Result<(), AllocErr
 }
 
 /// x4 is dead, and x3 is live to the end of the join; in the other arm x1 is dead and x7 has its
-/// register.
+/// register. The join's target has the register of x6, which the first end gives.
 #[test]
 fn arms_free_registers_for_each_other(rt: HostRuntime) -> Result<(), AllocError> {
     let low = arms(rt.alloc())?;
@@ -140,8 +142,8 @@ fn arms_free_registers_for_each_other(rt: HostRuntime) -> Result<(), AllocError>
         Spot::Reg(8),
         Spot::Reg(8),
         Spot::Reg(9),
-        Spot::Reg(10),
-        Spot::Reg(10),
+        Spot::Reg(8),
+        Spot::Reg(8),
     ];
     allots(&rt, rt.alloc(), &low, &spots, &[], &[(0x1F00, 1)])
 }

@@ -3,7 +3,7 @@
 ghost use Rattle.std.specs.Prelude.{◌<◌, ◌≤◌, vec_len, IfOk, OnOk};
 ghost use Rattle.rv32_machine.specs.Steps.{IsRunning};
 
-use crate::executables::changed;
+use crate::executables::{changed, outcome};
 use elf32::{Loaded, Segment};
 use grin_io::{Fault, MemSink, MemSource};
 use rv32_machine::{Machine, StepResult, Stop};
@@ -316,10 +316,33 @@ fn programs_end_as_they_should(rt: HostRuntime) -> Result<(), Fail> {
     programs_end(&rt, rt.alloc(), &WRITE_CALLS)
 }
 
-/// The exit image with these bytes from an offset on, and how so many steps of it end.
-const IMAGES: [(u8, &[u8], u64, &str); 10] = [
+/// The exit image with these bytes from an offset on, and the rule that it breaks, with a program
+/// header's number, or how so many steps of it end.
+const IMAGES: [(u8, &[u8], u64, &str); 24] = [
+    (0, &[0x00], 0, "refused 42 at 0"),
+    (4, &[0x02], 0, "refused 43 at 0"),
+    (42, &[0x1F], 0, "refused 43 at 0"),
+    (28, &[0xFF, 0xFF, 0xFF, 0xFF], 0, "refused 44 at 0"),
+    (44, &[0xFF, 0xFF], 0, "refused 44 at 0"),
+    (60, &[0xFC, 0xFF, 0xFF, 0xFF], 0, "refused 45 at 0"),
+    (56, &[0xFF, 0xFF, 0xFF, 0xFF], 0, "refused 45 at 0"),
+    (72, &[0x08], 0, "refused 45 at 0"),
+    (24, &[0x00, 0x00, 0x00, 0x00], 0, "refused 47 at 0"),
+    (76, &[0x04], 0, "refused 47 at 0"),
+    (44, &[0x00], 0, "refused 47 at 0"),
+    (
+        28,
+        &[
+            0xFF, 0xFF, 0xFF, 0xFF, 0, 0, 0, 0, 0, 0, 0, 0, 52, 0, 0, 0, 0, 0,
+        ],
+        0,
+        "refused 47 at 0",
+    ),
+    (72, &[0x01, 0x00, 0x00, 0x80], 0, "refused 48 at 0"),
     (0, &[], 1000, "Ok(Exit(7))"),
     (0, &[], 2, "Ok(Steps)"),
+    // no byte of the code stands in the file, so that all are zero
+    (68, &[0x00], 1000, "Ok(Trap(IllegalInstruction(0), 65620))"),
     (24, &[0x55], 1000, "Ok(Trap(MisalignedJump, 65621))"),
     (
         84,
@@ -363,20 +386,27 @@ fn loaded(alloc: Global, file: &[u8]) -> Result<Machine, Fail>
     Ok(Machine::load(alloc, &image)?)
 }
 
-/// The run of the exit image with these bytes from an offset on.
-fn run_of_changed(alloc: Global, offset: u8, bytes: &[u8], steps: u64) -> Result<Ended, Fail> {
+/// What becomes of an executable within so many steps: it is refused, or it ends so.
+fn becomes(rt: &impl Abort, alloc: Global, file: &[u8], steps: u64, end: &str) -> Result<(), Fail> {
+    let (rule, header) = outcome(alloc, file);
+    if rule > 0 {
+        let refused = format!(in alloc; "refused {rule} at {header}")?;
+        assert_eq!(rt; refused.as_str(), end);
+        return Ok(());
+    }
     let input = source(alloc, b"")?;
     let out = sink(alloc)?;
-    let file = changed(alloc, offset, bytes)?;
-    let machine = loaded(alloc, &file)?;
-    Ok(run(machine, steps, input, out))
+    let machine = loaded(alloc, file)?;
+    let ended = run(machine, steps, input, out);
+    is_end(rt, alloc, &ended, b"", end)?;
+    Ok(())
 }
 
-/// The changed images end as they should.
+/// This becomes of the changed images.
 fn images_end(rt: &impl Abort, alloc: Global, rows: &[(u8, &[u8], u64, &str)]) -> Result<(), Fail> {
     for (offset, bytes, steps, end) in rows {
-        let ended = run_of_changed(alloc, *offset, bytes, *steps)?;
-        is_end(rt, alloc, &ended, b"", end)?;
+        let file = changed(alloc, *offset, bytes)?;
+        becomes(rt, alloc, &file, *steps, end)?;
     }
     Ok(())
 }

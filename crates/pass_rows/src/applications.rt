@@ -2,6 +2,7 @@
 // and their sizes then.
 
 use crate::evaluations::TAKES;
+use crate::listings::listing_in;
 use apply_inline::{expanded_size, inline};
 use flow_system::system::system;
 use grin_syntax::list;
@@ -130,7 +131,7 @@ fn nothing_is_applied(rt: HostRuntime) -> Result<(), Fail> {
 fn sizes_before_inlining(rt: HostRuntime) -> Result<(), Fail> {
     for (text, wanted) in [(EMPTY, 37), (GIVES, 55), (TAKES, 100)] {
         let listing = list(rt.alloc(), &program(rt.alloc(), text)?)?;
-        assert!(rt; text.as_bytes().ends_with(listing.as_slice()));
+        assert_eq!(rt; listing.as_slice(), listing_in(text));
         assert_eq!(rt; size(rt.alloc(), text)?, wanted);
     }
     Ok(())

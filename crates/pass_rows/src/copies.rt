@@ -1,5 +1,6 @@
 // A program with copies and idle statements.
 
+use crate::listings::listing_in;
 use copy_prop::{without_copies, without_idle};
 use grin_syntax::list;
 use grin_text::program;
@@ -48,12 +49,50 @@ take v0 =
       fail
 ";
 
+// Copies of any length, on either side: v2 of a vector of one word, v3 of one word alone, v4 and v5
+// word by word, and v6, v7 and v8 of a node and a zero. v9 is given two words by mistake, so that a
+// run of it is missing: it stays, with the words that it is given.
+const VECTORS: &str = "\
+tags CInt/1 CNil/0
+words
+global main = (CNil)
+
+f v0 v1 =
+  v2 <- unit [v0]
+  [v3] <- unit v1
+  [v4 v5] <- unit [v3 v2]
+  [v6 v7 v8] <- unit (CInt v4)
+  write v5
+  case [v6 v7 v8] of
+    (CInt) ->
+      [v9] <- unit [v7 v8]
+      [v10 v11] <- unit [v4 v5]
+      unit [v10 v9 v11]
+    else ->
+      unit [v6 v7 v8]
+";
+
+const VECTORS_AFTER: &str = "\
+global main = (CNil)
+
+f v0 v1 =
+  write v0
+  case [#CInt v1 0] of
+    (CInt) ->
+      [v2] <- unit [v1 0]
+      unit [v1 v2 v0]
+    else ->
+      unit [#CInt v1 0]
+";
+
 #[test]
 fn copies_and_idle_statements_go(rt: HostRuntime) -> Result<(), Fail> {
-    let g = program(rt.alloc(), BEFORE)?;
-    let listing = list(rt.alloc(), &g)?;
-    assert!(rt; BEFORE.as_bytes().ends_with(listing.as_slice()));
-    let h = without_idle(rt.alloc(), without_copies(rt.alloc(), g)?)?;
-    assert_eq!(rt; list(rt.alloc(), &h)?.as_slice(), AFTER.as_bytes());
+    for (text, after) in [(BEFORE, AFTER), (VECTORS, VECTORS_AFTER)] {
+        let g = program(rt.alloc(), text)?;
+        let listing = list(rt.alloc(), &g)?;
+        assert_eq!(rt; listing.as_slice(), listing_in(text));
+        let h = without_idle(rt.alloc(), without_copies(rt.alloc(), g)?)?;
+        assert_eq!(rt; list(rt.alloc(), &h)?.as_slice(), after.as_bytes());
+    }
     Ok(())
 }

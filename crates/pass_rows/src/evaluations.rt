@@ -1,5 +1,6 @@
 // Listings of programs, and of what becomes of them once their evaluations are inlined.
 
+use crate::listings::listing_in;
 use eval_inline::inline;
 use flow_system::system::system;
 use grin_syntax::list;
@@ -184,8 +185,7 @@ fn inlined(alloc: Global, text: &str) -> Result<Vec<u8>, ReadError> {
 fn texts_are_read_as_they_are_listed(rt: HostRuntime) -> Result<(), Fail> {
     for text in [TAKES, SEVENS, WITHOUT_EVALUATIONS] {
         let listing = listed(rt.alloc(), text)?;
-        assert!(rt; text.as_bytes().ends_with(listing.as_slice()), "{text}");
-        assert!(rt; listing.len() + 60 > text.len(), "{text}");
+        assert_eq!(rt; listing.as_slice(), listing_in(text), "{text}");
     }
     Ok(())
 }

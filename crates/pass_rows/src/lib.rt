@@ -1,4 +1,4 @@
-//! Rows for the inlinings and the passes: listings that were worked by hand.
+//! Rows for the inlinings and the passes, listings and sizes that were worked by hand.
 #![tactic(auto)]
 
 #[cfg(test)]
@@ -9,6 +9,10 @@ mod copies;
 mod evaluations;
 #[cfg(test)]
 mod fetches;
+#[cfg(test)]
+mod listings;
+#[cfg(test)]
+mod measures;
 #[cfg(test)]
 mod raising;
 #[cfg(test)]

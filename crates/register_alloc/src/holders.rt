@@ -1,6 +1,6 @@
 // The variables that hold the registers x8 to x31 at a point of a procedure.
 
-ghost use Rattle.std.specs.Prelude.{◌≡◌, ◌<◌, ◌++◌, ◌∷◌, [], ℕ, true, false, List, length, slice_get, slice_set, Some, None, Option, vec_len, IfOk, OnOk, MatchOption};
+ghost use Rattle.std.specs.Prelude.{◌≡◌, ◌<◌, ◌++◌, ◌∷◌, [], ℕ, true, false, List, length, slice_get, slice_set, Some, None, Option, vec_len, IfOk, OnOk, IfSome, MatchOption};
 ghost use Rattle.register_alloc.specs.Uses.{AreUses};
 ghost use Rattle.register_alloc.specs.Holders.{Held, AreStillUsed, AreEntering, AllFree, AreRegisters, IsStill, IsMarked, Pairwise, new_holder};
 ghost use Rattle.register_alloc.specs.declared.holders.Holder.{Holder};
@@ -87,8 +87,9 @@ impl Holders {
         Ok(Holders { of })
     }
 
-    /// A free register, the wanted one where it is free. They are numbered from x8 on.
-    pub fn free(&self, wanted: Option<usize>) -> Option<usize>
+    /// A free register, the wanted one where it is free, else the first, or the last where the
+    /// variable stays across a call. They are numbered from x8 on.
+    pub fn free(&self, wanted: Option<usize>, stays: bool) -> Option<usize>
         ensures { MatchOption result ((r : ℕ) → r < length self.now.of.items → (d : Holder)
             × Held self.now.of.items r d) (λ r. slice_get self.now.of.items r ≡ Some None) }
     {
@@ -97,10 +98,46 @@ impl Holders {
                 if self.is_free(register) {
                     Some(register)
                 } else {
-                    self.first_free()
+                    self.any_free(stays)
                 }
             }
+            None => self.any_free(stays),
+        }
+    }
+
+    fn any_free(&self, stays: bool) -> Option<usize>
+        ensures { MatchOption result ((r : ℕ) → r < length self.now.of.items → (d : Holder)
+            × Held self.now.of.items r d) (λ r. slice_get self.now.of.items r ≡ Some None) }
+    {
+        match self.last_free(stays) {
+            Some(register) => Some(register),
             None => self.first_free(),
+        }
+    }
+
+    /// The last free register, where it is asked for.
+    fn last_free(&self, asked: bool) -> Option<usize>
+        ensures { IfSome result (λ r. slice_get self.now.of.items r ≡ Some None) }
+    {
+        if !asked {
+            return None;
+        }
+        let mut last = None;
+        for register in 0..self.of.len() {
+            last = self.later(last, register);
+        }
+        last
+    }
+
+    /// This register where it is free, else the one before.
+    fn later(&self, last: Option<usize>, register: usize) -> Option<usize>
+        ensures { IfSome last (λ r. slice_get self.now.of.items r ≡ Some None)
+            → IfSome result (λ r. slice_get self.now.of.items r ≡ Some None) }
+    {
+        if self.is_free(register) {
+            Some(register)
+        } else {
+            last
         }
     }
 

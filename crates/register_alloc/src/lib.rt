@@ -6,11 +6,13 @@ ghost use Rattle.register_alloc.specs.Assignment.{place_of, mask_of, saves_at, w
 
 mod assign;
 mod either;
+mod hints;
 mod holders;
 mod registers;
 mod scan;
 mod uses;
 mod walk;
+mod wish;
 mod written;
 
 pub use assign::allocate;

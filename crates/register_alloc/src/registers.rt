@@ -11,9 +11,11 @@ ghost use Rattle.register_alloc.specs.declared.holders.Holder.{Holder};
 ghost use Rattle.register_alloc.specs.declared.registers.Text.{Text};
 ghost use Rattle.register_alloc.specs.declared.registers.CallSite.{CallSite};
 
+use crate::hints::Hints;
 use crate::holders::Holders;
 use crate::scan::Scan;
 use crate::uses::Uses;
+use crate::wish::{GivenFirst, Wish, where_held};
 use low_code::{LowArm, LowBlock, LowEnd, LowProc, LowStmt, LowTest, Operand, PrimOp};
 use parallel_move::Spot;
 use seq::Seq;
@@ -35,12 +37,13 @@ pub struct CallSite {
     pub live: Seq<u8>,
 }
 
-/// What the walk reads of a procedure: where its variables are used, and the sizes of its inner
-/// blocks.
+/// What the walk reads of a procedure: where its variables are used, the sizes of its inner blocks,
+/// and where variables would best stand.
 #[derive(Drop)]
 pub struct Text {
     pub uses: Uses,
     pub sizes: Vec<u32>,
+    pub hints: Hints,
 }
 
 /// Where the walk stands: the position of the next use and the number of the next inner block; and
@@ -85,14 +88,11 @@ fn size_at(sizes: &[u32], block: u32) -> u32
     }
 }
 
-/// Arguments and results stand in x10 and up: its number from x8 on.
-const FIRST_ARGUMENT: usize = 2;
-
-/// The register so many places after this one, if there is one.
-fn after(register: Option<usize>, places: usize) -> Option<usize> {
-    match register {
-        Some(register) => register.checked_add(places),
-        None => None,
+/// The first of two registers that is there.
+fn first_of(wanted: Option<usize>, other: Option<usize>) -> Option<usize> {
+    match wanted {
+        Some(_) => wanted,
+        None => other,
     }
 }
 
@@ -152,10 +152,11 @@ impl Registers {
         Ok(end)
     }
 
-    /// Gives a variable a free register, the wanted one where it is free, and where none is the
-    /// next slot.
+    /// Gives a variable a free register, where it can the wanted one or one by its later uses, and
+    /// where none is free the next slot.
     fn give(
         &mut self,
+        text: &Text,
         holders: &mut Holders,
         variable: u32,
         wanted: Option<usize>,
@@ -163,7 +164,8 @@ impl Registers {
         ensures { OnOk result (Gives variable self.old holders.old.of.items self.new
             holders.new.of.items) }
     {
-        match holders.free(wanted) {
+        let hint = text.hints.of(variable, self.at);
+        match holders.free(first_of(wanted, hint.register), hint.stays) {
             Some(register) => {
                 holders.hold(register, variable);
                 self.given.push(Given {
@@ -189,12 +191,13 @@ impl Registers {
         Ok(())
     }
 
-    /// Gives each of these variables a place, where it can the wanted register and those after it.
+    /// Gives each of these variables a place, where it can the register that it is wished in.
     fn give_all(
         &mut self,
+        text: &Text,
         holders: &mut Holders,
         variables: &[u32],
-        wanted: Option<usize>,
+        wish: Wish,
     ) -> Result<(), AllocError>
         ensures giving { OnOk result
             (AllGiven variables.now self.old holders.old.of.items self.new holders.new.of.items) }
@@ -203,7 +206,7 @@ impl Registers {
         ensures calls { OnOk result (self.new.calls.items ≡ self.old.calls.items) }
     {
         for i in 0..variables.len() {
-            self.give(holders, variables[i], after(wanted, i))?;
+            self.give(text, holders, variables[i], wish.at(i))?;
         }
         Ok(())
     }
@@ -215,7 +218,7 @@ impl Registers {
         holders: &Holders,
         end: u32,
         variables: &[u32],
-        wanted: Option<usize>,
+        wish: Wish,
     ) -> Result<Holders, AllocError>
         ensures bound { IfOk result (λ h.
             Binds text.now variables.now end self.old holders.now.of.items self.new h.of.items) }
@@ -224,7 +227,7 @@ impl Registers {
         ensures calls { OnOk result (self.new.calls.items ≡ self.old.calls.items) }
     {
         let mut live = holders.live(self.alloc, &text.uses, self.at, end)?;
-        self.give_all(&mut live, variables, wanted)?;
+        self.give_all(text, &mut live, variables, wish)?;
         Ok(live)
     }
 
@@ -247,7 +250,7 @@ impl Registers {
     {
         let mut live = holders.live(self.alloc, &text.uses, self.at, end)?;
         self.note(site, proc, &live)?;
-        self.give_all(&mut live, targets, Some(FIRST_ARGUMENT))?;
+        self.give_all(text, &mut live, targets, Wish::arguments())?;
         Ok(live)
     }
 
@@ -277,7 +280,7 @@ impl Registers {
             h.of.items) }
     {
         self.pass(uses_of(value))?;
-        let next = self.bind(text, holders, end, &[variable], held_by(holders, value))?;
+        let next = self.bind(text, holders, end, &[variable], where_held(holders, value))?;
         Ok(next)
     }
 
@@ -297,7 +300,7 @@ impl Registers {
     {
         self.pass(uses_of(left))?;
         self.pass(uses_of(right))?;
-        let next = self.bind(text, holders, end, &[variable], held_by(holders, left))?;
+        let next = self.bind(text, holders, end, &[variable], where_held(holders, left))?;
         Ok(next)
     }
 
@@ -315,7 +318,7 @@ impl Registers {
             h.of.items) }
     {
         self.pass(uses_of(cell))?;
-        let next = self.bind(text, holders, end, &[variable], None)?;
+        let next = self.bind(text, holders, end, &[variable], Wish::Any)?;
         Ok(next)
     }
 
@@ -339,7 +342,7 @@ impl Registers {
             Does text.now (take variables.now) end self.old holders.now.of.items self.new
             h.of.items) }
     {
-        let next = self.bind(text, holders, end, variables, None)?;
+        let next = self.bind(text, holders, end, variables, Wish::Any)?;
         Ok(next)
     }
 
@@ -361,7 +364,7 @@ impl Registers {
         ensures { IfOk result (λ h.
             Does text.now (get variable) end self.old holders.now.of.items self.new h.of.items) }
     {
-        let next = self.bind(text, holders, end, &[variable], None)?;
+        let next = self.bind(text, holders, end, &[variable], Wish::Any)?;
         Ok(next)
     }
 
@@ -392,6 +395,7 @@ impl Registers {
         block: &LowBlock,
         holders: Holders,
         end: u32,
+        first: &mut GivenFirst,
     ) -> Result<(), AllocError>
         ensures { OnOk result (Ends text.now (code_of block.now) end self.old holders.of.items
             self.new) }
@@ -400,7 +404,7 @@ impl Registers {
         for stmt in block.stmts.as_slice() {
             holders = self.stmt(text, stmt, holders, end)?;
         }
-        self.end(text, &block.last, holders, end)?;
+        self.end(text, &block.last, holders, end, first)?;
         Ok(())
     }
 
@@ -459,8 +463,9 @@ impl Registers {
     {
         let inner_end = self.inner_end(text)?;
         let entering = holders.entering(self.alloc, &text.uses, inner_end, end)?;
-        self.block(text, block, entering, inner_end)?;
-        let next = self.bind(text, holders, end, targets, Some(FIRST_ARGUMENT))?;
+        let mut first = GivenFirst::new(self.alloc);
+        self.block(text, block, entering, inner_end, &mut first)?;
+        let next = self.bind(text, holders, end, targets, first.wish())?;
         Ok(next)
     }
 
@@ -471,16 +476,21 @@ impl Registers {
         last: &LowEnd,
         holders: Holders,
         end: u32,
+        first: &mut GivenFirst,
     ) -> Result<(), AllocError>
         ensures { OnOk result (Ends text.now (end_of last.now) end self.old holders.of.items
             self.new) }
     {
         match last {
-            LowEnd::Give(given) => self.last_give(given.as_slice())?,
+            LowEnd::Give(given) => {
+                let words = given.as_slice();
+                first.note(&holders, words)?;
+                self.last_give(words)?;
+            }
             LowEnd::Tail(proc, site, given) => self.last_call(*proc, *site, given.as_slice())?,
             LowEnd::Choose(arms, block) => {
-                self.arms(text, arms.as_slice(), &holders)?;
-                self.block(text, block, holders, end)?;
+                self.arms(text, arms.as_slice(), &holders, first)?;
+                self.block(text, block, holders, end, first)?;
             }
             LowEnd::Fail => {}
         }
@@ -521,36 +531,39 @@ impl Registers {
     }
 
     #[cycle(registers)]
-    fn arms(&mut self, text: &Text, arms: &[LowArm], holders: &Holders) -> Result<(), AllocError>
+    fn arms(
+        &mut self,
+        text: &Text,
+        arms: &[LowArm],
+        holders: &Holders,
+        first: &mut GivenFirst,
+    ) -> Result<(), AllocError>
         ensures { OnOk result ((end : ℕ)
             → Does text.now (λ c. choose (arms_before (map arm_of arms.now) c)) end self.old
             holders.now.of.items self.new holders.now.of.items) }
     {
         for arm in arms {
-            self.arm(text, arm, holders)?;
+            self.arm(text, arm, holders, first)?;
         }
         Ok(())
     }
 
     #[cycle(registers)]
-    fn arm(&mut self, text: &Text, arm: &LowArm, holders: &Holders) -> Result<(), AllocError>
+    fn arm(
+        &mut self,
+        text: &Text,
+        arm: &LowArm,
+        holders: &Holders,
+        first: &mut GivenFirst,
+    ) -> Result<(), AllocError>
         ensures { OnOk result (DoesArm text.now arm.now.tests (code_of arm.now.block) self.old
             holders.now.of.items self.new) }
     {
         self.pass_tests(arm.tests.as_slice())?;
         let end = self.inner_end(text)?;
         let copy = holders.copied(self.alloc)?;
-        self.block(text, &arm.block, copy, end)?;
+        self.block(text, &arm.block, copy, end, first)?;
         Ok(())
-    }
-}
-
-/// The register that the variable of an operand holds.
-fn held_by(holders: &Holders, operand: &Operand) -> Option<usize> {
-    match operand {
-        Operand::Var(x) => holders.register_of(*x),
-        Operand::Num(_) => None,
-        Operand::Cell(_) => None,
     }
 }
 
@@ -562,13 +575,21 @@ pub fn walked(alloc: Global, proc: &LowProc) -> Result<Registers, AllocError>
     scan.block(&proc.body)?;
     let end = crate::scan::number(scan.used.len())?;
     let uses = Uses::new(alloc, scan.used.as_slice())?;
+    let hints = Hints::of_body(alloc, &proc.body)?;
     let text = Text {
         uses,
         sizes: scan.sizes,
+        hints,
     };
     let mut walk = Registers::new(alloc);
     let mut holders = Holders::none(alloc)?;
-    walk.give_all(&mut holders, proc.params.as_slice(), Some(FIRST_ARGUMENT))?;
-    walk.block(&text, &proc.body, holders, end)?;
+    walk.give_all(
+        &text,
+        &mut holders,
+        proc.params.as_slice(),
+        Wish::arguments(),
+    )?;
+    let mut first = GivenFirst::new(alloc);
+    walk.block(&text, &proc.body, holders, end, &mut first)?;
     Ok(walk)
 }

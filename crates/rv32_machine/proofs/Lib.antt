@@ -1,5 +1,6 @@
 pub mod Composed
 pub mod OneStep
+pub mod Sources
 pub mod Loops
 pub mod Advanced
 pub mod Division

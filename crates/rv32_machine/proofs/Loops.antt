@@ -1,20 +1,23 @@
 -- A run goes on by turns: what holds behind so many steps holds behind one more.
-use Rattle.std.proofs.Common.{◌≡◌, ℕ, zero, suc, ◌+◌, ◌-◌, ◌<◌, ◌≤◌, List, [], ◌++◌, drop, Option, Bool, true, false, append_assoc, append-nil, refl, sym, ap, ◌∙◌, subst, arith}
-use Rattle.std.specs.Prelude.{slice_get}
+use Rattle.std.proofs.Common.{◌≡◌, ℕ, zero, suc, ◌+◌, ◌-◌, ◌<◌, ◌≤◌, List, [], ◌∷◌, ◌++◌, length, drop, length-append, None, Some, Option, Bool, true, false, append_assoc, append-nil, refl, sym, ap, ◌∙◌, subst, arith}
+use Rattle.std.specs.Prelude.{◌⊎◌, slice_get}
+use mathlib.Core.Logic.{inl, inr}
 use Rattle.std.specs.List.{concat}
 use Rattle.std.proofs.lemmas.List.Folds.{concat-append}
-use Rattle.grin_io.specs.Changes.{Told, SinkChange, of_sink, TookAll, Broke}
+use Rattle.std.proofs.lemmas.List.{append_cancel_left}
+use Rattle.grin_io.specs.Changes.{of_source, of_sink, BeginsWith, GaveAll, TookAll, Broke}
 use Rattle.grin_io.specs.declared.outside.Fault.{Fault}
+use Rattle.grin_io.specs.declared.outside.Fault.TheVariants.{Read, Write}
+use Rattle.rv32_machine.specs.declared.machine.StepResult.TheVariants.{Read as Read'}
+use Rattle.rv32_machine.specs.OneByte.{GaveOne}
 use Rattle.rv32_machine.specs.declared.machine.Stop.{Stop}
 use Rattle.rv32_machine.specs.declared.machine.Stop.TheVariants.{Steps}
-use Rattle.rv32_machine.specs.Steps.{State, Outcome, Next, Written, Asked, Ended, Trapped, Stand, state_of, step, given}
-use Rattle.rv32_machine.specs.Runs.{End, Going, Exited, Stopped, after, onward, run, piece_of, next_piece, pieces, continued, has_ended, Stays, StandsAt, PiecesAreTheOutput}
-use Rattle.rv32_machine.proofs.Composed.{runs_compose, end_stays, run_none, run_more}
-use Rattle.grin_io.proofs.Changes.{took_none, took_join, broke_join}
-
--- where a run stands that goes on, and what its sink took
-abbrev pub Kept : {K : Type 0} → (s : State) → (k : ℕ) → Stand → (left left' : Option (List ℕ)) → SinkChange K → Type 0
-Kept s k m left left' o = Told left (λ i. Stays (run k i s) Steps m left' × TookAll o (pieces k i s))
+use Rattle.rv32_machine.specs.Steps.{State, Outcome, Next, Written, Asked, Ended, Trapped, Stand, state_of, Does, IsAt, step, given}
+use Rattle.rv32_machine.specs.Runs.{End, Going, Exited, Stopped, after, onward, run, piece_of, next_piece, pieces, used, continued, has_ended, Stays, StandsAt, AsksForMore, Answered, Interrupted, PiecesAreTheOutput}
+use Rattle.rv32_machine.proofs.Composed.{runs_compose, end_stays, input_is_used_in_order, run_none, run_more}
+use Rattle.rv32_machine.proofs.OneStep.{Turns, byte_turns, end_turns, byte_used, read_piece_is}
+use Rattle.rv32_machine.proofs.Sources.{narrow, behind, followed, gave_none, gave_byte, gave_end}
+use Rattle.grin_io.proofs.Changes.{took_none, took_join, paused_none, broke_join}
 
 -- ---- the run
 
@@ -28,12 +31,6 @@ pub joined : (k : ℕ) (i : List ℕ) (s : State) (m : Stand) → StandsAt (run 
 joined k i s m h =
     let r = run k i s in
     runs_compose k 1 i s ∙ one_more r.out r.left r.end m h
-
-pub later_stays : (k : ℕ) (i : List ℕ) (s : State) (m new : Stand) (stop : Stop) (left : Option (List ℕ)) → StandsAt (run k i s).end Steps m → Stays (run 1 (run k i s).left (state_of m)) stop new left → Stays (run (k + 1) i s) stop new left
-later_stays k i s m new stop left h t =
-    let q = run 1 (run k i s).left (state_of m) in
-    let a : Stays (after (run k i s).out q) stop new left = record { stands = t.stands; left_is = t.left_is } in
-    subst (λ r. Stays r stop new left) (sym (joined k i s m h)) a
 
 ends : (e : End) (stop : Stop) (m : Stand) → (stop ≡ Steps → ⊥) → StandsAt e stop m → has_ended e ≡ true
 ends (Going s) stop m ended h = absurd (ended h.0)
@@ -131,40 +128,163 @@ all_put steps k i s stop m lt ended h =
     let count : steps ≡ (k + 1) + (steps - (k + 1)) = omega arith in
     ap (λ n. pieces n i s) count ∙ all_pieces (k + 1) (steps - (k + 1)) i s (ends (run (k + 1) i s).end stop m ended h)
 
--- ---- the turns of a run, where the source tells its bytes
+-- ---- what is left
 
-module _ {K : Type 0} (gives : K → List ℕ → Bool → K → Type 0) (taken : K → Option (List ℕ)) (faults : K → ℕ) (s : State) (left : Option (List ℕ)) (old : K) where
+-- where nothing is left nothing comes back
+pub none_left : (m n : ℕ) (i : List ℕ) (s : State) → (run m i s).left ≡ [] → (run (m + n) i s).left ≡ []
+none_left m n i s none =
+    let u = input_is_used_in_order m n i s in
+    nothing u.0 (run (m + n) i s).left (sym u.1 ∙ none)
+  where
+    nothing : (xs ys : List ℕ) → xs ++ ys ≡ [] → ys ≡ []
+    nothing [] ys e = e
+    nothing (x ∷ xs) ys e = cc
+
+pub asks_later : (m n : ℕ) (s : State) (given : List ℕ) → AsksForMore m s given → AsksForMore (m + n) s given
+asks_later m n s given asks byte = none_left m n (given ++ (byte ∷ [])) s (asks byte)
+
+asks_within : (m steps : ℕ) → m ≤ steps → (s : State) (given : List ℕ) → AsksForMore m s given → AsksForMore steps s given
+asks_within m steps le s given asks =
+    let count : m + (steps - m) ≡ steps = omega arith in subst (λ n. AsksForMore n s given) count (asks_later m (steps - m) s given asks)
+
+-- ---- the turns of a run
+
+module _ {I K : Type 0} (reads : I → ℕ → Option (List ℕ) → I → Type 0) (left : I → Option (List ℕ)) (is_over : I → Type 0) (lost : I → ℕ)
+    (gives : K → List ℕ → Bool → K → Type 0) (taken : K → Option (List ℕ)) (faults : K → ℕ) (s : State) (first : I) (old : K) where
+  -- where a run stands that goes on, what its source gave, and what its sink took
+  abbrev pub Kept : (k : ℕ) → Stand → I → K → Type 0
+  Kept k m input out = Answered (of_source reads left is_over lost first input) (of_sink gives taken faults old out) k s Steps m
+
   -- at the start
-  pub starts : (m : Stand) → state_of m ≡ s → m.over ≡ false → m.waiting ≡ false → Kept s 0 m left left (of_sink gives taken faults old old)
-  starts m at over waiting i e =
-      let r = run_none i s in (
-        subst (λ q. Stays q Steps m left) (sym r) (record { stands = (refl, (at, over, waiting)); left_is = e }),
-        took_none gives taken faults old (pieces 0 i s) (pieces_none i s),
-      )
+  pub starts : (m : Stand) → state_of m ≡ s → m.over ≡ false → m.waiting ≡ false → Kept 0 m first old
+  starts m at over waiting = record {
+    given = [];
+    ended = false;
+    gave = gave_none reads left is_over lost first;
+    wanted = λ e. cc;
+    stays = λ i b. subst (λ q. Stays q i [] Steps m) (sym (run_none i s)) (record { stands = (refl, (at, over, waiting)); used_is = refl });
+    took = λ i b. took_none gives taken faults old (pieces 0 i s) (pieces_none i s);
+  }
 
-  module _ (k : ℕ) (m : Stand) (left' : Option (List ℕ)) (out out' : K) (kept : Kept s k m left left' (of_sink gives taken faults old out)) where
+  module _ (k : ℕ) (m : Stand) (input : I) (out : K) (kept : Kept k m input out) where
     -- what one more turn says of the whole run
-    pub one_turn : (new : Stand) (left'' : Option (List ℕ)) (stop : Stop) → Told left' (λ i. Stays (run 1 i (state_of m)) stop new left'') → TookAll (of_sink gives taken faults out out') (piece_of (step (state_of m)))
-        → Told left (λ i. Stays (run (k + 1) i s) stop new left'' × TookAll (of_sink gives taken faults old out') (pieces (k + 1) i s))
-    one_turn new left'' stop t o i e =
-        let h = kept i e in (
-          later_stays k i s m new stop left'' h.0.stands (t (run k i s).left h.0.left_is),
-          subst (λ p. TookAll (of_sink gives taken faults old out') p) (sym (joined_pieces k i s m h.0.stands)) (took_join gives taken faults old out out' (pieces k i s) (piece_of (step (state_of m))) h.1 o),
-        )
+    pub one_turn : (more : List ℕ) (ended : Bool) (all : List ℕ) → all ≡ kept.given ++ more → (kept.ended ≡ true → (more ≡ []) × (ended ≡ true))
+        → (later : I) → GaveAll (of_source reads left is_over lost first later) all ended → (ended ≡ true → AsksForMore (k + 1) s all)
+        → (new : Stand) (stop : Stop) → Turns (state_of m) more ended stop new
+        → (out' : K) → TookAll (of_sink gives taken faults out out') (piece_of (step (state_of m)))
+        → Answered (of_source reads left is_over lost first later) (of_sink gives taken faults old out') (k + 1) s stop new
+    one_turn more ended all is back later gave wanted new stop t out' o = record {
+      given = all;
+      ended = ended;
+      gave = gave;
+      wanted = wanted;
+      stays = λ i b.
+          let h = kept.stays i (narrow kept.given more kept.ended ended all i is back b) in
+          let rest = (run k i s).left in
+          let q = run 1 rest (state_of m) in
+          let r = t rest (behind kept.given more ended all i rest is h.used_is b) in
+          let used : i ≡ all ++ q.left =
+          h.used_is ∙ ap (λ l. kept.given ++ l) r.used_is ∙ sym (append_assoc kept.given more q.left) ∙ ap (λ l. l ++ q.left) (sym is) in
+          let a : Stays (after (run k i s).out q) i all stop new = record { stands = r.stands; used_is = used } in
+          subst (λ x. Stays x i all stop new) (sym (joined k i s m h.stands)) a;
+      took = λ i b.
+          let c = narrow kept.given more kept.ended ended all i is back b in
+          subst (λ p. TookAll (of_sink gives taken faults old out') p) (sym (joined_pieces k i s m (kept.stays i c).stands))
+          (took_join gives taken faults old out out' (pieces k i s) (piece_of (step (state_of m))) (kept.took i c) o);
+    }
+
+    -- a turn in which nothing is asked for
+    pub plain_turn : (new : Stand) (stop : Stop) → Turns (state_of m) [] kept.ended stop new → (out' : K) → TookAll (of_sink gives taken faults out out') (piece_of (step (state_of m)))
+        → Answered (of_source reads left is_over lost first input) (of_sink gives taken faults old out') (k + 1) s stop new
+    plain_turn new stop t out' o =
+        one_turn [] kept.ended kept.given (sym (append-nil kept.given)) (λ e. (refl, e)) input kept.gave (λ e. asks_later k 1 s kept.given (kept.wanted e)) new stop t out' o
+
+    -- where a byte is asked for, it would be used
+    asks_here : (address : ℕ) (mid : Stand) → Does (state_of m) (step (state_of m)) (Read' address) mid → AsksForMore (k + 1) s kept.given
+    asks_here address mid h = asks kept.ended refl
+      where
+        asks : (e : Bool) → kept.ended ≡ e → AsksForMore (k + 1) s kept.given
+        asks true is byte = none_left k 1 (kept.given ++ (byte ∷ [])) s (kept.wanted is byte)
+        asks false is byte =
+            let i = kept.given ++ (byte ∷ []) in
+            let r = kept.stays i (followed kept.given kept.ended byte is) in
+            let rest : (run k i s).left ≡ byte ∷ [] = append_cancel_left kept.given _ _ (sym r.used_is) in
+            ap (λ x. x.left) (joined k i s m r.stands) ∙ ap (λ l. (run 1 l (state_of m)).left) rest ∙ byte_used (state_of m) address mid h byte
+
+    -- a turn in which a byte is asked for
+    pub read_turn : (address : ℕ) (mid new : Stand) → Does (state_of m) (step (state_of m)) (Read' address) mid
+        → (answer : Option ℕ) → IsAt new (given (state_of mid) answer) false false → (later : I) → GaveOne (of_source reads left is_over lost input later) answer
+        → Kept (k + 1) new later out
+    read_turn address mid new h (Some byte) at later one =
+        let going : kept.ended ≡ false = goes kept.ended refl in
+        let gave : GaveAll (of_source reads left is_over lost first input) kept.given false = subst (λ e. GaveAll (of_source reads left is_over lost first input) kept.given e) going kept.gave in
+        one_turn (byte ∷ []) false (kept.given ++ (byte ∷ [])) refl (λ e. let no : true ≡ false = sym e ∙ going in cc) later
+        (gave_byte reads left is_over lost first input later kept.given byte gave one) (λ e. cc) new Steps
+        (byte_turns (state_of m) address mid new byte false h at) out (took_none gives taken faults out (piece_of (step (state_of m))) (read_piece_is (state_of m) address mid h))
+      where
+        goes : (e : Bool) → kept.ended ≡ e → kept.ended ≡ false
+        goes false is = is
+        goes true is = let no = (one.over (kept.gave.over is)).0 in cc
+    read_turn address mid new h None at later one =
+        one_turn [] true kept.given (sym (append-nil kept.given)) (λ e. (refl, refl)) later
+        (gave_end reads left is_over lost first input later kept.given kept.ended kept.gave one) (λ e. asks_here address mid h) new Steps
+        (end_turns (state_of m) address mid new h at) out (took_none gives taken faults out (piece_of (step (state_of m))) (read_piece_is (state_of m) address mid h))
 
     -- a turn that ends the run
-    pub last_turn : (new : Stand) (left'' : Option (List ℕ)) (steps : ℕ) (stop : Stop) → k < steps → (stop ≡ Steps → ⊥) → Told left' (λ i. Stays (run 1 i (state_of m)) stop new left'') → TookAll (of_sink gives taken faults out out') (piece_of (step (state_of m)))
-        → Told left (λ i. Stays (run steps i s) stop new left'' × TookAll (of_sink gives taken faults old out') (pieces steps i s))
-    last_turn new left'' steps stop lt ended t o i e =
-        let h = one_turn new left'' stop t o i e in
-        let all : run steps i s ≡ run (k + 1) i s = all_steps steps k i s stop new lt ended h.0.stands in
-        let put : pieces steps i s ≡ pieces (k + 1) i s = all_put steps k i s stop new lt ended h.0.stands in
-        (subst (λ r. Stays r stop new left'') (sym all) h.0, subst (λ p. TookAll (of_sink gives taken faults old out') p) (sym put) h.1)
+    pub last_turn : (new : Stand) (steps : ℕ) (stop : Stop) → k < steps → (stop ≡ Steps → ⊥) → Turns (state_of m) [] kept.ended stop new → (out' : K) → TookAll (of_sink gives taken faults out out') (piece_of (step (state_of m)))
+        → Answered (of_source reads left is_over lost first input) (of_sink gives taken faults old out') steps s stop new
+    last_turn new steps stop lt ended t out' o =
+        let h = plain_turn new stop t out' o in
+        let within : k + 1 ≤ steps = omega arith in record {
+          given = h.given;
+          ended = h.ended;
+          gave = h.gave;
+          wanted = λ e. asks_within (k + 1) steps within s h.given (h.wanted e);
+          stays = λ i b. let y = h.stays i b in subst (λ r. Stays r i h.given stop new) (sym (all_steps steps k i s stop new lt ended y.stands)) y;
+          took = λ i b. subst (λ p. TookAll (of_sink gives taken faults old out') p) (sym (all_put steps k i s stop new lt ended (h.stays i b).stands)) (h.took i b);
+        }
 
-    -- a turn that fails
-    pub fault_turn : (steps : ℕ) (fault : Fault) → k < steps → faults old ≤ faults out → Broke fault (of_sink gives taken faults out out') (piece_of (step (state_of m))) → Told left (λ i. Broke fault (of_sink gives taken faults old out') (pieces steps i s))
-    fault_turn steps fault lt later b i e =
-        let h = kept i e in
+    due_in : (steps : ℕ) (fault : Fault) → k < steps → (out' : K) → faults old ≤ faults out → Broke fault (of_sink gives taken faults out out') (piece_of (step (state_of m)))
+        → (i : List ℕ) → BeginsWith kept.given kept.ended i → Broke fault (of_sink gives taken faults old out') (pieces steps i s)
+    due_in steps fault lt out' later b i c =
+        let h = kept.stays i c in
         let d = more_due steps k i s lt in
-        let due : (pieces k i s ++ piece_of (step (state_of m))) ++ d.0 ≡ pieces steps i s = ap (λ l. l ++ d.0) (sym (joined_pieces k i s m h.0.stands)) ∙ sym d.1 in
-        subst (λ p. Broke fault (of_sink gives taken faults old out') p) due (broke_join gives taken faults old out out' (pieces k i s) (piece_of (step (state_of m))) d.0 fault later h.1 b)
+        let due : (pieces k i s ++ piece_of (step (state_of m))) ++ d.0 ≡ pieces steps i s = ap (λ l. l ++ d.0) (sym (joined_pieces k i s m h.stands)) ∙ sym d.1 in
+        subst (λ p. Broke fault (of_sink gives taken faults old out') p) due (broke_join gives taken faults old out out' (pieces k i s) (piece_of (step (state_of m))) d.0 fault later (kept.took i c) b)
+
+    -- the bytes that were given so far are used within all steps
+    uses_in : (steps : ℕ) → k < steps → (i : List ℕ) → BeginsWith kept.given kept.ended i → length kept.given ≤ used i (run steps i s)
+    uses_in steps lt i b =
+        let u = input_is_used_in_order k (steps - k) i s in
+        let count : k + (steps - k) ≡ steps = omega arith in
+        let parts : length i ≡ length kept.given + length (run k i s).left = ap length (kept.stays i b).used_is ∙ length-append kept.given (run k i s).left in
+        let later : length u.0 + (length i - length (run k i s).left) ≡ length i - length (run steps i s).left = u.2 ∙ ap (λ n. length i - length (run n i s).left) count in
+        omega (arith, parts, later)
+
+    -- a turn in which the read fails
+    pub read_fails : (address : ℕ) (mid : Stand) → Does (state_of m) (step (state_of m)) (Read' address) mid → (steps : ℕ) → k < steps → faults old ≤ faults out → (last : I) → reads input 1 None last
+        → Interrupted (of_source reads left is_over lost first last) (of_sink gives taken faults old out) steps s Read
+    read_fails address mid h steps lt later last refused = record {
+      given = kept.given;
+      ended = kept.ended;
+      gave = record { last = input; gave = kept.gave; refused = refused };
+      wanted = λ e. let within : k + 1 ≤ steps = omega arith in asks_within (k + 1) steps within s kept.given (asks_here address mid h);
+      uses = uses_in steps lt;
+      puts = due_in steps Read lt out later (paused_none gives taken faults Read out (piece_of (step (state_of m))) refl);
+    }
+
+    -- a turn in which the put fails
+    pub put_fails : (steps : ℕ) → k < steps → faults old ≤ faults out → (out' : K) → Broke Write (of_sink gives taken faults out out') (piece_of (step (state_of m)))
+        → Interrupted (of_source reads left is_over lost first input) (of_sink gives taken faults old out') steps s Write
+    put_fails steps lt later out' b = record {
+      given = kept.given;
+      ended = kept.ended;
+      gave = kept.gave;
+      wanted = λ e. let within : k ≤ steps = omega arith in asks_within k steps within s kept.given (kept.wanted (met e));
+      uses = uses_in steps lt;
+      puts = due_in steps Write lt out' later b;
+    }
+      where
+        met : (kept.ended ≡ true) ⊎ (Write ≡ Read) → kept.ended ≡ true
+        met (inl e) = e
+        met (inr e) = cc

@@ -1,6 +1,7 @@
 -- One step of the machine as a run of one step.
-use Rattle.std.proofs.Common.{◌≡◌, ℕ, List, [], ◌∷◌, drop, Option, Some, true, false, refl, sym, ap, ◌∙◌, subst}
+use Rattle.std.proofs.Common.{◌≡◌, ℕ, List, [], ◌∷◌, drop, Option, Some, None, Bool, true, false, refl, sym, ap, ◌∙◌, subst}
 use Rattle.std.specs.Prelude.{slice_get}
+use Rattle.grin_io.specs.Changes.{BeginsWith}
 use Rattle.rv32_machine.specs.declared.machine.TrapKind.{TrapKind}
 use Rattle.rv32_machine.specs.declared.machine.Stop.{Stop}
 use Rattle.rv32_machine.specs.declared.machine.Stop.TheVariants.{Steps, Exit as Exit', Trap as Trap'}
@@ -87,32 +88,51 @@ trap_run s kind pc new h i = one i s ∙ ap (onward (run 0) i s) (trap_is s (ste
 
 -- ---- what a turn answers
 
+-- what one step of the machine does on each input that begins with the bytes that were given in it
+abbrev pub Turns : (s : State) → (more : List ℕ) → (ended : Bool) → Stop → (new : Stand) → Type 0
+Turns s more ended stop new = (left : List ℕ) → BeginsWith more ended left → Stays (run 1 left s) left more stop new
+
 -- a run that is another one
-pub stays_as : (r q : Run) (stop : Stop) (new : Stand) (left : Option (List ℕ)) → r ≡ q → Stays q stop new left → Stays r stop new left
-stays_as r q stop new left e h = subst (λ x. Stays x stop new left) (sym e) h
+stays_as : (r q : Run) (input given : List ℕ) (stop : Stop) (new : Stand) → r ≡ q → Stays q input given stop new → Stays r input given stop new
+stays_as r q input given stop new e h = subst (λ x. Stays x input given stop new) (sym e) h
 
-pub next_stays : (s : State) (new : Stand) (left : Option (List ℕ)) → Does s (step s) Next' new → (i : List ℕ) → left ≡ Some i → Stays (run 1 i s) Steps new left
-next_stays s new left h i e =
+pub next_turns : (s : State) (new : Stand) (ended : Bool) → Does s (step s) Next' new → Turns s [] ended Steps new
+next_turns s new ended h i b =
     let k = next_is s (step s) new h in
-    stays_as _ _ Steps new left (next_run s new h i) (record { stands = (refl, (refl, k.1, k.2)); left_is = e })
+    stays_as _ _ i [] Steps new (next_run s new h i) (record { stands = (refl, (refl, k.1, k.2)); used_is = refl })
 
-pub write_stays : (s : State) (a n : ℕ) (new : Stand) (left : Option (List ℕ)) → Does s (step s) (Write' a n) new → (i : List ℕ) → left ≡ Some i → Stays (run 1 i s) Steps new left
-write_stays s a n new left h i e =
+pub write_turns : (s : State) (a n : ℕ) (new : Stand) (ended : Bool) → Does s (step s) (Write' a n) new → Turns s [] ended Steps new
+write_turns s a n new ended h i b =
     let k = write_is s (step s) a n new h in
-    stays_as _ _ Steps new left (write_run s a n new k.0 h k.1.3 i) (record { stands = (refl, (refl, k.1.1, k.1.2)); left_is = e })
+    stays_as _ _ i [] Steps new (write_run s a n new k.0 h k.1.3 i) (record { stands = (refl, (refl, k.1.1, k.1.2)); used_is = refl })
 
-pub read_stays : (s : State) (a : ℕ) (mid new : Stand) (left : Option (List ℕ)) → Does s (step s) (Read' a) mid → (i : List ℕ) → IsAt new (given (state_of mid) (slice_get i 0)) false false → left ≡ Some (drop 1 i) → Stays (run 1 i s) Steps new left
-read_stays s a mid new left h i at e =
-    stays_as _ _ Steps new left (read_run s a mid h i) (record { stands = (refl, at); left_is = e })
+pub byte_turns : (s : State) (a : ℕ) (mid new : Stand) (byte : ℕ) (ended : Bool) → Does s (step s) (Read' a) mid → IsAt new (given (state_of mid) (Some byte)) false false → Turns s (byte ∷ []) ended Steps new
+byte_turns s a mid new byte ended h at i b =
+    let first : slice_get i 0 ≡ Some byte = ap (λ l. slice_get l 0) b.is_input in
+    let others : drop 1 i ≡ b.rest = ap (λ l. drop 1 l) b.is_input in
+    stays_as _ _ i (byte ∷ []) Steps new (read_run s a mid h i)
+    (record { stands = (refl, subst (λ o. IsAt new (given (state_of mid) o) false false) (sym first) at); used_is = b.is_input ∙ ap (λ l. byte ∷ l) (sym others) })
 
-pub exit_stays : (s : State) (code : ℕ) (new : Stand) (left : Option (List ℕ)) → Does s (step s) (Exit code) new → (i : List ℕ) → left ≡ Some i → Stays (run 1 i s) (Exit' code) new left
-exit_stays s code new left h i e =
-    stays_as _ _ (Exit' code) new left (exit_run s code new h i) (record { stands = (refl, (exit_is s (step s) code new h).1); left_is = e })
+pub end_turns : (s : State) (a : ℕ) (mid new : Stand) → Does s (step s) (Read' a) mid → IsAt new (given (state_of mid) None) false false → Turns s [] true Steps new
+end_turns s a mid new h at i b =
+    let none : i ≡ [] = b.is_input ∙ b.whole refl in
+    let first : slice_get i 0 ≡ None = ap (λ l. slice_get l 0) none in
+    let others : drop 1 i ≡ [] = ap (λ l. drop 1 l) none in
+    stays_as _ _ i [] Steps new (read_run s a mid h i)
+    (record { stands = (refl, subst (λ o. IsAt new (given (state_of mid) o) false false) (sym first) at); used_is = none ∙ sym others })
 
-pub trap_stays : (s : State) (kind : TrapKind) (pc : ℕ) (new : Stand) (left : Option (List ℕ)) → Does s (step s) (Trap kind pc) new → (i : List ℕ) → left ≡ Some i → Stays (run 1 i s) (Trap' kind pc) new left
-trap_stays s kind pc new left h i e =
+pub exit_turns : (s : State) (code : ℕ) (new : Stand) (ended : Bool) → Does s (step s) (Exit code) new → Turns s [] ended (Exit' code) new
+exit_turns s code new ended h i b =
+    stays_as _ _ i [] (Exit' code) new (exit_run s code new h i) (record { stands = (refl, (exit_is s (step s) code new h).1); used_is = refl })
+
+pub trap_turns : (s : State) (kind : TrapKind) (pc : ℕ) (new : Stand) (ended : Bool) → Does s (step s) (Trap kind pc) new → Turns s [] ended (Trap' kind pc) new
+trap_turns s kind pc new ended h i b =
     let k = trap_is s (step s) kind pc new h in
-    stays_as _ _ (Trap' kind pc) new left (trap_run s kind pc new h i) (record { stands = (ap (Trap' kind) k.1, k.2); left_is = e })
+    stays_as _ _ i [] (Trap' kind pc) new (trap_run s kind pc new h i) (record { stands = (ap (Trap' kind) k.1, k.2); used_is = refl })
+
+-- a step that asks for a byte uses the one that is left
+pub byte_used : (s : State) (a : ℕ) (mid : Stand) → Does s (step s) (Read' a) mid → (byte : ℕ) → (run 1 (byte ∷ []) s).left ≡ []
+byte_used s a mid h byte = ap (λ r. r.left) (read_run s a mid h (byte ∷ []))
 
 -- ---- what a turn puts
 

@@ -5,3 +5,4 @@ pub mod Decoded
 pub mod Steps
 pub mod Runs
 pub mod Plain
+pub mod OneByte

@@ -1,6 +1,9 @@
 -- Runs of a program: what it writes, what it reads, and where it stands after so many steps.
-use Rattle.std.specs.Prelude.{◌≡◌, ℕ, zero, suc, ◌+◌, ◌-◌, List, [], ◌∷◌, ◌++◌, length, drop, Bool, true, false, Option, Some, slice_get}
+use Rattle.std.specs.Prelude.{◌≡◌, ◌⊎◌, ℕ, zero, suc, ◌+◌, ◌-◌, ◌≤◌, List, [], ◌∷◌, ◌++◌, length, drop, Bool, true, false, Option, Some, slice_get}
 use Rattle.std.specs.List.{concat}
+use Rattle.grin_io.specs.Changes.{SourceChange, SinkChange, BeginsWith, GaveAll, GaveTo, TookAll, Broke}
+use Rattle.grin_io.specs.declared.outside.Fault.{Fault}
+use Rattle.grin_io.specs.declared.outside.Fault.TheVariants.{Read}
 use Rattle.rv32_machine.specs.declared.machine.Stop.{Stop}
 use Rattle.rv32_machine.specs.declared.machine.Stop.TheVariants.{Steps, Exit, Trap}
 use Rattle.rv32_machine.specs.declared.machine.TrapKind.{TrapKind}
@@ -80,10 +83,41 @@ is_end Steps = false
 is_end (Exit code) = true
 is_end (Trap kind pc) = true
 
--- the machine and the source stand where a run stands
-pub record Stays (r : Run) (stop : Stop) (new : Stand) (left : Option (List ℕ)) : Type 0 where
+-- the machine stands where a run stands, which used just these bytes of its input
+pub record Stays (r : Run) (input given : List ℕ) (stop : Stop) (new : Stand) : Type 0 where
   pub stands : StandsAt r.end stop new
-  pub left_is : left ≡ Some r.left
+  pub used_is : input ≡ given ++ r.left
+
+-- behind these bytes the run asks for one more: if there were one, it would use it too
+abbrev pub AsksForMore : (steps : ℕ) → State → (given : List ℕ) → Type 0
+AsksForMore steps s given = (byte : ℕ) → (run steps (given ++ (byte ∷ [])) s).left ≡ []
+
+-- A run from a source to a sink came to this stop. The source gave some bytes, one by one, and its
+-- end was met or not. Whatever the input is that begins with these bytes, and has no others where
+-- the end was met, the machine stands where the run on it stands, which used just these, and its
+-- pieces were put. The end was met only where the run asks for more.
+pub record Answered {I K : Type 0} (i : SourceChange I) (o : SinkChange K) (steps : ℕ) (s : State)
+    (stop : Stop) (new : Stand) : Type 0 where
+  pub given : List ℕ
+  pub ended : Bool
+  pub gave : GaveAll i given ended
+  pub wanted : ended ≡ true → AsksForMore steps s given
+  pub stays : (input : List ℕ) → BeginsWith given ended input
+      → Stays (run steps input s) input given stop new
+  pub took : (input : List ℕ) → BeginsWith given ended input → TookAll o (pieces steps input s)
+
+-- A run broke off at a fault of its source or its sink, which was the last call of them. On whatever
+-- input begins with the bytes that the source gave, the run uses these, and what was put was due. The
+-- end was met, or a read failed, only where the run asks for more.
+pub record Interrupted {I K : Type 0} (i : SourceChange I) (o : SinkChange K) (steps : ℕ)
+    (s : State) (fault : Fault) : Type 0 where
+  pub given : List ℕ
+  pub ended : Bool
+  pub gave : GaveTo fault i given ended
+  pub wanted : (ended ≡ true) ⊎ (fault ≡ Read) → AsksForMore steps s given
+  pub uses : (input : List ℕ) → BeginsWith given ended input
+      → length given ≤ used input (run steps input s)
+  pub puts : (input : List ℕ) → BeginsWith given ended input → Broke fault o (pieces steps input s)
 
 -- ---- laws
 

@@ -1,13 +1,14 @@
 //! Runs of a program, from a source of bytes to a sink.
 
-ghost use Rattle.std.specs.Prelude.{◌≡◌, ℕ, List, false, true, drop, slice_get, is_ok, IsSome, IfOk, IfErr, OnOk, OnErr};
+ghost use Rattle.std.specs.Prelude.{◌≡◌, ◌<◌, ℕ, List, [], ◌∷◌, Option, Some, None, false, true, is_ok, IsSome, IfOk, IfErr, OnOk, OnErr};
 ghost use Rattle.grin_io.specs.Causes.{HasCause};
 ghost use Rattle.grin_io.specs.Content.{Takes};
-ghost use Rattle.grin_io.specs.Changes.{Told, of_sink, of_source, TookAll, Broke, Faults};
+ghost use Rattle.grin_io.specs.Changes.{of_sink, of_source, Faults};
 ghost use Rattle.grin_io.specs.declared.outside.Fault.{Fault};
 ghost use Rattle.rv32_machine.specs.Memory.{range_bytes};
 ghost use Rattle.rv32_machine.specs.Steps.{IsRunning, IsAt, given, state_of};
-ghost use Rattle.rv32_machine.specs.Runs.{run, pieces, Stays, is_end};
+ghost use Rattle.rv32_machine.specs.Runs.{Answered, Interrupted, is_end};
+ghost use Rattle.rv32_machine.specs.OneByte.{GaveOne};
 ghost use Rattle.rv32_machine.specs.Plain.{Advances};
 
 use crate::machine::{Machine, StepResult, Stop};
@@ -16,6 +17,7 @@ use grin_io::{Failed, Fault, Sink, Source};
 impl Machine {
     /// Does at most `steps` instructions. Each byte that the program reads is one read of the
     /// source, and the bytes of each of its write calls are one put, also where there are none.
+    /// Whatever the source gives, it is on the bytes that it gave that the run answers.
     /// After `Steps` the program has not ended, and a later call goes on; after every other answer
     /// it is over, and a fault of the source or the sink is the last thing that was asked of them.
     pub fn run<I: Source, K: Sink>(
@@ -25,22 +27,20 @@ impl Machine {
         out: &mut K,
     ) -> Result<Stop, Fault>
         requires { IsRunning self.old }
-        ensures stands { IfOk result (λ stop.
-            Told (I.left input.old) (λ i.
-            Stays (run steps i (state_of self.old)) stop self.new (I.left input.new))) }
-        ensures output { OnOk result
-            (Told (I.left input.old) (λ i.
-            TookAll (of_sink K.put_gives K.taken K.faults out.old out.new)
-            (pieces steps i (state_of self.old)))) }
-        ensures fault { IfErr result (λ fault.
-            Told (I.left input.old) (λ i.
-            Broke fault (of_sink K.put_gives K.taken K.faults out.old out.new)
-            (pieces steps i (state_of self.old)))) }
-        ensures cause { Faults result (of_source I.left I.faults input.old input.new)
+        ensures answered { IfOk result (λ stop.
+            Answered (of_source I.read_gives I.left I.is_over I.faults input.old input.new)
+            (of_sink K.put_gives K.taken K.faults out.old out.new)
+            steps (state_of self.old) stop self.new) }
+        ensures interrupted { IfErr result (λ fault.
+            Interrupted (of_source I.read_gives I.left I.is_over I.faults input.old input.new)
+            (of_sink K.put_gives K.taken K.faults out.old out.new)
+            steps (state_of self.old) fault) }
+        ensures cause { Faults result
+            (of_source I.read_gives I.left I.is_over I.faults input.old input.new)
             (of_sink K.put_gives K.taken K.faults out.old out.new) }
         ensures ended { IfOk result (λ stop. self.new.over ≡ is_end stop) }
         ensures broken { OnErr result (self.new.over ≡ true) }
-        ensures answered { self.new.waiting ≡ false }
+        ensures waits_no_more { self.new.waiting ≡ false }
     {
         let mut left = steps;
         while left > 0 {
@@ -79,10 +79,11 @@ impl Machine {
     fn take_byte<I: Source>(&mut self, input: &mut I) -> Result<(), Fault>
         requires over { self.old.over ≡ false }
         requires waiting { self.old.waiting ≡ true }
-        ensures given { IfOk result (λ _.
-            Told (I.left input.old) (λ i.
-            IsAt self.new (given (state_of self.old) (slice_get i 0)) false false
-            × (I.left input.new ≡ Some (drop 1 i)))) }
+        ensures given { OnOk result ((answer : Option ℕ)
+            × IsAt self.new (given (state_of self.old) answer) false false
+            × GaveOne (of_source I.read_gives I.left I.is_over I.faults input.old input.new)
+            answer) }
+        ensures refused { OnErr result (I.read_gives input.old 1 None input.new) }
         ensures cause { HasCause (I.faults input.old) (I.faults input.new) result }
         ensures fault { IfErr result (λ fault. fault ≡ Fault.Read) }
         ensures running { OnOk result (IsRunning self.new) }
@@ -129,11 +130,19 @@ impl Machine {
 /// One byte of a source, or `None` at its end.
 fn next_byte<I: Source>(input: &mut I) -> Result<Option<u8>, Failed>
     ensures next { IfOk result (λ byte.
-        Told (I.left input.old) (λ i. (byte ≡ slice_get i 0)
-        × (I.left input.new ≡ Some (drop 1 i)))) }
+        GaveOne (of_source I.read_gives I.left I.is_over I.faults input.old input.new) byte) }
+    ensures refused { OnErr result (I.read_gives input.old 1 None input.new) }
     ensures cause { HasCause (I.faults input.old) (I.faults input.new) result }
 {
     let mut buf = [0];
     let count = input.read(&mut buf)?;
-    Ok(if count == 0 { None } else { Some(buf[0]) })
+    Ok(if count == 0 { None } else { Some(only(&buf)) })
+}
+
+/// The byte of a buffer of one.
+fn only(buf: &[u8; 1]) -> u8
+    ensures byte { buf.now ≡ result ∷ [] }
+    ensures small { result < 256 }
+{
+    buf[0]
 }

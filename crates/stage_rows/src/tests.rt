@@ -172,7 +172,8 @@ fn a_program_that_grows_too_large_has_no_later_stage(rt: HostRuntime) -> Result<
     let alloc = rt.alloc();
     let text = many_delayed(alloc, 120)?;
     let p = checked(alloc, text.as_str())?;
-    assert!(rt; stage(alloc, &p, PassName::Translate).is_ok());
+    // Its 122 functions, and the procedure that prints.
+    assert_eq!(rt; stage(alloc, &p, PassName::Translate)?.procs.len(), 123);
     assert!(rt;
         matches!(
             stage(alloc, &p, PassName::Eval),

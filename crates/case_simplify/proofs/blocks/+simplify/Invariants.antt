@@ -6,7 +6,7 @@ use Rattle.case_simplify.proofs.Loops.{Simplifies}
 use Rattle.case_simplify.proofs.blocks.+simplify.Given as goal
 
 abbrev pub invariant-simple_block-loop-stmt : goal.invariant-simple_block-loop-stmt
-invariant-simple_block-loop-stmt l = Simplifies (facts_of l.facts) l.stmts l.yielded
+invariant-simple_block-loop-stmt l = Simplifies l.initial.facts l.facts l.stmts l.yielded
 
 abbrev pub invariant-simple_alts-loop-alt : goal.invariant-simple_alts-loop-alt
-invariant-simple_alts-loop-alt l = map arm_of l.made ≡ map (simple_arm (facts_of l.facts) l.v) (map arm_of l.yielded)
+invariant-simple_alts-loop-alt l = record { some : map arm_of l.made ≡ map (simple_arm (facts_of l.initial.facts) l.v) (map arm_of l.yielded); same : l.facts ≡ l.initial.facts }

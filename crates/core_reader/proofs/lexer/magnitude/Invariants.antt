@@ -1,5 +1,5 @@
 use Rattle.std.proofs.Common.{◌≡◌, ◌≤◌, drop}
-use Rattle.core_reader.specs.Words.{digits_from}
+use Rattle.core_reader.specs.WordsOf.{digits_from}
 use Rattle.core_reader.proofs.lexer.magnitude.Given as goal
 
 abbrev pub invariant-loop-digit : goal.invariant-loop-digit

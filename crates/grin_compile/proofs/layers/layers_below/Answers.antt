@@ -50,7 +50,7 @@ returns c =
     let fits = c.in_ok-places.ensures.fits made.formed (few_parameters g l made.lowers) (few_results g l made.lowers) in
     let items = c.in_ok-asm.asm.items in
     let law = c.selected_items_do.ensures in
-    has_layers g c.args.cells c.args.stack (record { low = c.in_ok-low.low; places = a; code = c.in_ok-code.code }) items made.lowers small fits
+    has_layers g c.args.cells c.args.stack (record { low = c.in_ok-low.low; places = a; code = c.in_ok-code.code }) items made.formed made.lowers small fits
     (selects g l a c.args.cells c.args.stack given.lowerable made.formed made.lowers small fits given.sizes items law c.in_ok-asm.ensures.selected)
     c.in_ok-code.ensures.placed c.in_ok-code.ensures.decode
     (items_fit g l a c.args.cells c.args.stack given.lowerable made.formed made.lowers small fits given.sizes items law c.in_ok-asm.ensures.selected)

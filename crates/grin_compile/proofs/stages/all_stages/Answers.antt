@@ -26,4 +26,4 @@ returns-clause-stages c =
     let stages = c.in_ok-inlined.ensures.stages in
     has_stages c.vectorise_takes_inlined.ensures c.vectorised_is_slim.ensures c.one_expanded_size.ensures (program c.args.p.now) c.requires.valid
     c.in_ok-inlined.ensures.fits _ c.in_ok-inlined.ensures.stages.applied c.in_ok-inlined.ensures.stages.meaning c.in_ok-later.later c.in_ok-later.ensures _ c.sizes_of.ensures
-    _ _ _ stages.translated stages.evaluated _ refl c.last_slim-last.ensures
+    _ _ _ stages.translated stages.evaluated _ refl stages.formed c.last_slim-last.ensures

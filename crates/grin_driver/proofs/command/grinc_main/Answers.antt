@@ -12,6 +12,6 @@ returns-clause-complete g c = λ nothing_failed.
 pub returns-clause-memory : goal.returns-clause-memory
 returns-clause-memory g c = λ e.
     let f = of_shelf g.F.Shelf.content g.F.Shelf.faults c.args.shelf.now c.run_line-status.new.shelf in
-    let i = of_source g.I.Source.left g.I.Source.faults c.args.input.now c.run_line-status.new.input in
+    let i = of_source g.I.Source.read_gives g.I.Source.left g.I.Source.is_over g.I.Source.faults c.args.input.now c.run_line-status.new.input in
     let o = of_sink g.K.Sink.put_gives g.K.Sink.taken g.K.Sink.faults c.args.out.now c.run_line-status.new.out in
     memory_untouched f i o (command_of c.args.line.now) (subst (Answers f i o (command_of c.args.line.now)) e c.run_line-status.ensures.answer)

@@ -8,7 +8,7 @@ use Rattle.grin_driver.proofs.command.run_file.Goals as goal
 
 pub returns-in-Ok-clause-answer : goal.returns-in-Ok-clause-answer
 returns-in-Ok-clause-answer g c =
-    let i = of_source g.I.Source.left g.I.Source.faults c.args.input.now c.run_text.new.input in
+    let i = of_source g.I.Source.read_gives g.I.Source.left g.I.Source.is_over g.I.Source.faults c.args.input.now c.run_text.new.input in
     let o = of_sink g.K.Sink.put_gives g.K.Sink.taken g.K.Sink.faults c.args.out.now c.run_text.new.out in
     let says = λ (text : List ℕ). Outcome i o text c.args.options.cells c.args.options.stack c.args.steps c.run_text.result in
     inr (of_file (of_shelf g.F.Shelf.content g.F.Shelf.faults c.args.shelf.now c.read_file.new.shelf) 1048577 c.args.file.now c.in-Ok.text.items says

@@ -8,9 +8,9 @@ op-loop-alt-preserved t c =
       some = arm_resolves _ _ _ _ _ _ _ c.loop-alt.invariant.some c.in_ok-alt-in-Case.ensures.tree c.in_ok-alt-in-Case.ensures.table;
     })
 
-pub stmt-returns-in_ok-put-in-Some-clause-table : goal.stmt-returns-in_ok-put-in-Some-clause-table
-stmt-returns-in_ok-put-in-Some-clause-table t c =
-    copy_noted _ _ _ _ _ _ _ _ c.in-Bind.is c.alias_of.ensures c.in-Some.is c.word-word.ensures c.in_ok-put-in-Some.ensures
+pub stmt-returns-in_ok-put_all-in-Some-clause-table : goal.stmt-returns-in_ok-put_all-in-Some-clause-table
+stmt-returns-in_ok-put_all-in-Some-clause-table t c =
+    copy_noted _ _ _ _ _ _ _ _ c.in-Bind.is c.in_ok-copies-in-Bind.ensures c.in-Some.is c.as_slice.ensures c.in_ok-put_all-in-Some.ensures
 
 pub block-loop-stmt-preserved-in_ok-push-in-Some-2 : goal.block-loop-stmt-preserved-in_ok-push-in-Some-2
 block-loop-stmt-preserved-in_ok-push-in-Some-2 t c =

@@ -47,12 +47,12 @@ join-returns t c =
 
 pub end-returns-in_ok-last_give-in-Give : goal.end-returns-in_ok-last_give-in-Give
 end-returns-in_ok-last_give-in-Give t c =
-    subst (λ w. Ends c.args.text.now w c.args.end c.args.self.now c.args.holders.of.items c.last_give.new.self) (ap give c.as_slice.ensures ∙ sym (ap end_of c.in-Give.is ∙ end_of-Give c.in-Give.given))
+    subst (λ w. Ends c.args.text.now w c.args.end c.args.self.now c.args.holders.of.items c.last_give.new.self) (ap give c.as_slice-words.ensures ∙ sym (ap end_of c.in-Give.is ∙ end_of-Give c.in-Give.given))
     (c.in_ok-last_give-in-Give.ensures c.args.text.now c.args.end c.args.holders.of.items)
 
 pub end-returns-in_ok-last_call-in-Tail : goal.end-returns-in_ok-last_call-in-Tail
 end-returns-in_ok-last_call-in-Tail t c =
-    subst (λ w. Ends c.args.text.now w c.args.end c.args.self.now c.args.holders.of.items c.last_call.new.self) (ap (tail c.in-Tail.proc c.in-Tail.site) c.as_slice-in-Tail.ensures ∙ sym (ap end_of c.in-Tail.is ∙ end_of-Tail c.in-Tail.proc c.in-Tail.site c.in-Tail.given))
+    subst (λ w. Ends c.args.text.now w c.args.end c.args.self.now c.args.holders.of.items c.last_call.new.self) (ap (tail c.in-Tail.proc c.in-Tail.site) c.as_slice.ensures ∙ sym (ap end_of c.in-Tail.is ∙ end_of-Tail c.in-Tail.proc c.in-Tail.site c.in-Tail.given))
     (c.in_ok-last_call-in-Tail.ensures c.args.text.now c.args.end c.args.holders.of.items)
 
 pub end-returns-in_ok-block-in-Choose : goal.end-returns-in_ok-block-in-Choose

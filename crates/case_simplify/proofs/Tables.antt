@@ -1,0 +1,141 @@
+-- The table of what is known.
+use Rattle.std.proofs.Common.{◌≡◌, ℕ, zero, suc, ◌+◌, ◌<◌, ◌≤◌, Bool, true, false, cond, nat_eq, List, [], ◌∷◌, ◌++◌, take, length, get_or, Option, Some, None, slice_set, refl, sym, ap, ◌∙◌, subst, arith}
+use Rattle.std.proofs.lemmas.Bool.Decides.{nat_tests}
+use Rattle.std.proofs.lemmas.List.{get_or-set_same, get_or-set_other}
+use Rattle.seq.proofs.Lists.{append_nil, append_again, none_is_some}
+use Rattle.seq.proofs.Order.{eq_from, eq_self}
+use Rattle.seq.proofs.Truth.{not_both}
+use Rattle.grin_syntax.specs.declared.program.VarId.{VarId}
+use Rattle.case_simplify.specs.declared.known.Fact.{Fact}
+use Rattle.case_simplify.specs.Known.{Known, Facts, nothing_known, note, and_facts, facts_of}
+use Rattle.case_simplify.specs.Table.{EachBefore, TableOf, Adds}
+
+-- ---- one fact more
+
+and_push : (fs : List Fact) (f : Fact) (facts : Facts) → and_facts facts (fs ++ f ∷ []) ≡ note f.var f.known (and_facts facts fs)
+and_push [] f facts = refl
+and_push (e ∷ fs) f facts = and_push fs f _
+
+pub facts_push : (fs more : List Fact) (f : Fact) → more ≡ fs ++ f ∷ [] → facts_of more ≡ note f.var f.known (facts_of fs)
+facts_push fs more f e = ap facts_of e ∙ and_push fs f _
+
+before_push : (fs : List Fact) (f : Fact) (facts : Facts) → EachBefore facts fs → f.before ≡ and_facts facts fs f.var.0 → EachBefore facts (fs ++ f ∷ [])
+before_push [] f facts h e = (e, tt)
+before_push (g ∷ fs) f facts h e = (h.0, before_push fs f _ h.1 e)
+
+before_front : (fs : List Fact) (f : Fact) (facts : Facts) → EachBefore facts (fs ++ f ∷ []) → EachBefore facts fs × (f.before ≡ and_facts facts fs f.var.0)
+before_front [] f facts h = (tt, h.0)
+before_front (g ∷ fs) f facts h = let z : EachBefore (note g.var g.known facts) fs × (f.before ≡ and_facts (note g.var g.known facts) fs f.var.0) = before_front fs f _ h.1 in ((h.0, z.0), z.1)
+
+-- ---- the table
+
+pub table_none : TableOf [] []
+table_none = record { by = λ x. refl; before = tt }
+
+none_past : (table : List (Option Known)) (x : ℕ) → get_or (table ++ None ∷ []) x None ≡ get_or table x None
+none_past [] zero = refl
+none_past [] (suc x) = refl
+none_past (o ∷ table) zero = refl
+none_past (o ∷ table) (suc x) = none_past table x
+
+pub table_longer : (fs : List Fact) (table : List (Option Known)) → TableOf fs table → TableOf fs (table ++ None ∷ [])
+table_longer fs table h = record { by = λ x. none_past table x ∙ h.by x; before = h.before }
+
+other_entry : (x y : ℕ) → nat_eq y x ≡ false → y ≡ x → ⊥
+other_entry x y q s = let t : nat_eq y x ≡ true = grind (arith, nat_tests) in not_both (nat_eq y x) t q
+
+pub table_next : (fs more : List Fact) (table : List (Option Known)) (x : VarId) (k : Known) (before : Option Known) → TableOf fs table → x.0 < length table → before ≡ facts_of fs x.0
+    → more ≡ fs ++ record { var = x; known = k; before = before } ∷ [] → TableOf more (slice_set table x.0 (Some k))
+table_next fs more table x k before h lt e n = subst (λ l. TableOf l (slice_set table x.0 (Some k))) (sym n) (record {
+  by = λ y. go y (nat_eq y x.0) refl ∙ ap (λ f. f y) (sym (and_push fs (record { var = x; known = k; before = before }) nothing_known));
+  before = before_push fs (record { var = x; known = k; before = before }) nothing_known h.before e;
+})
+  where
+    go : (y : ℕ) (b : Bool) → nat_eq y x.0 ≡ b → get_or (slice_set table x.0 (Some k)) y None ≡ cond b (Some k) (facts_of fs y)
+    go y true q = ap (λ z. get_or (slice_set table x.0 (Some k)) z None) (eq_from y x.0 q) ∙ get_or-set_same table x.0 (Some k) None lt
+    go y false q = get_or-set_other table x.0 y (Some k) None (other_entry x.0 y q) ∙ h.by y
+
+pub adds_one : (fs more : List Fact) (f : Fact) → more ≡ fs ++ f ∷ [] → Adds fs more
+adds_one fs more f e = record { more = f ∷ []; is = e }
+
+some_within : (table : List (Option Known)) (x : ℕ) (k : Known) → get_or table x None ≡ Some k → x < length table
+some_within [] x k e = none_is_some e
+some_within (o ∷ table) zero k e = omega arith
+some_within (o ∷ table) (suc x) k e = let h : x < length table = some_within table x k e in omega (arith, h)
+
+pop_within : (fs : List Fact) (f : Fact) (table : List (Option Known)) → TableOf (fs ++ f ∷ []) table → f.var.0 < length table
+pop_within fs f table h = some_within table f.var.0 f.known (h.by f.var.0 ∙ ap (λ g. g f.var.0) (and_push fs f nothing_known) ∙ ap (λ b. cond b (Some f.known) (facts_of fs f.var.0)) (eq_self f.var.0))
+
+table_popped : (fs : List Fact) (f : Fact) (table : List (Option Known)) → TableOf (fs ++ f ∷ []) table → TableOf fs (slice_set table f.var.0 f.before)
+table_popped fs f table h =
+    let z : EachBefore nothing_known fs × (f.before ≡ facts_of fs f.var.0) = before_front fs f nothing_known h.before in
+    record { by = λ y. go z.1 y (nat_eq y f.var.0) refl; before = z.0 }
+  where
+    go : f.before ≡ facts_of fs f.var.0 → (y : ℕ) (b : Bool) → nat_eq y f.var.0 ≡ b → get_or (slice_set table f.var.0 f.before) y None ≡ facts_of fs y
+    go e y true q =
+        ap (λ z. get_or (slice_set table f.var.0 f.before) z None) (eq_from y f.var.0 q) ∙ get_or-set_same table f.var.0 f.before None (pop_within fs f table h) ∙ e ∙ ap (facts_of fs) (sym (eq_from y f.var.0 q))
+    go e y false q =
+        get_or-set_other table f.var.0 y f.before None (other_entry f.var.0 y q) ∙ h.by y ∙ ap (λ g. g y) (and_push fs f nothing_known) ∙ ap (λ b. cond b (Some f.known) (facts_of fs y)) q
+
+-- ---- the first facts stay
+
+-- while the others go
+pub record Keeping (init : List Fact) (count counter : ℕ) (fs : List Fact) (table : List (Option Known)) : Type 0 where
+  pub many : length fs + counter ≡ length init + count
+  pub same : take count fs ≡ take count init
+  pub table_is : TableOf fs table
+
+pub keeping : (init : List Fact) (count : ℕ) (table : List (Option Known)) → TableOf init table → Keeping init count count init table
+keeping init count table h = record { many = refl; same = refl; table_is = h }
+
+longer : (fs : List Fact) (f : Fact) → length (fs ++ f ∷ []) ≡ length fs + 1
+longer [] f = refl
+longer (g ∷ fs) f = let h : length (fs ++ f ∷ []) ≡ length fs + 1 = longer fs f in omega (arith, h)
+
+take_front : (count : ℕ) (fs : List Fact) (f : Fact) → count ≤ length fs → take count (fs ++ f ∷ []) ≡ take count fs
+take_front zero [] f h = refl
+take_front zero (g ∷ fs) f h = refl
+take_front (suc count) [] f h = absurd (omega (arith, h))
+take_front (suc count) (g ∷ fs) f h = ap (λ l. g ∷ l) (take_front count fs f (omega (arith, h)))
+
+pub keep_within : (init fs rest : List Fact) (f : Fact) (count counter : ℕ) (table : List (Option Known)) → fs ≡ rest ++ f ∷ [] → Keeping init count counter fs table → f.var.0 < length table
+keep_within init fs rest f count counter table e h = pop_within rest f table (subst (λ l. TableOf l table) e h.table_is)
+
+pub keep_next : (init fs rest : List Fact) (f : Fact) (count counter : ℕ) (table : List (Option Known)) → counter < length init → fs ≡ rest ++ f ∷ [] → Keeping init count counter fs table
+    → Keeping init count (counter + 1) rest (slice_set table f.var.0 f.before)
+keep_next init fs rest f count counter table lt e h =
+    let l : length fs ≡ length rest + 1 = ap length e ∙ longer rest f in
+    record {
+      many = (let m : length fs + counter ≡ length init + count = h.many in omega (arith, l, m));
+      same = sym (ap (take count) e ∙ take_front count rest f (let m : length fs + counter ≡ length init + count = h.many in omega (arith, l, m, lt))) ∙ h.same;
+      table_is = table_popped rest f table (subst (λ l. TableOf l table) e h.table_is);
+    }
+
+pub keep_none : {A : Type 0} (init fs : List Fact) (count counter : ℕ) (table : List (Option Known)) → counter < length init → fs ≡ [] → Keeping init count counter fs table → A
+keep_none init fs count counter table lt e h = let m : length fs + counter ≡ length init + count = h.many in let z : length fs ≡ 0 = ap length e in absurd (omega (arith, m, z, lt))
+
+take_all_of : (count : ℕ) (fs : List Fact) → length fs ≤ count → take count fs ≡ fs
+take_all_of zero [] h = refl
+take_all_of (suc count) [] h = refl
+take_all_of zero (f ∷ fs) h = absurd (omega (arith, h))
+take_all_of (suc count) (f ∷ fs) h = ap (λ l. f ∷ l) (take_all_of count fs (omega (arith, h)))
+
+pub keep_done : (init fs : List Fact) (count counter : ℕ) (table : List (Option Known)) → length init ≤ counter → Keeping init count counter fs table → fs ≡ take count init
+keep_done init fs count counter table le h = sym (take_all_of count fs (let m : length fs + counter ≡ length init + count = h.many in omega (arith, m, le))) ∙ h.same
+
+-- ---- facts that were added
+
+pub adds_none : (fs : List Fact) → Adds fs fs
+adds_none fs = record { more = []; is = sym (append_nil fs) }
+
+pub adds_again : (a b c : List Fact) → Adds a b → Adds b c → Adds a c
+adds_again a b c h k = record { more = h.more ++ k.more; is = k.is ∙ ap (λ l. l ++ k.more) h.is ∙ append_again a h.more k.more }
+
+take_first : (fs more : List Fact) → take (length fs) (fs ++ more) ≡ fs
+take_first [] [] = refl
+take_first [] (f ∷ more) = refl
+take_first (f ∷ fs) more = ap (λ l. f ∷ l) (take_first fs more)
+
+-- they go again
+pub adds_back : (old now new : List Fact) (count : ℕ) → Adds old now → count ≡ length old → new ≡ take count now → new ≡ old
+adds_back old now new count h n e = e ∙ (λ i. take (n i) (h.is i)) ∙ take_first old h.more

@@ -1,0 +1,268 @@
+//! Lines by command, with the edges of each number and the ways to write an option.
+
+use command_line::{Command, Line, Listing};
+use std::alloc::{AllocError, Global};
+use std::test::Fail;
+
+/// The line that has these words, which stand one space apart.
+fn line_of(alloc: Global, words: &str) -> Result<Line, AllocError> {
+    let mut line = Line::new(alloc);
+    for word in words.split(' ') {
+        line.add(word)?;
+    }
+    Ok(line)
+}
+
+/// `exec a` with a number of instructions.
+const fn exec_a(steps: u64) -> Option<Command<'static>> {
+    Some(Command::Exec { image: "a", steps })
+}
+
+#[test]
+fn lines_of_exec(rt: HostRuntime) -> Result<(), Fail> {
+    let rows = [
+        ("grinc exec a", exec_a(1_000_000_000)),
+        ("grinc exec a --steps 7", exec_a(7)),
+        ("grinc exec --steps 7 a", exec_a(7)),
+        ("grinc exec a --steps=7", exec_a(7)),
+        ("grinc exec --steps=7 a", exec_a(7)),
+        ("grinc exec --steps=7 -- a", exec_a(7)),
+        ("grinc exec --steps=0007 -- a", exec_a(7)),
+        ("grinc exec -- a --steps 7", None),
+        ("grinc exec --steps -- 7 a", None),
+        ("grinc exec a --steps", None),
+        ("grinc exec a --steps=", None),
+        ("grinc exec a --steps 0", None),
+        ("grinc exec a --steps 1", exec_a(1)),
+        (
+            "grinc exec a --steps 1000000000000",
+            exec_a(1_000_000_000_000),
+        ),
+        ("grinc exec a --steps 1000000000001", None),
+        ("grinc exec a --steps 00000000000000000007", exec_a(7)),
+        ("grinc exec a --steps 000000000000000000007", None),
+        ("grinc exec a --steps 18446744073709551617", None),
+        ("grinc exec a --steps 99999999999999999999", None),
+        ("grinc exec a --steps +7", None),
+        ("grinc exec a --steps -7", None),
+        ("grinc exec a --steps=-7", None),
+        ("grinc exec a --steps=7=7", None),
+        ("grinc exec a --steps 7a", None),
+        ("grinc exec a --steps 7 --steps 7", None),
+        ("grinc exec a --steps=7 --steps 7", None),
+        ("grinc exec a -steps 7", None),
+        ("grinc exec a --step 7", None),
+        ("grinc exec a --=7", None),
+        ("grinc exec a --after read", None),
+    ];
+    for (words, want) in rows {
+        let line = line_of(rt.alloc(), words)?;
+        assert_eq!(rt; line.command(), want, "{words}");
+    }
+    Ok(())
+}
+
+/// `run` with a file and nothing else.
+const fn run(file: &'static str) -> Option<Command<'static>> {
+    Some(Command::Run {
+        file,
+        cells: 1_000_000,
+        stack: 1_048_576,
+        steps: 1_000_000_000,
+    })
+}
+
+/// `run a` with a number of cells, of bytes of the stack and of instructions.
+const fn run_a(cells: u32, stack: u32, steps: u64) -> Option<Command<'static>> {
+    Some(Command::Run {
+        file: "a",
+        cells,
+        stack,
+        steps,
+    })
+}
+
+#[test]
+fn lines_of_run(rt: HostRuntime) -> Result<(), Fail> {
+    let rows = [
+        ("grinc run a", run_a(1_000_000, 1_048_576, 1_000_000_000)),
+        (
+            "grinc run --heap=0007 -- a",
+            run_a(7, 1_048_576, 1_000_000_000),
+        ),
+        ("grinc run a --steps 1", run_a(1_000_000, 1_048_576, 1)),
+        (
+            "grinc run --steps=2 a --heap 3 --stack 1026",
+            run_a(3, 1_026, 2),
+        ),
+        (
+            "grinc run --heap 1 --stack 1024 a --steps 1",
+            run_a(1, 1_024, 1),
+        ),
+        (
+            "grinc run --heap 8000000 --stack 67108864 --steps 1000000000000 a",
+            run_a(8_000_000, 67_108_864, 1_000_000_000_000),
+        ),
+        ("grinc run --heap 0 a", None),
+        ("grinc run --heap 8000001 a", None),
+        ("grinc run --heap 4294967297 a", None),
+        ("grinc run --stack 1023 a", None),
+        ("grinc run --stack 67108865 a", None),
+        ("grinc run --steps 0 a", None),
+        ("grinc run --steps 1000000000001 a", None),
+        ("grinc run", None),
+        ("grinc run a b", None),
+        ("grinc run --heap 1", None),
+        ("grinc run a --heap", None),
+        ("grinc run --heap 1 --heap 1 a", None),
+        ("grinc run --stack 1024 --stack=1024 a", None),
+        ("grinc run --steps 1 a --steps 1", None),
+        ("grinc run --heaps 1 a", None),
+        ("grinc run a --after read", None),
+    ];
+    for (words, want) in rows {
+        let line = line_of(rt.alloc(), words)?;
+        assert_eq!(rt; line.command(), want, "{words}");
+    }
+    Ok(())
+}
+
+/// `build a` with a number of cells and of bytes of the stack.
+const fn build_a(cells: u32, stack: u32) -> Option<Command<'static>> {
+    Some(Command::Build {
+        file: "a",
+        cells,
+        stack,
+    })
+}
+
+#[test]
+fn lines_of_build(rt: HostRuntime) -> Result<(), Fail> {
+    let rows = [
+        ("grinc build a", build_a(1_000_000, 1_048_576)),
+        ("grinc build --heap=0007 -- a", build_a(7, 1_048_576)),
+        ("grinc build a --stack 1026", build_a(1_000_000, 1_026)),
+        ("grinc build --stack 1024 a --heap 1", build_a(1, 1_024)),
+        (
+            "grinc build --heap 8000000 --stack 67108864 a",
+            build_a(8_000_000, 67_108_864),
+        ),
+        ("grinc build --heap 0 a", None),
+        ("grinc build --heap 8000001 a", None),
+        ("grinc build --stack 1023 a", None),
+        ("grinc build --stack 67108865 a", None),
+        ("grinc build", None),
+        ("grinc build a b", None),
+        ("grinc build --heap 1", None),
+        ("grinc build a --steps 1", None),
+        ("grinc build a --after code", None),
+        ("grinc build --heap 1 --heap 1 a", None),
+        ("grinc build --stack 1024 a --stack=1024", None),
+    ];
+    for (words, want) in rows {
+        let line = line_of(rt.alloc(), words)?;
+        assert_eq!(rt; line.command(), want, "{words}");
+    }
+    Ok(())
+}
+
+/// `gen` with a seed and a size.
+const fn gen_of(seed: u32, size: u32) -> Option<Command<'static>> {
+    Some(Command::Gen { seed, size })
+}
+
+#[test]
+fn lines_of_gen(rt: HostRuntime) -> Result<(), Fail> {
+    let rows = [
+        ("grinc gen --seed 1 --size 2", gen_of(1, 2)),
+        (
+            "grinc gen --size=200 --seed=2147483647",
+            gen_of(2_147_483_647, 200),
+        ),
+        ("grinc gen --seed 0 --size 1 --", gen_of(0, 1)),
+        ("grinc gen --seed 1", None),
+        ("grinc gen --size 2", None),
+        ("grinc gen", None),
+        ("grinc gen a --seed 1 --size 2", None),
+        ("grinc gen --seed 1 --size 2 -- a", None),
+        ("grinc gen --seed 2147483648 --size 2", None),
+        ("grinc gen --seed 1 --size 0", None),
+        ("grinc gen --seed 1 --size 201", None),
+        ("grinc gen --seed 1 --seed 1 --size 2", None),
+        ("grinc gen --seed 1 --size 2 --steps 1", None),
+        ("grinc run a --seed 1", None),
+        ("grinc check a --size 1", None),
+    ];
+    for (words, want) in rows {
+        let line = line_of(rt.alloc(), words)?;
+        assert_eq!(rt; line.command(), want, "{words}");
+    }
+    Ok(())
+}
+
+/// `list a` with a pass.
+const fn list_a(after: Listing) -> Option<Command<'static>> {
+    Some(Command::List { file: "a", after })
+}
+
+#[test]
+fn other_lines(rt: HostRuntime) -> Result<(), Fail> {
+    let rows = [
+        ("grinc run a", run("a")),
+        ("anything run a", run("a")),
+        (" run a", run("a")),
+        ("run a", None),
+        ("grinc", None),
+        ("grinc ", None),
+        ("grinc Run a", None),
+        ("grinc --help", None),
+        ("grinc run  a", None),
+        ("grinc run a ", None),
+        ("grinc run -", run("-")),
+        ("grinc run -a", None),
+        ("grinc run --", None),
+        ("grinc run --a", None),
+        ("grinc run -- a", run("a")),
+        ("grinc run a --", run("a")),
+        ("grinc run -- -a", run("-a")),
+        ("grinc run -- --", run("--")),
+        ("grinc run -- a -- b", None),
+        (
+            "grinc exec -- --steps",
+            Some(Command::Exec {
+                image: "--steps",
+                steps: 1_000_000_000,
+            }),
+        ),
+        ("grinc check a", Some(Command::Check { file: "a" })),
+        ("grinc check --steps=1 a", None),
+        ("grinc check --heap 1 a", None),
+        ("grinc exec --stack 1024 a", None),
+        ("grinc list a --after read", list_a(Listing::Read)),
+        ("grinc list --after translate a", list_a(Listing::Translate)),
+        ("grinc list --after=eval a", list_a(Listing::Eval)),
+        ("grinc list --after=apply -- a", list_a(Listing::Apply)),
+        ("grinc list a --after vectorise", list_a(Listing::Vectorise)),
+        ("grinc list a --after simplify", list_a(Listing::Simplify)),
+        ("grinc list a --after fetch", list_a(Listing::Fetch)),
+        ("grinc list a --after copy", list_a(Listing::Copy)),
+        ("grinc list a --after update", list_a(Listing::Update)),
+        ("grinc list a --after unbox", list_a(Listing::Unbox)),
+        ("grinc list a --after raise", list_a(Listing::Raise)),
+        ("grinc list --after code a", list_a(Listing::Code)),
+        ("grinc list a", None),
+        ("grinc list a --after", None),
+        ("grinc list a --after=", None),
+        ("grinc list a --after dead", None),
+        ("grinc list a --after read --steps 1", None),
+        ("grinc list a --after read --heap 1", None),
+        ("grinc list a --after=read --after read", None),
+        ("grinc list a --after code --stack 1024", None),
+        ("grinc gen a", None),
+    ];
+    for (words, want) in rows {
+        let line = line_of(rt.alloc(), words)?;
+        assert_eq!(rt; line.command(), want, "{words}");
+    }
+    Ok(())
+}
