@@ -22,5 +22,6 @@ mod Normals
 mod Finish
 mod Exists
 mod Excluded
+pub mod Carried
 pub mod Flats
 pub mod NoFaults

@@ -6,7 +6,7 @@ use Rattle.std.specs.Str.{bytes_eq}
 use Rattle.command_line.specs.Numbers.{number_within}
 use Rattle.command_line.specs.Parts.{Part, Setting, Operand, parts_of}
 use Rattle.command_line.specs.declared.command.Listing.{Listing}
-use Rattle.command_line.specs.declared.command.Listing.TheVariants.{Read, Translate, Eval, Apply, Vectorise, Simplify, Fetch, Copy, Update, Unbox, Raise, Code}
+use Rattle.command_line.specs.declared.command.Listing.TheVariants.{Read, Translate, Eval, Apply, Vectorise, Simplify, Fetch, Copy, Update, Unbox, Raise, Dead, Code}
 use Rattle.command_line.specs.declared.command.Command.{Command}
 use Rattle.command_line.specs.declared.command.Command.TheVariants.{Run, Check, List as Listed, Build, Exec, Gen}
 
@@ -42,8 +42,9 @@ listing_of word =
     else (if bytes_eq word (codes "update") then Some Update
     else (if bytes_eq word (codes "unbox") then Some Unbox
     else (if bytes_eq word (codes "raise") then Some Raise
+    else (if bytes_eq word (codes "dead") then Some Dead
     else (if bytes_eq word (codes "code") then Some Code
-    else None)))))))))))
+    else None))))))))))))
 
 -- the operands of the parts, in order
 abbrev pub operands : List Part → List (List ℕ)

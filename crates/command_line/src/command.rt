@@ -34,6 +34,8 @@ pub enum Listing {
     Unbox,
     /// The program whose procedures take words in place of the node in which they stand.
     Raise,
+    /// The program without cells that nothing reads.
+    Dead,
     /// The code of its image.
     Code,
 }
@@ -96,6 +98,7 @@ impl Listing {
             "update" => Some(Listing::Update),
             "unbox" => Some(Listing::Unbox),
             "raise" => Some(Listing::Raise),
+            "dead" => Some(Listing::Dead),
             "code" => Some(Listing::Code),
             _ => None,
         }

@@ -49,7 +49,7 @@ fn last_stage(alloc: Global, p: &Checked) -> Result<Grin, Fail>
     // A law: vectorising takes what is inlined.
     vectorise_takes_inlined();
     let inlined = stage(alloc, p, PassName::Apply)?;
-    let last = stage(alloc, p, PassName::Raise)?;
+    let last = stage(alloc, p, PassName::Dead)?;
     let small = is_small(&last, sizes_of(&inlined));
     if !small {
         return Err("the last stage is too large".into());

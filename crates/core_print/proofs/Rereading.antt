@@ -4,6 +4,7 @@ use Rattle.std.specs.Prelude.{codes, ◌||◌, slice_get}
 use Rattle.std.proofs.Math.Seq.{take-append_seam, take-append-add}
 use Rattle.seq.proofs.Truth.{and_not_right}
 use Rattle.seq.proofs.Lists.{drop_before}
+use Rattle.core_reader.specs.declared.dialect.Dialect.TheVariants as dialect
 use Rattle.core_reader.specs.declared.look.Kind.{Kind}
 use Rattle.core_reader.specs.declared.look.Kind.TheVariants.{Lower, Upper, Digits, Sign}
 use Rattle.core_reader.specs.declared.look.Sign.TheVariants as signs
@@ -210,7 +211,7 @@ both_mean P Q names us vs p q h = record {
   behind = map (said names) vs;
   first = p (held_front names us vs h);
   second = q (held_behind names us vs h);
-  whole = map_parts names us vs;
+  whole = map_parts dialect.Core names us vs;
 }
 
 pub both : (P Q : Meaning) (x y : List ℕ) → Apart y → Back P x → Back Q y → Back (Both P Q) (x ++ y)

@@ -7,6 +7,7 @@ use Rattle.std.proofs.lemmas.Int.{ints}
 use Rattle.std.proofs.lemmas.List.{append-nil}
 use Rattle.std.proofs.lemmas.List.Elements.{All-head, All-tail}
 use Rattle.std.proofs.Math.Nat.{le-max_left, le-max_right}
+use Rattle.core_reader.specs.declared.dialect.Dialect.TheVariants as dialect
 use Rattle.core_reader.specs.declared.look.Kind.TheVariants.{Lower, Digits}
 use Rattle.core_reader.specs.declared.token.Token.TheVariants as word
 use Rattle.core_reader.specs.declared.syntax.Core.{Core}
@@ -24,7 +25,7 @@ use Rattle.core_print.specs.Canonical.{name_text, binders_text, expr_text, data_
 use Rattle.core_print.specs.Depth.{expr_depth, functions_depth, program_depth}
 use Rattle.core_print.specs.Same.{SameData, SameFunction, SameProgram}
 use Rattle.core_print.specs.Laws.{CanonicalStands, IsMemory, IsSameAgain}
-use Rattle.core_reader.proofs.Causes.{Clear, unbroken}
+use Rattle.core_reader.proofs.FirstBroken.{Clear, unbroken}
 use Rattle.core_reader.proofs.Naming.{Texts, each_held}
 use Rattle.core_print.proofs.Numerals.{count_numeral}
 use Rattle.core_reader.proofs.OnlyOne.{one_program}
@@ -169,7 +170,7 @@ canonical_stands p r short shallow =
     let tokens : IsTokens text pieces = subst (λ n. Reads 0 text pieces n []) end whole in
     let some : IsProgram anywhere q pieces = record { names = refl; decls = m.0; constructors = refl; functions = refl; spelled = m.1 anywhere everywhere } in
     let few : IsProgram at_most_200 q pieces = record { names = refl; decls = m.0; constructors = refl; functions = refl; spelled = m.1 at_most_200 below_200 } in
-    let clear : Clear pieces = record {
+    let clear : Clear dialect.Core IsProgram pieces = record {
       some = record { rest = []; whole = q; is_program = subst (IsProgram anywhere q) (sym (append-nil pieces)) some };
       shallow = record { rest = []; whole = q; is_program = subst (IsProgram at_most_200 q) (sym (append-nil pieces)) few };
       small = back.small;

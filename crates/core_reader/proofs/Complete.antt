@@ -1,5 +1,5 @@
--- What spells a program is read as that program.
-use Rattle.std.proofs.Common.{◌≡◌, ℕ, suc, false, cond, List, [], ◌∷◌, ◌++◌, Ok, refl, sym, ap, subst, ◌∙◌, append_assoc, inl, inr}
+-- What spells an expression is read as that expression.
+use Rattle.std.proofs.Common.{◌≡◌, ℕ, suc, false, cond, List, [], ◌∷◌, ◌++◌, refl, sym, ap, subst, ◌∙◌, append_assoc, inl, inr}
 use Rattle.std.proofs.lemmas.List.{append-nil}
 use Rattle.core_reader.specs.declared.syntax.NameId.{NameId}
 use Rattle.core_reader.specs.declared.syntax.Binder.{Binder}
@@ -11,8 +11,9 @@ use Rattle.core_reader.specs.declared.token.Lexeme.{Lexeme}
 use Rattle.core_reader.specs.declared.refusal.ReadRefusal.TheVariants.{TooDeep}
 use Rattle.core_reader.specs.Tree.{Term, Terms, NoTerms, AndTerm, Application, Bind, Expr, App, Let, Case, Alts, NoAlts, AndAlt, Data, Function}
 use Rattle.core_reader.specs.Tree as tree
-use Rattle.core_reader.specs.Grammar.{Room, lexeme, name_id, SpellsTerm, SpellsTerms, binders, SpellsBind, AfterBind, SpellsBinds, IsGroup, IsSomeAlts, AfterAlt, SpellsPattern, SpellsExpr, SpellsAlts, Decl, Declares, Defines, SpellsDecl, SpellsDecls}
-use Rattle.core_reader.specs.Machine.{Cont, InFunction, LetBody, Scrutinee, AltBody, nests, Frame, InBody, InBind, Inside, opens, BindName, Ended, AltStart, AltNames, give, starts_atom, Top, Params, Apply, go, stop, step, follow, run, with_last, ◌⊹◌, applied}
+use Rattle.core_reader.specs.Grammar.{Room, lexeme, SpellsTerm, SpellsTerms, binders, SpellsBind, AfterBind, SpellsBinds, IsGroup, IsSomeAlts, AfterAlt, SpellsPattern, SpellsExpr, SpellsAlts}
+use Rattle.core_reader.specs.Machine.{Cont, LetBody, Scrutinee, AltBody, nests, Frame, InBody, InBind, Inside, opens, BindName, Ended, AltStart, AltNames, give, starts_atom, Apply, go, stop, step, follow, run, with_last, ◌⊹◌, applied}
+use Rattle.core_reader.proofs.ReadingOf.{takes_names, reads_names}
 
 infixr 20 ◌⧺◌
 abbrev pub ◌⧺◌ : Terms → Terms → Terms
@@ -46,7 +47,7 @@ mutual
       let close = lexeme h.2 word.Close ∷ [] in
       let regroup : (us ++ (vs ++ close)) ++ rest ≡ us ++ (vs ++ (close ++ rest)) = simp append_assoc in
       let opened : run l (Apply k held) (ts ++ rest) ≡ run l (Apply (Inside k held at) NoTerms) ((us ++ (vs ++ close)) ++ rest) =
-      ap (λ w. run l (Apply k held) (w ++ rest)) h.6 ∙ ap (λ b. follow (cond b (go (Apply (Inside k held at) NoTerms)) (stop (TooDeep at))) (λ s. run l s ((us ++ (vs ++ close)) ++ rest))) h.3 in
+      ap (λ w. run l (Apply k held) (w ++ rest)) h.6 ∙ ap (λ b. follow (cond b (go (Apply (Inside k held at) NoTerms)) (stop (TooDeep at))) (lexeme at word.Open ∷ ((us ++ (vs ++ close)) ++ rest)) (λ s. run l s ((us ++ (vs ++ close)) ++ rest))) h.3 in
       opened ∙ ap (run l (Apply (Inside k held at) NoTerms)) regroup
       ∙ reads_atom l (Inside k held at) NoTerms a us (vs ++ (close ++ rest)) h.4
       ∙ reads_all l (Inside k held at) (AndTerm a NoTerms) xs vs (close ++ rest) h.5
@@ -64,12 +65,6 @@ mutual
       ∙ reads_all l k (with_last held a) xs vs rest h.3
       ∙ ap (λ w. run l (Apply k w) rest) (last_then held a xs)
 
-reads_params : (l : Room) (ds : List Decl) (n : NameId) (p : ℕ) (ps qs : List Binder) (rest : List Lexeme)
-    → run l (Params ds n p ps) (binders qs ++ rest) ≡ run l (Params ds n p (ps ++ qs)) rest
-unfolding run
-reads_params l ds n p ps [] rest = ap (λ w. run l (Params ds n p w) rest) (sym (append-nil ps))
-reads_params l ds n p ps (q ∷ qs) rest = reads_params l ds n p (ps ++ q ∷ []) qs rest ∙ ap (λ w. run l (Params ds n p w) rest) (append_assoc ps (q ∷ []) qs)
-
 pub ends_step : (l : Room) (k : Cont) (a : Term) (xs : Terms) (at : ℕ) (token : Token) → starts_atom token ≡ false → step l (Apply (InBody k) (AndTerm a xs)) at token ≡ give k (applied a xs) at token
 ends_step l k a xs at (word.Name n) e = absurd cc
 ends_step l k a xs at (word.Con n) e = absurd cc
@@ -79,9 +74,9 @@ ends_step l k a xs at word.Open e = absurd cc
 ends_step l k a xs at token e = refl
 
 pub ends_app : (l : Room) (k : Cont) (a : Term) (xs : Terms) (x : Lexeme) (rest : List Lexeme) → starts_atom x.token ≡ false
-    → run l (Apply (InBody k) (AndTerm a xs)) (x ∷ rest) ≡ follow (give k (applied a xs) x.at x.token) (λ s. run l s rest)
+    → run l (Apply (InBody k) (AndTerm a xs)) (x ∷ rest) ≡ follow (give k (applied a xs) x.at x.token) (x ∷ rest) (λ s. run l s rest)
 unfolding run
-ends_app l k a xs x rest e = ap (λ st. follow st (λ s. run l s rest)) (ends_step l k a xs x.at x.token e)
+ends_app l k a xs x rest e = ap (λ st. follow st (x ∷ rest) (λ s. run l s rest)) (ends_step l k a xs x.at x.token e)
 
 pub some_last : (bs : List Bind) (b : Bind) → IsGroup (bs ++ b ∷ [])
 some_last [] b = tt
@@ -164,21 +159,19 @@ unfolding run
 brace_after l k s NoAlts q rest h = absurd h
 brace_after l k s (AndAlt p e xs) q rest h = refl
 
-reads_names : (l : Room) (k : Cont) (s : Expr) (alts : Alts) (n : NameId) (p : ℕ) (ps qs : List Binder) (rest : List Lexeme)
-    → run l (AltNames k s alts n p ps) (binders qs ++ rest) ≡ run l (AltNames k s alts n p (ps ++ qs)) rest
+pub alt_names : (l : Room) (k : Cont) (s : Expr) (alts : Alts) (n : NameId) (p : ℕ) (names : List Binder) (old new : List Lexeme) → old ≡ binders names ++ new → run l (AltNames k s alts n p []) old ≡ run l (AltNames k s alts n p names) new
 unfolding run
-reads_names l k s alts n p ps [] rest = ap (λ w. run l (AltNames k s alts n p w) rest) (sym (append-nil ps))
-reads_names l k s alts n p ps (q ∷ qs) rest = reads_names l k s alts n p (ps ++ q ∷ []) qs rest ∙ ap (λ w. run l (AltNames k s alts n p w) rest) (append_assoc ps (q ∷ []) qs)
+alt_names l k s alts n p names old new e = reads_names (run l) (AltNames k s alts n p) (λ names n at rest. refl) names old new e
 
 reads_pattern : (l : Room) (k : Cont) (s : Expr) (alts : Alts) (p : Pattern) (ts : List Lexeme) (q : ℕ) (rest : List Lexeme) → SpellsPattern p ts
     → run l (AltStart k s alts) (ts ++ lexeme q word.Arrow ∷ rest) ≡ run l (Apply (InBody (AltBody k s alts p)) NoTerms) rest
 unfolding run
-reads_pattern l k s alts (pattern.Con c names) ts q rest h = ap (λ w. run l (AltStart k s alts) (w ++ lexeme q word.Arrow ∷ rest)) h ∙ reads_names l k s alts c.name c.at [] names (lexeme q word.Arrow ∷ rest)
+reads_pattern l k s alts (pattern.Con c names) ts q rest h = ap (λ w. run l (AltStart k s alts) (w ++ lexeme q word.Arrow ∷ rest)) h ∙ takes_names (run l) (AltNames k s alts c.name c.at) (λ names n at rest. refl) [] names (lexeme q word.Arrow ∷ rest)
 reads_pattern l k s alts (pattern.Int v at) ts q rest h = rw h.1 refl
 reads_pattern l k s alts (pattern.Default x) ts q rest h = rw h refl
 
 next_alt : (l : Room) (k : Cont) (s : Expr) (sofar : Alts) (p : Pattern) (e : Expr) (xs : Alts) (vs semi ws : List Lexeme) (q : ℕ) (rest : List Lexeme) → AfterAlt xs semi → SpellsAlts l (suc (nests k)) xs ws
-    → ((x : Lexeme) (after : List Lexeme) → starts_atom x.token ≡ false → run l (Apply (InBody (AltBody k s sofar p)) NoTerms) (vs ++ x ∷ after) ≡ follow (give (AltBody k s sofar p) e x.at x.token) (λ st. run l st after))
+    → ((x : Lexeme) (after : List Lexeme) → starts_atom x.token ≡ false → run l (Apply (InBody (AltBody k s sofar p)) NoTerms) (vs ++ x ∷ after) ≡ follow (give (AltBody k s sofar p) e x.at x.token) (x ∷ after) (λ st. run l st after))
     → ((front : Alts) → IsSomeAlts front → run l (AltStart k s front) (ws ++ lexeme q word.CloseBrace ∷ rest) ≡ run l (Ended k (Case s (front ⊹ xs))) rest)
     → run l (Apply (InBody (AltBody k s sofar p)) NoTerms) (vs ++ (semi ++ (ws ++ lexeme q word.CloseBrace ∷ rest))) ≡ run l (Ended k (Case s (sofar ⊹ AndAlt p e xs))) rest
 next_alt l k s sofar p e NoAlts vs semi ws q rest (inl f) h body ih =
@@ -200,14 +193,14 @@ mutual
   unfolding run
 
   pub reads_body : (l : Room) (k : Cont) (e : Expr) (ts : List Lexeme) (x : Lexeme) (rest : List Lexeme) → SpellsExpr l (nests k) e ts → starts_atom x.token ≡ false
-      → run l (Apply (InBody k) NoTerms) (ts ++ x ∷ rest) ≡ follow (give k e x.at x.token) (λ s. run l s rest)
+      → run l (Apply (InBody k) NoTerms) (ts ++ x ∷ rest) ≡ follow (give k e x.at x.token) (x ∷ rest) (λ s. run l s rest)
   reads_body l k (App app) ts x rest h f = reads_all l (InBody k) NoTerms (AndTerm app.head app.args) ts (x ∷ rest) h ∙ ends_app l k app.head app.args x rest f
   reads_body l k (Let binds e) ts x rest h f =
       let us = h.2 in
       let vs = h.3 in
       let regroup : ts ++ x ∷ rest ≡ lexeme h.0 word.Let ∷ (us ++ (lexeme h.1 word.In ∷ (vs ++ x ∷ rest))) = simp (h.8, append_assoc) in
       ap (run l (Apply (InBody k) NoTerms)) regroup
-      ∙ ap (λ b. follow (cond b (go (BindName k [])) (stop (TooDeep h.0))) (λ s. run l s (us ++ (lexeme h.1 word.In ∷ (vs ++ x ∷ rest))))) h.4
+      ∙ ap (λ b. follow (cond b (go (BindName k [])) (stop (TooDeep h.0))) (lexeme h.0 word.Let ∷ (us ++ (lexeme h.1 word.In ∷ (vs ++ x ∷ rest)))) (λ s. run l s (us ++ (lexeme h.1 word.In ∷ (vs ++ x ∷ rest))))) h.4
       ∙ reads_binds l k [] binds us h.1 (vs ++ x ∷ rest) h.5 h.6
       ∙ reads_body l (LetBody k binds) e vs x rest h.7 f
   reads_body l k (Case e alts) ts x rest h f =
@@ -216,7 +209,7 @@ mutual
       let tail = vs ++ (lexeme h.3 word.CloseBrace ∷ x ∷ rest) in
       let regroup : ts ++ x ∷ rest ≡ lexeme h.0 word.Case ∷ (us ++ (lexeme h.1 word.Of ∷ (lexeme h.2 word.OpenBrace ∷ tail))) = simp (h.10, append_assoc) in
       ap (run l (Apply (InBody k) NoTerms)) regroup
-      ∙ ap (λ b. follow (cond b (go (Apply (InBody (Scrutinee k)) NoTerms)) (stop (TooDeep h.0))) (λ s. run l s (us ++ (lexeme h.1 word.Of ∷ (lexeme h.2 word.OpenBrace ∷ tail))))) h.6
+      ∙ ap (λ b. follow (cond b (go (Apply (InBody (Scrutinee k)) NoTerms)) (stop (TooDeep h.0))) (lexeme h.0 word.Case ∷ (us ++ (lexeme h.1 word.Of ∷ (lexeme h.2 word.OpenBrace ∷ tail)))) (λ s. run l s (us ++ (lexeme h.1 word.Of ∷ (lexeme h.2 word.OpenBrace ∷ tail))))) h.6
       ∙ reads_body l (Scrutinee k) e us (lexeme h.1 word.Of) (lexeme h.2 word.OpenBrace ∷ tail) h.8 refl
       ∙ reads_alts l k e NoAlts alts vs h.3 (x ∷ rest) h.7 h.9
 
@@ -233,34 +226,3 @@ mutual
       ap (run l (AltStart k s sofar)) regroup
       ∙ reads_pattern l k s sofar p us h.4 (vs ++ (h.2 ++ (h.3 ++ lexeme q word.CloseBrace ∷ rest))) h.5
       ∙ next_alt l k s sofar p e xs vs h.2 h.3 q rest h.7 h.8 (λ x after f. reads_body l (AltBody k s sofar p) e vs x after h.6 f) (λ front m. reads_alts l k s front xs h.3 q rest (alts_more front xs m) h.8)
-
-reads_decl : (l : Room) (ds : List Decl) (d : Decl) (ts rest : List Lexeme) → SpellsDecl l d ts → run l (Top ds) (ts ++ rest) ≡ run l (Top (ds ++ d ∷ [])) rest
-unfolding run
-reads_decl l ds (Declares d) ts rest h = rw h.3 refl
-reads_decl l ds (Defines f) ts rest h =
-    let n = name_id f.name in
-    let p = h.0 in
-    let q = h.1 in
-    let inner = h.2 in
-    let tail = lexeme p word.Equals ∷ (inner ++ lexeme q word.Semicolon ∷ []) in
-    let named : run l (Top ds) (ts ++ rest) ≡ run l (Params ds n f.at []) ((binders f.params ++ tail) ++ rest) = rw h.4 refl in
-    let equals : run l (Params ds n f.at f.params) (tail ++ rest) ≡ run l (Apply (InBody (InFunction ds n f.at f.params)) NoTerms) ((inner ++ lexeme q word.Semicolon ∷ []) ++ rest) = refl in
-    named ∙ ap (run l (Params ds n f.at [])) (append_assoc (binders f.params) tail rest)
-    ∙ reads_params l ds n f.at [] f.params (tail ++ rest)
-    ∙ equals
-    ∙ ap (run l (Apply (InBody (InFunction ds n f.at f.params)) NoTerms)) (append_assoc inner (lexeme q word.Semicolon ∷ []) rest)
-    ∙ reads_body l (InFunction ds n f.at f.params) f.body inner (lexeme q word.Semicolon) rest h.3 refl
-
-reads_decls : (l : Room) (ds es : List Decl) (ts rest : List Lexeme) → SpellsDecls l es ts → run l (Top ds) (ts ++ rest) ≡ run l (Top (ds ++ es)) rest
-reads_decls l ds [] ts rest h = rw (h, append-nil) refl
-reads_decls l ds (e ∷ es) ts rest h =
-    ap (λ w. run l (Top ds) (w ++ rest)) h.4
-    ∙ ap (run l (Top ds)) (append_assoc h.0 h.1 rest)
-    ∙ reads_decl l ds e h.0 (h.1 ++ rest) h.2
-    ∙ reads_decls l (ds ++ e ∷ []) es h.1 rest h.3
-    ∙ ap (λ w. run l (Top w) rest) (append_assoc ds (e ∷ []) es)
-
--- What spells a program is read as that program, whatever follows its end.
-pub reads_program : (l : Room) (ds : List Decl) (ts : List Lexeme) (end : ℕ) (rest : List Lexeme) → SpellsDecls l ds ts → run l (Top []) (ts ++ lexeme end word.End ∷ rest) ≡ Ok ds
-unfolding run
-reads_program l ds ts end rest h = reads_decls l [] ds ts (lexeme end word.End ∷ rest) h

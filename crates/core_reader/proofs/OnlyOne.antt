@@ -4,16 +4,16 @@ use Rattle.std.proofs.lemmas.List.{append-nil}
 use Rattle.core_reader.specs.declared.dialect.Dialect.{Dialect}
 use Rattle.core_reader.specs.declared.token.Token.TheVariants as word
 use Rattle.core_reader.specs.declared.refusal.ReadRefusal.{ReadRefusal}
-use Rattle.core_reader.specs.Tree.{Program}
-use Rattle.core_reader.specs.Grammar.{anywhere, lexeme, Decl, constructors_of, functions_of}
+use Rattle.core_reader.specs.Grammar.{anywhere, lexeme}
 use Rattle.core_reader.specs.TokensOf.{Piece, IsTokens}
-use Rattle.core_reader.specs.Words.{said}
-use Rattle.core_reader.specs.Programs.{IsProgram}
-use Rattle.core_reader.specs.ProgramsOf.{Language}
+use Rattle.core_reader.specs.WordsOf.{said}
+use Rattle.core_reader.specs.NamesOf.{names_of}
+use Rattle.core_reader.specs.ProgramsOf.{Language, IsText}
 use Rattle.core_reader.specs.RulesOf.{IsUnread, IsFirstUnread, BadByte, Syntax, NumberRange, TooDeep, TextTooLong, NoLater}
 use Rattle.core_reader.specs.Laws.{OneRefusal, OneReading, OneProgram}
-use Rattle.core_reader.specs.Machine.{Top, run}
-use Rattle.core_reader.proofs.Complete.{reads_program}
+use Rattle.core_reader.specs.ReadingOf.{Reading, run_of}
+use Rattle.core_reader.proofs.ReadingOf.{ReadsLanguage}
+use Rattle.core_reader.proofs.CoreReading.{core_reads}
 use Rattle.core_reader.proofs.Unique.{goes_on, stuck}
 
 places : (k at k' at' : ℕ) → (at < at') ⊎ ((at ≡ at') × (k ≤ k')) → (at' < at) ⊎ ((at' ≡ at) × (k' ≤ k)) → (k ≡ k') × (at ≡ at')
@@ -52,18 +52,21 @@ one_refusal text k at k' at' h g = one_first text k at k' at' h g
 pub one_reading : OneReading
 one_reading text us vs r s = one_tokens text us vs r s
 
-one_answer : (ds es : List Decl) (r : Result (List Decl) ReadRefusal) → r ≡ Ok ds → r ≡ Ok es → ds ≡ es
-one_answer ds es r h g = cc
+one_answer : {A : Type 0} (a b : A) (r : Result A ReadRefusal) → r ≡ Ok a → r ≡ Ok b → a ≡ b
+one_answer a b r h g = cc
 
-derived_once : (pieces : List Piece) (p q : Program) → IsProgram anywhere p pieces → IsProgram anywhere q pieces → p ≡ q
-derived_once pieces p q h g =
-    let names : p.names ≡ q.names = h.names ∙ sym g.names in
-    let first : run anywhere (Top []) (map (said q.names) pieces ++ lexeme 0 word.End ∷ []) ≡ Ok h.decls =
-    ap (λ w. run anywhere (Top []) (map (said w) pieces ++ lexeme 0 word.End ∷ [])) (sym names) ∙ reads_program anywhere h.decls (map (said p.names) pieces) 0 [] h.spelled in
-    let decls : h.decls ≡ g.decls = one_answer h.decls g.decls _ first (reads_program anywhere g.decls (map (said q.names) pieces) 0 [] g.spelled) in
-    let constructors : p.constructors ≡ q.constructors = sym h.constructors ∙ ap constructors_of decls ∙ g.constructors in
-    let functions : p.functions ≡ q.functions = sym h.functions ∙ ap functions_of decls ∙ g.functions in
-    λ i. record { names = names i; constructors = constructors i; functions = functions i }
+-- A text stands for one thing at most, where a reading owes the laws.
+module _ {P : Type 0} {d : Dialect} {r : Reading} {Derives : Language P} (w : ReadsLanguage d r Derives) where
+  derived_once : (ps : List Piece) (p q : P) → Derives anywhere p ps → Derives anywhere q ps → p ≡ q
+  derived_once ps p q h g =
+      let ts = map (said d (names_of d ps)) ps in
+      let a = w.tree anywhere p ps h in
+      let b = w.tree anywhere q ps g in
+      let one : a ≡ b = one_answer a b (run_of r.step anywhere r.start (ts ++ lexeme 0 word.End ∷ [])) (w.laws.whole anywhere a ts 0 [] (w.spelled anywhere p ps h)) (w.laws.whole anywhere b ts 0 [] (w.spelled anywhere q ps g)) in
+      w.same anywhere p q ps h g one
+
+  pub one_thing : (text : List ℕ) (p q : P) → IsText d Derives text p → IsText d Derives text q → p ≡ q
+  one_thing text p q h g = derived_once g.pieces p q (subst (Derives anywhere p) (one_tokens text h.pieces g.pieces h.tokens g.tokens) h.program) g.program
 
 pub one_program : OneProgram
-one_program text p q h g = derived_once g.pieces p q (subst (IsProgram anywhere p) (one_reading text h.pieces g.pieces h.tokens g.tokens) h.program) g.program
+one_program text p q h g = one_thing core_reads text p q h g

@@ -17,21 +17,40 @@ IsProper word.Bad = ⊥
 IsProper word.End = ⊥
 IsProper token = Unit {0}
 
-sign_proper : (s : _) → IsProper (sign_token s)
-sign_proper signs.Semicolon = tt
-sign_proper signs.Equals = tt
-sign_proper signs.OpenBrace = tt
-sign_proper signs.CloseBrace = tt
-sign_proper signs.Open = tt
-sign_proper signs.Close = tt
-sign_proper signs.Arrow = tt
-sign_proper signs.Backslash = tt
-sign_proper signs.Bar = tt
-sign_proper signs.Colon = tt
+-- a keyword or a sign
+abbrev pub IsWord : Token → Type 0
+IsWord (word.Name n) = ⊥
+IsWord (word.Con n) = ⊥
+IsWord (word.Number minus k) = ⊥
+IsWord (word.Large minus) = ⊥
+IsWord word.Bad = ⊥
+IsWord word.End = ⊥
+IsWord token = Unit {0}
+
+word_proper : (token : Token) → IsWord token → IsProper token
+word_proper (word.Name n) h = absurd h
+word_proper (word.Con n) h = absurd h
+word_proper (word.Number minus k) h = absurd h
+word_proper (word.Large minus) h = h
+word_proper word.Bad h = h
+word_proper word.End h = h
+word_proper token h = tt
+
+pub sign_is_word : (s : _) → IsWord (sign_token s)
+sign_is_word signs.Semicolon = tt
+sign_is_word signs.Equals = tt
+sign_is_word signs.OpenBrace = tt
+sign_is_word signs.CloseBrace = tt
+sign_is_word signs.Open = tt
+sign_is_word signs.Close = tt
+sign_is_word signs.Arrow = tt
+sign_is_word signs.Backslash = tt
+sign_is_word signs.Bar = tt
+sign_is_word signs.Colon = tt
 
 -- the token of a keyword
-abbrev IsKeyword : Option Token → Type 0
-IsKeyword (Some token) = IsProper token
+abbrev pub IsKeyword : Option Token → Type 0
+IsKeyword (Some token) = IsWord token
 IsKeyword None = Unit {0}
 
 module_words : (b1 b2 b3 : Bool) → IsKeyword (cond b1 (Some (word.Further further.Module)) (cond b2 (Some (word.Further further.Export)) (cond b3 (Some (word.Further further.Import)) None)))
@@ -45,31 +64,34 @@ type_words true b2 = tt
 type_words false true = tt
 type_words false false = tt
 
-further_proper : (d : Dialect) (w : List ℕ) → IsKeyword (further_keyword_of d w)
-further_proper dialect.Core w = tt
-further_proper dialect.Modules w = module_words _ _ _
-further_proper dialect.Lambdas w = tt
-further_proper dialect.Types w = type_words _ _
+further_is_word : (d : Dialect) (w : List ℕ) → IsKeyword (further_keyword_of d w)
+further_is_word dialect.Core w = tt
+further_is_word dialect.Modules w = module_words _ _ _
+further_is_word dialect.Lambdas w = tt
+further_is_word dialect.Types w = type_words _ _
 
-keyword_proper : (b1 b2 b3 b4 b5 : Bool) (more : Option Token) → IsKeyword more
+keyword_by : (b1 b2 b3 b4 b5 : Bool) (more : Option Token) → IsKeyword more
     → IsKeyword (cond b1 (Some word.Data) (cond b2 (Some word.Let) (cond b3 (Some word.In) (cond b4 (Some word.Case) (cond b5 (Some word.Of) more)))))
-keyword_proper true b2 b3 b4 b5 more h = tt
-keyword_proper false true b3 b4 b5 more h = tt
-keyword_proper false false true b4 b5 more h = tt
-keyword_proper false false false true b5 more h = tt
-keyword_proper false false false false true more h = tt
-keyword_proper false false false false false more h = h
+keyword_by true b2 b3 b4 b5 more h = tt
+keyword_by false true b3 b4 b5 more h = tt
+keyword_by false false true b4 b5 more h = tt
+keyword_by false false false true b5 more h = tt
+keyword_by false false false false true more h = tt
+keyword_by false false false false false more h = h
+
+pub keyword_is_word : (d : Dialect) (w : List ℕ) → IsKeyword (keyword_of d w)
+keyword_is_word d w = keyword_by _ _ _ _ _ (further_keyword_of d w) (further_is_word d w)
 
 letters_proper : (names : List (List ℕ)) (w : List ℕ) (keyword : Option Token) → IsKeyword keyword → IsProper (said_by_letters names w keyword)
-letters_proper names w (Some token) h = h
+letters_proper names w (Some token) h = word_proper token h
 letters_proper names w None h = tt
 
 module _ (d : Dialect) where
   pub proper : (names : List (List ℕ)) (w : List ℕ) (kind : Kind) → IsProper (said_by d names w (Some kind))
-  proper names w Lower = letters_proper names w (keyword_of d w) (keyword_proper _ _ _ _ _ (further_keyword_of d w) (further_proper d w))
+  proper names w Lower = letters_proper names w (keyword_of d w) (keyword_is_word d w)
   proper names w Upper = tt
   proper names w Digits = tt
-  proper names w (Sign s) = sign_proper s
+  proper names w (Sign s) = word_proper (sign_token s) (sign_is_word s)
 
   no_end_by : (names : List (List ℕ)) (w : List ℕ) (kind : Option Kind) → said_by d names w kind ≡ word.End → ⊥
   no_end_by names w None e = cc

@@ -3,31 +3,34 @@ use Rattle.std.proofs.Common.{◌≡◌, ℕ, suc, ◌+◌, ◌*◌, ◌<◌, �
 use Rattle.std.specs.Prelude.{◌≢◌, pos, fold, find, All, slice_get, sum_by, is_none, ◌||◌}
 use Rattle.std.specs.Str.{bytes_eq}
 use Rattle.std.proofs.lemmas.Int.{ints}
+use Rattle.std.proofs.lemmas.List.{append-nil}
 use Rattle.std.proofs.lemmas.List.Folds.{find_at}
 use Rattle.std.proofs.lemmas.List.Sums.{sum_by-cons}
 use Rattle.std.proofs.lemmas.List.Elements.{All-nil, All-cons, All-push}
 use Rattle.std.proofs.lemmas.Slice.Eq.{bytes_eq-Decides}
+use Rattle.core_reader.specs.declared.dialect.Dialect.{Dialect}
+use Rattle.core_reader.specs.declared.dialect.Dialect.TheVariants.{Core}
 use Rattle.core_reader.specs.declared.syntax.Binder.{Binder}
 use Rattle.core_reader.specs.declared.syntax.Pattern.{Pattern}
 use Rattle.core_reader.specs.declared.syntax.Pattern.TheVariants as pattern
 use Rattle.core_reader.specs.declared.look.Kind.{Kind}
 use Rattle.core_reader.specs.declared.look.Kind.TheVariants.{Lower, Upper, Digits, Sign}
-use Rattle.core_reader.specs.declared.look.Sign.TheVariants as signs
 use Rattle.core_reader.specs.declared.token.Token.{Token}
 use Rattle.core_reader.specs.declared.token.Token.TheVariants as word
 use Rattle.core_reader.specs.declared.token.Lexeme.{Lexeme}
 use Rattle.core_reader.specs.Tree.{Term, Terms, NoTerms, AndTerm, Application, Bind, Expr, App, Let, Case, Alts, NoAlts, AndAlt, Data, Function, Program}
 use Rattle.core_reader.specs.Tree as tree
 use Rattle.core_reader.specs.Grammar.{Room, lexeme, SpellsTerm, SpellsTerms, SpellsApp, binders, SpellsBind, SpellsBinds, SpellsPattern, SpellsExpr, SpellsAlts, Decl, Declares, Defines, SpellsDecl, SpellsDecls, constructors_of, functions_of}
-use Rattle.core_reader.specs.Tokens.{Piece, kind_of}
-use Rattle.core_reader.specs.Words.{said, said_by, said_by_letters, keyword_of, sign_token, number_in, written_number, IsInRange}
-use Rattle.core_reader.specs.Names.{with_piece, is_numbered, is_numbered_by}
+use Rattle.core_reader.specs.TokensOf.{Piece, kind_of}
+use Rattle.core_reader.specs.WordsOf.{said, said_by, said_by_letters, keyword_of, sign_token, number_in, written_number, IsInRange}
+use Rattle.core_reader.specs.NamesOf.{names_of, with_piece, is_numbered, is_numbered_by}
 use Rattle.core_reader.specs.Programs.{IsProgram}
-use Rattle.core_reader.specs.Lexed.{AreInRange}
+use Rattle.core_reader.specs.LexedOf.{AreInRange}
 use Rattle.core_reader.specs.Size.{term_size, terms_size, bind_size, pattern_size, expr_size, alts_size, function_size}
 use Rattle.core_reader.specs.Readable.{IsConstructor, IsTextAt, IsNamed, IsBound, ReadableTerm, ReadableTerms, ReadableApp, ReadableBind, ReadablePattern, ReadableExpr, ReadableAlts, ReadableData, ReadableFunction, AreDifferent, IsReadable}
-use Rattle.core_reader.proofs.NamingOf.{Texts, has}
-use Rattle.core_reader.proofs.Naming.{EachHeld, each_held}
+use Rattle.core_reader.proofs.NamingOf.{Texts, has, EachHeld, each_held}
+use Rattle.core_reader.proofs.Proper.{IsWord, IsKeyword, sign_is_word, keyword_is_word}
+use Rattle.core_reader.proofs.Dialects.{no_keyword, lower_in_core, upper_in_core}
 
 -- ---- what each token of a text says
 
@@ -41,11 +44,11 @@ abbrev pub EachKnown : Texts → List Lexeme → Type 0
 EachKnown names [] = Unit {0}
 EachKnown names (x ∷ xs) = KnownToken names x.token × EachKnown names xs
 
-front_known : (names : Texts) (us vs : List Lexeme) → EachKnown names (us ++ vs) → EachKnown names us
+pub front_known : (names : Texts) (us vs : List Lexeme) → EachKnown names (us ++ vs) → EachKnown names us
 front_known names [] vs h = tt
 front_known names (u ∷ us) vs h = (h.0, front_known names us vs h.1)
 
-back_known : (names : Texts) (us vs : List Lexeme) → EachKnown names (us ++ vs) → EachKnown names vs
+pub back_known : (names : Texts) (us vs : List Lexeme) → EachKnown names (us ++ vs) → EachKnown names vs
 back_known names [] vs h = h
 back_known names (u ∷ us) vs h = back_known names us vs h.1
 
@@ -60,45 +63,31 @@ found (v ∷ names) w h = found_by names w v (bytes_eq w v) refl h (found names 
 pub at_number : (names : Texts) (w : List ℕ) → has names w ≡ true → slice_get names (number_in names w) ≡ Some w
 at_number names w h = sym (find_at (bytes_eq w) names) ∙ found names w h
 
-letters_known : (names : Texts) (w : List ℕ) (o : Option Token) → keyword_of w ≡ o → kind_of w ≡ Some Lower → (is_none o ≡ true → has names w ≡ true) → ((t : Token) → o ≡ Some t → KnownToken names t) → KnownToken names (said_by_letters names w o)
-letters_known names w (Some token) e k h g = g token refl
-letters_known names w None e k h g = (w, at_number names w (h refl), (k, e))
+word_known : (names : Texts) (token : Token) → IsWord token → KnownToken names token
+word_known names (word.Name n) h = absurd h
+word_known names (word.Con n) h = absurd h
+word_known names (word.Number minus k) h = absurd h
+word_known names token h = tt
 
-keyword_known_by : (names : Texts) (b1 b2 b3 b4 b5 : Bool) (t : Token) → cond b1 (Some word.Data) (cond b2 (Some word.Let) (cond b3 (Some word.In) (cond b4 (Some word.Case) (cond b5 (Some word.Of) None)))) ≡ Some t → KnownToken names t
-keyword_known_by names true b2 b3 b4 b5 t e = subst (KnownToken names) (let f : word.Data ≡ t = cc in f) tt
-keyword_known_by names false true b3 b4 b5 t e = subst (KnownToken names) (let f : word.Let ≡ t = cc in f) tt
-keyword_known_by names false false true b4 b5 t e = subst (KnownToken names) (let f : word.In ≡ t = cc in f) tt
-keyword_known_by names false false false true b5 t e = subst (KnownToken names) (let f : word.Case ≡ t = cc in f) tt
-keyword_known_by names false false false false true t e = subst (KnownToken names) (let f : word.Of ≡ t = cc in f) tt
-keyword_known_by names false false false false false t e = absurd cc
+letters_known : (d : Dialect) (names : Texts) (w : List ℕ) (o : Option Token) → keyword_of d w ≡ o → IsKeyword o → kind_of d w ≡ Some Lower → (is_none o ≡ true → has names w ≡ true) → KnownToken names (said_by_letters names w o)
+letters_known d names w (Some token) e k l h = word_known names token k
+letters_known d names w None e k l h = (w, at_number names w (h refl), (lower_in_core d w l, no_keyword d w e))
 
-sign_known : (names : Texts) (s : _) → KnownToken names (sign_token s)
-sign_known names signs.Semicolon = tt
-sign_known names signs.Equals = tt
-sign_known names signs.OpenBrace = tt
-sign_known names signs.CloseBrace = tt
-sign_known names signs.Open = tt
-sign_known names signs.Close = tt
-sign_known names signs.Arrow = tt
-sign_known names signs.Backslash = tt
-sign_known names signs.Bar = tt
-sign_known names signs.Colon = tt
+known_by : (d : Dialect) (names : Texts) (w : List ℕ) (kind : Option Kind) → kind_of d w ≡ kind → (is_numbered_by d w kind ≡ true → has names w ≡ true) → (kind ≡ Some Digits → IsInRange (written_number w)) → KnownToken names (said_by d names w kind)
+known_by d names w None e h g = tt
+known_by d names w (Some Lower) e h g = letters_known d names w (keyword_of d w) refl (keyword_is_word d w) e h
+known_by d names w (Some Upper) e h g = (w, at_number names w (h refl), upper_in_core d w e)
+known_by d names w (Some Digits) e h g = g refl
+known_by d names w (Some (Sign s)) e h g = word_known names (sign_token s) (sign_is_word s)
 
-known_by : (names : Texts) (w : List ℕ) (kind : Option Kind) → kind_of w ≡ kind → (is_numbered_by w kind ≡ true → has names w ≡ true) → (kind ≡ Some Digits → IsInRange (written_number w)) → KnownToken names (said_by names w kind)
-known_by names w None e h g = tt
-known_by names w (Some Lower) e h g = letters_known names w (keyword_of w) refl e h (λ t f. keyword_known_by names _ _ _ _ _ t f)
-known_by names w (Some Upper) e h g = (w, at_number names w (h refl), e)
-known_by names w (Some Digits) e h g = g refl
-known_by names w (Some (Sign s)) e h g = sign_known names s
-
-pub known : (names : Texts) (ps : List Piece) → EachHeld names ps → AreInRange ps → EachKnown names (map (said names) ps)
-known names [] h g = tt
-known names (p ∷ ps) h g = (known_by names p.bytes (kind_of p.bytes) refl h.0 g.0, known names ps h.1 g.1)
+pub known : (d : Dialect) (names : Texts) (ps : List Piece) → EachHeld d names ps → AreInRange d ps → EachKnown names (map (said d names) ps)
+known d names [] h g = tt
+known d names (p ∷ ps) h g = (known_by d names p.bytes (kind_of d p.bytes) refl h.0 g.0, known d names ps h.1 g.1)
 
 -- ---- what the grammar derives from such tokens
 
 mutual
-  term_readable : (names : Texts) (l : Room) (d : ℕ) (a : Term) (ts : List Lexeme) → SpellsTerm l d a ts → EachKnown names ts → ReadableTerm names a
+  pub term_readable : (names : Texts) (l : Room) (d : ℕ) (a : Term) (ts : List Lexeme) → SpellsTerm l d a ts → EachKnown names ts → ReadableTerm names a
   term_readable names l d (tree.Name n at) ts h k = (subst (EachKnown names) h k).0
   term_readable names l d (tree.Con n at) ts h k = (subst (EachKnown names) h k).0
   term_readable names l d (tree.Int v at) ts h k = (subst (EachKnown names) h.1 k).0
@@ -107,7 +96,7 @@ mutual
       let k2 : EachKnown names (h.0 ++ (h.1 ++ close)) = (subst (EachKnown names) h.6 k).1 in
       (term_readable names l (suc d) a h.0 h.4 (front_known names h.0 (h.1 ++ close) k2), terms_readable names l (suc d) xs h.1 h.5 (front_known names h.1 close (back_known names h.0 (h.1 ++ close) k2)))
 
-  terms_readable : (names : Texts) (l : Room) (d : ℕ) (xs : Terms) (ts : List Lexeme) → SpellsTerms l d xs ts → EachKnown names ts → ReadableTerms names xs
+  pub terms_readable : (names : Texts) (l : Room) (d : ℕ) (xs : Terms) (ts : List Lexeme) → SpellsTerms l d xs ts → EachKnown names ts → ReadableTerms names xs
   terms_readable names l d NoTerms ts h k = tt
   terms_readable names l d (AndTerm a xs) ts h k =
       let k2 = subst (EachKnown names) h.4 k in
@@ -116,28 +105,28 @@ mutual
 app_readable : (names : Texts) (l : Room) (d : ℕ) (app : Application) (ts : List Lexeme) → SpellsApp l d app ts → EachKnown names ts → ReadableApp names app
 app_readable names l d app ts h k = terms_readable names l d (AndTerm app.head app.args) ts h k
 
-binders_readable : (names : Texts) (bs : List Binder) → EachKnown names (binders bs) → All (IsBound names) bs
+pub binders_readable : (names : Texts) (bs : List Binder) → EachKnown names (binders bs) → All (IsBound names) bs
 binders_readable names [] k = All-nil (IsBound names)
 binders_readable names (b ∷ bs) k = All-cons (IsBound names) b bs k.0 (binders_readable names bs k.1)
 
-bind_readable : (names : Texts) (l : Room) (d : ℕ) (b : Bind) (ts : List Lexeme) → SpellsBind l d b ts → EachKnown names ts → ReadableBind names b
+pub bind_readable : (names : Texts) (l : Room) (d : ℕ) (b : Bind) (ts : List Lexeme) → SpellsBind l d b ts → EachKnown names ts → ReadableBind names b
 bind_readable names l d b ts h k =
     let k2 = subst (EachKnown names) h.3 k in
     (k2.0, app_readable names l d b.app h.1 h.2 k2.1.1)
 
-binds_readable : (names : Texts) (l : Room) (d : ℕ) (bs : List Bind) (ts : List Lexeme) → SpellsBinds l d bs ts → EachKnown names ts → All (ReadableBind names) bs
+pub binds_readable : (names : Texts) (l : Room) (d : ℕ) (bs : List Bind) (ts : List Lexeme) → SpellsBinds l d bs ts → EachKnown names ts → All (ReadableBind names) bs
 binds_readable names l d [] ts h k = All-nil (ReadableBind names)
 binds_readable names l d (b ∷ bs) ts h k =
     let k2 = subst (EachKnown names) h.6 k in
     All-cons (ReadableBind names) b bs (bind_readable names l d b h.0 h.3 (front_known names h.0 (h.1 ++ h.2) k2)) (binds_readable names l d bs h.2 h.5 (back_known names h.1 h.2 (back_known names h.0 (h.1 ++ h.2) k2)))
 
-pattern_readable : (names : Texts) (p : Pattern) (ts : List Lexeme) → SpellsPattern p ts → EachKnown names ts → ReadablePattern names p
+pub pattern_readable : (names : Texts) (p : Pattern) (ts : List Lexeme) → SpellsPattern p ts → EachKnown names ts → ReadablePattern names p
 pattern_readable names (pattern.Con c fields) ts h k = let k2 = subst (EachKnown names) h k in (k2.0, binders_readable names fields k2.1)
 pattern_readable names (pattern.Int v at) ts h k = (subst (EachKnown names) h.1 k).0
 pattern_readable names (pattern.Default x) ts h k = (subst (EachKnown names) h k).0
 
 mutual
-  expr_readable : (names : Texts) (l : Room) (d : ℕ) (e : Expr) (ts : List Lexeme) → SpellsExpr l d e ts → EachKnown names ts → ReadableExpr names e
+  pub expr_readable : (names : Texts) (l : Room) (d : ℕ) (e : Expr) (ts : List Lexeme) → SpellsExpr l d e ts → EachKnown names ts → ReadableExpr names e
   expr_readable names l d (App app) ts h k = app_readable names l d app ts h k
   expr_readable names l d (Let group e) ts h k =
       let rest = lexeme h.1 word.In ∷ h.3 in
@@ -150,7 +139,7 @@ mutual
       let k3 = back_known names h.4 rest k2 in
       (h.7, expr_readable names l (suc d) e h.4 h.8 (front_known names h.4 rest k2), alts_readable names l (suc d) alts h.5 h.9 (front_known names h.5 close k3.1.1))
 
-  alts_readable : (names : Texts) (l : Room) (d : ℕ) (xs : Alts) (ts : List Lexeme) → SpellsAlts l d xs ts → EachKnown names ts → ReadableAlts names xs
+  pub alts_readable : (names : Texts) (l : Room) (d : ℕ) (xs : Alts) (ts : List Lexeme) → SpellsAlts l d xs ts → EachKnown names ts → ReadableAlts names xs
   alts_readable names l d NoAlts ts h k = tt
   alts_readable names l d (AndAlt p e xs) ts h k =
       let rest2 = h.2 ++ h.3 in
@@ -167,7 +156,7 @@ abbrev pub EachReadable : Texts → List Decl → Type 0
 EachReadable names [] = Unit {0}
 EachReadable names (d ∷ ds) = ReadableDecl names d × EachReadable names ds
 
-decl_readable : (names : Texts) (l : Room) (d : Decl) (ts : List Lexeme) → SpellsDecl l d ts → EachKnown names ts → ReadableDecl names d
+pub decl_readable : (names : Texts) (l : Room) (d : Decl) (ts : List Lexeme) → SpellsDecl l d ts → EachKnown names ts → ReadableDecl names d
 decl_readable names l (Declares d) ts h k =
     let k2 = subst (EachKnown names) h.3 k in
     let r : IsInRange (pos d.fields) = k2.1.1.0 in
@@ -215,9 +204,9 @@ different_by true true names w d e = d
 different_by true false names w d e = new_last names w d e
 different_by false c names w d e = d
 
-pub different_from : (names : Texts) (ps : List Piece) → AreDifferent names → AreDifferent (fold with_piece names ps)
-different_from names [] d = d
-different_from names (p ∷ ps) d = different_from (with_piece names p) ps (different_by (is_numbered p) (has names p.bytes) names p.bytes d refl)
+pub different_from : (d : Dialect) (names : Texts) (ps : List Piece) → AreDifferent names → AreDifferent (fold (with_piece d) names ps)
+different_from d names [] h = h
+different_from d names (p ∷ ps) h = different_from d (with_piece d names p) ps (different_by (is_numbered d p) (has names p.bytes) names p.bytes h refl)
 
 -- ---- the size is at most the number of tokens
 
@@ -242,7 +231,7 @@ mutual
 app_small : (l : Room) (d : ℕ) (app : Application) (ts : List Lexeme) → SpellsApp l d app ts → term_size app.head + terms_size app.args ≤ length ts
 app_small l d app ts h = terms_small l d (AndTerm app.head app.args) ts h
 
-binders_length : (bs : List Binder) → length (binders bs) ≡ length bs
+pub binders_length : (bs : List Binder) → length (binders bs) ≡ length bs
 binders_length [] = refl
 binders_length (b ∷ bs) = ap suc (binders_length bs)
 
@@ -263,7 +252,7 @@ pattern_small (pattern.Int v at) ts h = omega (arith, ap length h.1)
 pattern_small (pattern.Default x) ts h = omega (arith, ap length h)
 
 mutual
-  expr_small : (l : Room) (d : ℕ) (e : Expr) (ts : List Lexeme) → SpellsExpr l d e ts → expr_size e ≤ length ts
+  pub expr_small : (l : Room) (d : ℕ) (e : Expr) (ts : List Lexeme) → SpellsExpr l d e ts → expr_size e ≤ length ts
   expr_small l d (App app) ts h = app_small l d app ts h
   expr_small l d (Let group e) ts h =
       let e1 = binds_small l (suc d) group h.2 h.6 in
@@ -275,7 +264,7 @@ mutual
       let e2 = alts_small l (suc d) alts h.5 h.9 in
       omega (arith, e1, e2, ap length h.10, length-append h.4 (lexeme h.1 word.Of ∷ lexeme h.2 word.OpenBrace ∷ (h.5 ++ close)), length-append h.5 close)
 
-  alts_small : (l : Room) (d : ℕ) (xs : Alts) (ts : List Lexeme) → SpellsAlts l d xs ts → alts_size xs ≤ length ts
+  pub alts_small : (l : Room) (d : ℕ) (xs : Alts) (ts : List Lexeme) → SpellsAlts l d xs ts → alts_size xs ≤ length ts
   alts_small l d NoAlts ts h = omega arith
   alts_small l d (AndAlt p e xs) ts h =
       let e1 = pattern_small p h.0 h.5 in
@@ -296,18 +285,26 @@ decls_small l (Defines f ∷ ds) ts h =
     let e3 : sum_by function_size (f ∷ functions_of ds) ≡ function_size f + sum_by function_size (functions_of ds) = sum_by-cons function_size f (functions_of ds) in
     omega (arith, e, e2, e3, ap length h.4, length-append h.0 h.1, ap length g.4, length-append (binders f.params) (lexeme g.0 word.Equals ∷ (g.2 ++ close)), length-append g.2 close, binders_length f.params)
 
-map_length : (names : Texts) (ps : List Piece) → length (map (said names) ps) ≡ length ps
-map_length names [] = refl
-map_length names (p ∷ ps) = ap suc (map_length names ps)
+map_length : (d : Dialect) (names : Texts) (ps : List Piece) → length (map (said d names) ps) ≡ length ps
+map_length d names [] = refl
+map_length d names (p ∷ ps) = ap suc (map_length d names ps)
 
-pub readable : (l : Room) (p : Program) (pieces : List Piece) → IsProgram l p pieces → AreInRange pieces → length pieces < 2 ^ 64 → IsReadable p
-readable l p pieces h small short =
-    let held : EachHeld p.names pieces = subst (λ v. EachHeld v pieces) (sym h.names) (each_held [] pieces) in
-    let r = decls_readable p.names l h.decls (map (said p.names) pieces) h.spelled (known p.names pieces held small) in
-    let s = decls_small l h.decls (map (said p.names) pieces) h.spelled in
+-- Declarations among the tokens of a text of any dialect are readable.
+pub readable_in : (d : Dialect) (l : Room) (p : Program) (ds : List Decl) (pieces : List Piece) (us ts vs : List Lexeme) → p.names ≡ names_of d pieces → constructors_of ds ≡ p.constructors → functions_of ds ≡ p.functions → SpellsDecls l ds ts
+    → map (said d p.names) pieces ≡ us ++ (ts ++ vs) → AreInRange d pieces → length pieces < 2 ^ 64 → IsReadable p
+readable_in d l p ds pieces us ts vs named constructors functions spelled whole small short =
+    let held : EachHeld d p.names pieces = subst (λ v. EachHeld d v pieces) (sym named) (each_held d [] pieces) in
+    let each : EachKnown p.names (us ++ (ts ++ vs)) = subst (EachKnown p.names) whole (known d p.names pieces held small) in
+    let r = decls_readable p.names l ds ts spelled (front_known p.names ts vs (back_known p.names us (ts ++ vs) each)) in
+    let s = decls_small l ds ts spelled in
     record {
-      different = subst AreDifferent (sym h.names) (different_from [] pieces tt);
-      constructors = subst (All (ReadableData p.names)) h.constructors (constructors_readable p.names h.decls r);
-      functions = subst (All (ReadableFunction p.names)) h.functions (functions_readable p.names h.decls r);
-      size = subst (λ v. v < 2 ^ 64) (λ i. 2 * length (h.constructors i) + sum_by function_size (h.functions i)) (omega (arith, s, short, map_length p.names pieces));
+      different = subst AreDifferent (sym named) (different_from d [] pieces tt);
+      constructors = subst (All (ReadableData p.names)) constructors (constructors_readable p.names ds r);
+      functions = subst (All (ReadableFunction p.names)) functions (functions_readable p.names ds r);
+      size = subst (λ v. v < 2 ^ 64) (λ i. 2 * length (constructors i) + sum_by function_size (functions i)) (omega (arith, s, short, map_length d p.names pieces, ap length whole, length-append us (ts ++ vs), length-append ts vs));
     }
+
+pub readable : (l : Room) (p : Program) (pieces : List Piece) → IsProgram l p pieces → AreInRange Core pieces → length pieces < 2 ^ 64 → IsReadable p
+readable l p pieces h small short =
+    let ts = map (said Core p.names) pieces in
+    readable_in Core l p h.decls pieces [] ts [] h.names h.constructors h.functions h.spelled (sym (append-nil ts)) small short

@@ -1,6 +1,5 @@
--- The tokens that were read spell what the state holds.
+-- The tokens that were read of an expression spell what the state holds.
 use Rattle.std.proofs.Common.{◌≡◌, ℕ, suc, Bool, true, false, cond, List, [], ◌∷◌, ◌++◌, refl, sym, ap, subst, ◌∙◌, append_assoc, inl, inr}
-use Rattle.std.specs.Prelude.{pos}
 use Rattle.std.proofs.lemmas.List.{append-nil}
 use Rattle.core_reader.specs.declared.syntax.Binder.{Binder}
 use Rattle.core_reader.specs.declared.syntax.Pattern.{Pattern}
@@ -10,8 +9,8 @@ use Rattle.core_reader.specs.declared.token.Lexeme.{Lexeme}
 use Rattle.core_reader.specs.declared.refusal.ReadRefusal.{ReadRefusal}
 use Rattle.core_reader.specs.Tree.{Term, Terms, NoTerms, AndTerm, Application, Bind, Expr, App, Let, Case, Alts, NoAlts, AndAlt, Data, Function}
 use Rattle.core_reader.specs.Tree as tree
-use Rattle.core_reader.specs.Grammar.{Room, lexeme, SpellsTerm, SpellsTerms, binders, SpellsBind, SpellsBinds, IsGroup, IsSomeAlts, SpellsPattern, SpellsExpr, SpellsAlts, Decl, SpellsDecl, SpellsDecls}
-use Rattle.core_reader.specs.Machine.{Cont, InFunction, LetBody, Scrutinee, AltBody, nests, Frame, InBody, InBind, Inside, opens, BindName, BindEquals, Ended, Brace, AltStart, AltNames, AltArrow, give, State, Top, DataName, Count, DataEnd, Params, Apply, Step, go, done, stop, step, with_last, ◌⊹◌, binding, applied, declared, defined}
+use Rattle.core_reader.specs.Grammar.{Room, lexeme, SpellsTerm, SpellsTerms, binders, SpellsBind, SpellsBinds, IsGroup, IsSomeAlts, SpellsPattern, SpellsExpr, SpellsAlts}
+use Rattle.core_reader.specs.Machine.{Cont, Outermost, LetBody, Scrutinee, AltBody, nests, Frame, InBody, InBind, Inside, opens, BindName, BindEquals, Ended, Brace, AltStart, AltNames, AltArrow, give, State, Apply, Step, go, done, stop, step, with_last, ◌⊹◌, binding, applied}
 use Rattle.core_reader.proofs.Complete.{some_last, alts_last}
 
 -- each binding with a `;` after it
@@ -29,7 +28,7 @@ AltsFrom l B n s alts ts = (us vs ws : List Lexeme) × (p q r : ℕ) × (l n ≡
 
 -- the tokens before an expression
 abbrev pub From : Room → Cont → List Lexeme → Type 0
-From l (InFunction ds n p params) ts = (us : List Lexeme) × (q : ℕ) × SpellsDecls l ds us × (ts ≡ us ++ (lexeme p (word.Name n) ∷ (binders params ++ lexeme q word.Equals ∷ [])))
+From l Outermost ts = ts ≡ []
 From l (LetBody k binds) ts = (us vs : List Lexeme) × (p q : ℕ) × (l (nests k) ≡ true) × From l k us × IsGroup binds × SpellsBinds l (suc (nests k)) binds vs × (ts ≡ us ++ (lexeme p word.Let ∷ (vs ++ lexeme q word.In ∷ [])))
 From l (Scrutinee k) ts = (us : List Lexeme) × (p : ℕ) × (l (nests k) ≡ true) × From l k us × (ts ≡ us ++ lexeme p word.Case ∷ [])
 From l (AltBody k s alts pat) ts = (us vs : List Lexeme) × (q : ℕ) × AltsFrom l (From l k) (nests k) s alts us × SpellsPattern pat vs × (ts ≡ us ++ (vs ++ lexeme q word.Arrow ∷ []))
@@ -45,11 +44,6 @@ Before l (Inside k held p) ts = (us vs : List Lexeme) × (l (opens k) ≡ true) 
 
 -- the tokens before a state
 abbrev pub Consumed : Room → State → List Lexeme → Type 0
-Consumed l (Top ds) ts = SpellsDecls l ds ts
-Consumed l (DataName ds) ts = (us : List Lexeme) × (p : ℕ) × SpellsDecls l ds us × (ts ≡ us ++ lexeme p word.Data ∷ [])
-Consumed l (Count ds n at) ts = (us : List Lexeme) × (p : ℕ) × SpellsDecls l ds us × (ts ≡ us ++ lexeme p word.Data ∷ lexeme at (word.Con n) ∷ [])
-Consumed l (DataEnd ds n at fields) ts = (us : List Lexeme) × (p q : ℕ) × SpellsDecls l ds us × (ts ≡ us ++ lexeme p word.Data ∷ lexeme at (word.Con n) ∷ lexeme q (word.Number false (pos fields)) ∷ [])
-Consumed l (Params ds n p params) ts = (us : List Lexeme) × SpellsDecls l ds us × (ts ≡ us ++ lexeme p (word.Name n) ∷ binders params)
 Consumed l (Apply k held) ts = (us vs : List Lexeme) × Before l k us × SpellsTerms l (opens k) held vs × (ts ≡ us ++ vs)
 Consumed l (BindName k binds) ts = BindsFrom l k binds ts
 Consumed l (BindEquals k binds n at) ts = (us : List Lexeme) × BindsFrom l k binds us × (ts ≡ us ++ lexeme at (word.Name n) ∷ [])
@@ -61,22 +55,18 @@ Consumed l (AltArrow k s alts pat) ts = (us vs : List Lexeme) × AltsFrom l (Fro
 
 abbrev pub Good : Room → Step → List Lexeme → Type 0
 Good l (go s) ts = Consumed l s ts
-Good l (done ds) ts = (us : List Lexeme) × (end : ℕ) × SpellsDecls l ds us × (ts ≡ us ++ lexeme end word.End ∷ [])
+Good l (done e) ts = (us : List Lexeme) × (x : Lexeme) × SpellsExpr l 0 e us × (ts ≡ us ++ x ∷ [])
 Good l (stop e) ts = Unit {0}
 
 good_if : (l : Room) (b : Bool) (s : State) (e : ReadRefusal) (ts : List Lexeme) → (b ≡ true → Consumed l s ts) → Good l (cond b (go s) (stop e)) ts
 good_if l true s e ts h = h refl
 good_if l false s e ts h = tt
 
-decls_last : (l : Room) (ds : List Decl) (d : Decl) (us vs : List Lexeme) → SpellsDecls l ds us → SpellsDecl l d vs → SpellsDecls l (ds ++ d ∷ []) (us ++ vs)
-decls_last l [] d us vs h g = (vs, [], g, refl, rw (h, append-nil) refl)
-decls_last l (e ∷ es) d us vs h g = (h.0, h.1 ++ vs, h.2, decls_last l es d h.1 vs h.3 g, ap (λ w. w ++ vs) h.4 ∙ append_assoc h.0 h.1 vs)
-
 all_last : (l : Room) (n : ℕ) (xs : Terms) (a : Term) (us vs : List Lexeme) → SpellsTerms l n xs us → SpellsTerm l n a vs → SpellsTerms l n (with_last xs a) (us ++ vs)
 all_last l n NoTerms a us vs h g = (vs, [], g, refl, rw (h, append-nil) refl)
 all_last l n (AndTerm b xs) a us vs h g = (h.0, h.1 ++ vs, h.2, all_last l n xs a h.1 vs h.3 g, ap (λ w. w ++ vs) h.4 ∙ append_assoc h.0 h.1 vs)
 
-binders_last : (ps : List Binder) (b : Binder) → binders (ps ++ b ∷ []) ≡ binders ps ++ lexeme b.at (word.Name b.name) ∷ []
+pub binders_last : (ps : List Binder) (b : Binder) → binders (ps ++ b ∷ []) ≡ binders ps ++ lexeme b.at (word.Name b.name) ∷ []
 binders_last [] b = refl
 binders_last (p ∷ ps) b = ap (λ w. lexeme p.at (word.Name p.name) ∷ w) (binders_last ps b)
 
@@ -134,10 +124,7 @@ sound_give l (LetBody k binds) e us vs at token h g =
     let regroup : us ++ vs ≡ h.0 ++ whole = simp (h.8, append_assoc) in
     subst (λ w. Good l (give k (Let binds e) at token) (w ++ lexeme at token ∷ [])) (sym regroup)
     (sound_give l k (Let binds e) h.0 whole at token h.5 (h.2, h.3, h.1, vs, h.4, h.6, h.7, g, refl))
-sound_give l (InFunction ds n p params) e us vs at word.Semicolon h g =
-    let ws = lexeme p (word.Name n) ∷ (binders params ++ (lexeme h.1 word.Equals ∷ (vs ++ lexeme at word.Semicolon ∷ []))) in
-    let f : (us ++ vs) ++ lexeme at word.Semicolon ∷ [] ≡ h.0 ++ ws = simp (h.3, append_assoc) in
-    rw f (decls_last l ds (defined n p params e) h.0 ws h.2 (h.1, at, vs, g, refl))
+sound_give l Outermost e us vs at token h g = (vs, lexeme at token, g, ap (λ w. (w ++ vs) ++ lexeme at token ∷ []) h)
 sound_give l (Scrutinee k) e us vs at word.Of h g = (h.0, vs, h.1, at, h.2, h.3, g, simp (h.4, append_assoc))
 sound_give l (AltBody k s alts p) e us vs at word.Semicolon h g =
     let c = h.3 in
@@ -164,18 +151,6 @@ sound_give l (AltBody k s alts p) e us vs at word.CloseBrace h g =
 sound_give l k e us vs at token h g = tt
 
 pub sound_step : (l : Room) (s : State) (ts : List Lexeme) (at : ℕ) (token : Token) → Consumed l s ts → Good l (step l s at token) (ts ++ lexeme at token ∷ [])
-sound_step l (Top ds) ts at word.Data h = (ts, at, h, refl)
-sound_step l (Top ds) ts at (word.Name n) h = (ts, h, refl)
-sound_step l (Top ds) ts at word.End h = (ts, at, h, refl)
-sound_step l (DataName ds) ts at (word.Con n) h = (h.0, h.1, h.2, simp (h.3, append_assoc))
-sound_step l (Count ds n p) ts at (word.Number false (pos size)) h = (h.0, h.1, at, h.2, simp (h.3, append_assoc))
-sound_step l (Count ds n p) ts at (word.Large false) h = tt
-sound_step l (DataEnd ds n p fields) ts at word.Semicolon h =
-    let vs = lexeme h.1 word.Data ∷ lexeme p (word.Con n) ∷ lexeme h.2 (word.Number false (pos fields)) ∷ lexeme at word.Semicolon ∷ [] in
-    let e : ts ++ lexeme at word.Semicolon ∷ [] ≡ h.0 ++ vs = simp (h.4, append_assoc) in
-    rw e (decls_last l ds (declared n p fields) h.0 vs h.3 (h.1, h.2, at, refl))
-sound_step l (Params ds n p params) ts at (word.Name m) h = (h.0, h.1, simp (h.2, append_assoc, binders_last))
-sound_step l (Params ds n p params) ts at word.Equals h = (ts ++ lexeme at word.Equals ∷ [], [], (h.0, at, h.1, simp (h.2, append_assoc)), refl, sym (append-nil _))
 sound_step l (Apply k held) ts at (word.Name n) h = adds l k held (tree.Name n.0 at) ts _ h refl
 sound_step l (Apply k held) ts at (word.Con n) h = adds l k held (tree.Con n.0 at) ts _ h refl
 sound_step l (Apply k held) ts at (word.Number minus v) h = adds l k held (tree.Int v at) ts _ h (minus, refl)

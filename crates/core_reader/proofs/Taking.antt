@@ -1,20 +1,16 @@
 -- One token of a reading, as the code takes it.
-use Rattle.std.proofs.Common.{◌≡◌, ℕ, length, ◌<◌, ◌≤◌, Bool, true, false, cond, List, [], ◌∷◌, ◌++◌, Result, Ok, Err, refl, sym, ap, subst, ◌∙◌, arith, ltb}
-use Rattle.std.specs.Prelude.{ℤ, pos, negsuc, ◌<ℤ◌, ◌≤ℤ◌}
-use Rattle.std.proofs.lemmas.Int.{ints}
-use lib.IntN.{nat_abs}
+use Rattle.std.proofs.Common.{◌≡◌, ℕ, length, ◌<◌, ◌≤◌, Bool, true, false, cond, List, [], ◌∷◌, ◌++◌, Result, Err, refl, sym, ap, subst, ◌∙◌, arith, ltb}
+use Rattle.std.specs.Prelude.{ℤ}
 use Rattle.std.proofs.lemmas.Bool.{le-ltb}
+use Rattle.std.specs.declared.boxed.Box.{Box}
+use Rattle.std.specs.declared.alloc.Global.{Global}
 use Rattle.core_reader.specs.declared.syntax.NameId.{NameId}
 use Rattle.core_reader.specs.declared.syntax.Pattern.{Pattern}
 use Rattle.core_reader.specs.declared.token.Token.{Token}
 use Rattle.core_reader.specs.declared.token.Token.TheVariants as word
 use Rattle.core_reader.specs.declared.token.Lexeme.{Lexeme}
 use Rattle.core_reader.specs.declared.refusal.ReadRefusal.{ReadRefusal}
-use Rattle.core_reader.specs.declared.refusal.ReadRefusal.TheVariants.{BadByte, Syntax, TooDeep}
-use Rattle.core_reader.specs.Tree.{Term, Terms, NoTerms, AndTerm, Bind, Expr, App, Let, Case, Alts, NoAlts, AndAlt, Data, Function}
-use Rattle.core_reader.specs.Tree as tree
-use Rattle.core_reader.specs.Grammar.{Room, at_most_200, Decl, Declares, Defines, constructors_of, functions_of}
-use Rattle.core_reader.specs.Machine.{Cont, InFunction, LetBody, Scrutinee, AltBody, nests, Frame, InBody, InBind, Inside, opens, BindName, BindEquals, Ended, Brace, AltStart, AltNames, AltArrow, give, refused, State, Top, DataName, Count, DataEnd, Params, Apply, go, stop, step, follow, run, with_last, ◌⊹◌, front, behind, starts_atom, is_name, refusal, Fails, terms, binds_of, alternatives, applied}
+use Rattle.core_reader.specs.declared.refusal.ReadRefusal.TheVariants.{BadByte, TooDeep}
 use Rattle.core_reader.specs.declared.syntax.Atom.{Atom}
 use Rattle.core_reader.specs.declared.syntax.Atom.TheVariants as atoms
 use Rattle.core_reader.specs.declared.syntax.App as app
@@ -22,63 +18,68 @@ use Rattle.core_reader.specs.declared.syntax.Bind as bind
 use Rattle.core_reader.specs.declared.syntax.Expr as code
 use Rattle.core_reader.specs.declared.syntax.Expr.TheVariants as exprs
 use Rattle.core_reader.specs.declared.syntax.Alt as alternative
-use Rattle.std.specs.declared.boxed.Box.{Box}
-use Rattle.std.specs.declared.alloc.Global.{Global}
+use Rattle.core_reader.specs.Tree.{Term, Terms, NoTerms, AndTerm, Bind, Expr, App, Let, Case, Alts, NoAlts, AndAlt, Data, Function}
+use Rattle.core_reader.specs.Tree as tree
+use Rattle.core_reader.specs.Grammar.{Room, at_most_200}
+use Rattle.core_reader.specs.Machine.{Cont, Outermost, LetBody, Scrutinee, AltBody, nests, Frame, InBody, InBind, Inside, opens, BindName, BindEquals, Ended, Brace, AltStart, AltNames, AltArrow, give, refused, State, Step, Apply, go, done, stop, step, Found, follow, run, with_last, ◌⊹◌, front, behind, starts_atom, is_name, refusal, Fails, terms, binds_of, alternatives, applied}
+use Rattle.core_reader.proofs.Turns.{refused_fails}
 use Rattle.core_reader.proofs.Complete.{ends_step}
 use Rattle.core_reader.proofs.TreeOf.{term_of-Bracket, expr_of-Let, expr_of-Case, alternative_of}
 
-give_bad : (k : Cont) (e : Expr) (at : ℕ) → give k e at word.Bad ≡ stop (BadByte at)
-give_bad (InFunction ds n p params) e at = refl
+-- a bad byte stops the reading, or an expression is whole before it
+abbrev pub IsBad : ℕ → Step → Type 0
+IsBad at (go s) = ⊥
+IsBad at (done e) = Unit {0}
+IsBad at (stop er) = er ≡ BadByte at
+
+give_bad : (k : Cont) (e : Expr) (at : ℕ) → IsBad at (give k e at word.Bad)
+give_bad Outermost e at = tt
 give_bad (LetBody k binds) e at = give_bad k (Let binds e) at
 give_bad (Scrutinee k) e at = refl
 give_bad (AltBody k s alts p) e at = refl
 
-bad_stops : (l : Room) (s : State) (at : ℕ) → step l s at word.Bad ≡ stop (BadByte at)
-bad_stops l (Top ds) at = refl
-bad_stops l (DataName ds) at = refl
-bad_stops l (Count ds n p) at = refl
-bad_stops l (DataEnd ds n p fields) at = refl
-bad_stops l (Params ds n p params) at = refl
-bad_stops l (Apply (Inside k held p) NoTerms) at = refl
-bad_stops l (Apply (Inside k held p) (AndTerm a xs)) at = refl
-bad_stops l (Apply (InBind k bs n p) NoTerms) at = refl
-bad_stops l (Apply (InBind k bs n p) (AndTerm a xs)) at = refl
-bad_stops l (Apply (InBody k) NoTerms) at = refl
-bad_stops l (Apply (InBody k) (AndTerm a xs)) at = give_bad k (applied a xs) at
-bad_stops l (BindName k []) at = refl
-bad_stops l (BindName k (b ∷ bs)) at = refl
-bad_stops l (BindEquals k bs n p) at = refl
-bad_stops l (Ended k e) at = give_bad k e at
-bad_stops l (Brace k e) at = refl
-bad_stops l (AltStart k s NoAlts) at = refl
-bad_stops l (AltStart k s (AndAlt p e xs)) at = refl
-bad_stops l (AltNames k s alts n p names) at = refl
-bad_stops l (AltArrow k s alts p) at = refl
+pub is_bad : (l : Room) (s : State) (at : ℕ) → IsBad at (step l s at word.Bad)
+is_bad l (Apply (Inside k held p) NoTerms) at = refl
+is_bad l (Apply (Inside k held p) (AndTerm a xs)) at = refl
+is_bad l (Apply (InBind k bs n p) NoTerms) at = refl
+is_bad l (Apply (InBind k bs n p) (AndTerm a xs)) at = refl
+is_bad l (Apply (InBody k) NoTerms) at = refl
+is_bad l (Apply (InBody k) (AndTerm a xs)) at = give_bad k (applied a xs) at
+is_bad l (BindName k []) at = refl
+is_bad l (BindName k (b ∷ bs)) at = refl
+is_bad l (BindEquals k bs n p) at = refl
+is_bad l (Ended k e) at = give_bad k e at
+is_bad l (Brace k e) at = refl
+is_bad l (AltStart k s NoAlts) at = refl
+is_bad l (AltStart k s (AndAlt p e xs)) at = refl
+is_bad l (AltNames k s alts n p names) at = refl
+is_bad l (AltArrow k s alts p) at = refl
 
-turns : (l : Room) (s : State) (ts : List Lexeme) → run l s ts ≡ follow (step l s (front ts).at (front ts).token) (λ s. run l s (behind ts))
+no_turn : (st : Step) (at : ℕ) (f g : State → Result Found ReadRefusal) → IsBad at st → follow st [] f ≡ follow st [] g
+no_turn (go s) at f g h = absurd h
+no_turn (done e) at f g h = refl
+no_turn (stop er) at f g h = refl
+
+turns : (l : Room) (s : State) (ts : List Lexeme) → run l s ts ≡ follow (step l s (front ts).at (front ts).token) ts (λ s. run l s (behind ts))
 unfolding run
-turns l s [] = sym (ap (λ st. follow st (λ s. run l s [])) (bad_stops l s 0))
+turns l s [] = no_turn (step l s 0 word.Bad) 0 (λ s. Err (BadByte 0)) (λ s. run l s []) (is_bad l s 0)
 turns l s (t ∷ ts) = refl
 
 -- A token that is taken, and one that stops the reading.
 pub takes : (l : Room) (s next : State) (ts : List Lexeme) (x : Lexeme) (token : Token) (after : List Lexeme) → x ≡ front ts → x.token ≡ token → after ≡ behind ts
     → step l s x.at token ≡ go next → run l s ts ≡ run l next after
 takes l s next ts x token after front_is token_is after_is e =
-    turns l s ts ∙ ap (λ (y : Lexeme). follow (step l s y.at y.token) (λ s. run l s (behind ts))) (sym front_is)
-    ∙ ap (λ w. follow (step l s x.at w) (λ s. run l s (behind ts))) token_is
-    ∙ ap (λ st. follow st (λ s. run l s (behind ts))) e
+    turns l s ts ∙ ap (λ (y : Lexeme). follow (step l s y.at y.token) ts (λ s. run l s (behind ts))) (sym front_is)
+    ∙ ap (λ w. follow (step l s x.at w) ts (λ s. run l s (behind ts))) token_is
+    ∙ ap (λ st. follow st ts (λ s. run l s (behind ts))) e
     ∙ ap (run l next) (sym after_is)
 
 pub halts : (l : Room) (s : State) (ts : List Lexeme) (x : Lexeme) (token : Token) (er : ReadRefusal) → x ≡ front ts → x.token ≡ token
     → step l s x.at token ≡ stop er → run l s ts ≡ Err er
 halts l s ts x token er front_is token_is e =
-    turns l s ts ∙ ap (λ (y : Lexeme). follow (step l s y.at y.token) (λ s. run l s (behind ts))) (sym front_is)
-    ∙ ap (λ w. follow (step l s x.at w) (λ s. run l s (behind ts))) token_is
-    ∙ ap (λ st. follow st (λ s. run l s (behind ts))) e
-
-refused_fails : (at : ℕ) (token : Token) (read : Result (List Decl) ReadRefusal) → read ≡ Err (refused at token) → Fails (refused at token) read
-refused_fails at word.Bad read e = e
-refused_fails at token read e = e
+    turns l s ts ∙ ap (λ (y : Lexeme). follow (step l s y.at y.token) ts (λ s. run l s (behind ts))) (sym front_is)
+    ∙ ap (λ w. follow (step l s x.at w) ts (λ s. run l s (behind ts))) token_is
+    ∙ ap (λ st. follow st ts (λ s. run l s (behind ts))) e
 
 -- A token that cannot stand here is refused.
 pub refuses : (l : Room) (s : State) (ts : List Lexeme) (er : ReadRefusal) → er ≡ refusal (front ts) → step l s (front ts).at (front ts).token ≡ stop (refusal (front ts)) → Fails er (run l s ts)
@@ -108,7 +109,7 @@ goes_in k held depth at e h =
     let f : ltb (opens k) 200 ≡ true = grind arith in
     ap (λ b. cond b (go (Apply (Inside k held at) NoTerms)) (stop (TooDeep at))) f
 
-pub fails_from : (er : ReadRefusal) (r s : Result (List Decl) ReadRefusal) → r ≡ s → Fails er s → Fails er r
+pub fails_from : {Y : Type 0} (er : ReadRefusal) (r s : Result Y ReadRefusal) → r ≡ s → Fails er s → Fails er r
 fails_from er r s e h = subst (Fails er) (sym e) h
 
 pub opening : (k : Frame) (held : Terms) (ts after : List Lexeme) (depth at : ℕ) → opens k ≡ depth → depth < 200 → (front ts).token ≡ word.Open → (front ts).at ≡ at → after ≡ behind ts
@@ -194,7 +195,7 @@ no_next l k bs n p a xs at token e h g = refl
 pub ended_app : (l : Room) (k : Cont) (a : Term) (xs : Terms) (ts : List Lexeme) → starts_atom (front ts).token ≡ false → run l (Apply (InBody k) (AndTerm a xs)) ts ≡ run l (Ended k (applied a xs)) ts
 ended_app l k a xs ts e =
     turns l (Apply (InBody k) (AndTerm a xs)) ts
-    ∙ ap (λ st. follow st (λ s. run l s (behind ts))) (ends_step l k a xs (front ts).at (front ts).token e)
+    ∙ ap (λ st. follow st ts (λ s. run l s (behind ts))) (ends_step l k a xs (front ts).at (front ts).token e)
     ∙ sym (turns l (Ended k (applied a xs)) ts)
 
 pub let_deep : (k : Cont) (depth at : ℕ) → nests k ≡ depth → 200 ≤ depth → step at_most_200 (Apply (InBody k) NoTerms) at word.Let ≡ stop (TooDeep at)
@@ -292,73 +293,3 @@ some_alts (x ∷ xs) h l k s at = rw (alternative_of x (alternatives xs)) refl
 pub not_name : (token : Token) → ((n : NameId) → token ≡ word.Name n → ⊥) → is_name token ≡ false
 not_name (word.Name n) h = absurd (h n refl)
 not_name token h = refl
-
-pub no_con : (l : Room) (ds : List Decl) (at : ℕ) (token : Token) → ((n : NameId) → token ≡ word.Con n → ⊥) → step l (DataName ds) at token ≡ stop (refused at token)
-no_con l ds at (word.Con n) h = absurd (h n refl)
-no_con l ds at word.Bad h = refl
-no_con l ds at token h = refl
-
-pub no_semicolon : (l : Room) (ds : List Decl) (n : NameId) (p : ℕ) (fields : _) (at : ℕ) (token : Token) → (token ≡ word.Semicolon → ⊥) → step l (DataEnd ds n p fields) at token ≡ stop (refused at token)
-no_semicolon l ds n p fields at word.Semicolon h = absurd (h refl)
-no_semicolon l ds n p fields at word.Bad h = refl
-no_semicolon l ds n p fields at token h = refl
-
-pub no_count : (l : Room) (ds : List Decl) (n : NameId) (p at : ℕ) (token : Token) → ((m : Bool) (v : ℤ) → token ≡ word.Number m v → ⊥) → ((m : Bool) → token ≡ word.Large m → ⊥) → step l (Count ds n p) at token ≡ stop (refused at token)
-no_count l ds n p at (word.Number m v) h g = absurd (h m v refl)
-no_count l ds n p at (word.Large m) h g = absurd (g m refl)
-no_count l ds n p at token h g = refl
-
-pub minus_count : (l : Room) (ds : List Decl) (n : NameId) (p at : ℕ) (v : ℤ) → step l (Count ds n p) at (word.Number true v) ≡ stop (Syntax at)
-minus_count l ds n p at (pos k) = refl
-minus_count l ds n p at (negsuc k) = refl
-
-pub below_count : (l : Room) (ds : List Decl) (n : NameId) (p at : ℕ) (v : ℤ) → v <ℤ pos 0 → step l (Count ds n p) at (word.Number false v) ≡ stop (Syntax at)
-below_count l ds n p at (pos k) h = absurd (omega (arith, ints))
-below_count l ds n p at (negsuc k) h = refl
-
-pub good_count : (l : Room) (ds : List Decl) (n : NameId) (p at : ℕ) (v : ℤ) → pos 0 ≤ℤ v → step l (Count ds n p) at (word.Number false v) ≡ go (DataEnd ds n p (nat_abs v))
-good_count l ds n p at (pos k) h = refl
-good_count l ds n p at (negsuc k) h = absurd (omega (arith, ints))
-
-pub no_decl : (l : Room) (ds : List Decl) (at : ℕ) (token : Token) → (token ≡ word.Data → ⊥) → ((n : NameId) → token ≡ word.Name n → ⊥) → (token ≡ word.End → ⊥) → step l (Top ds) at token ≡ stop (refused at token)
-no_decl l ds at word.Data h g f = absurd (h refl)
-no_decl l ds at (word.Name n) h g f = absurd (g n refl)
-no_decl l ds at word.End h g f = absurd (f refl)
-no_decl l ds at token h g f = refl
-
-pub naming : (ds : List Decl) (n : NameId) (p : ℕ) (ts after : List Lexeme) → (front ts).token ≡ word.Name n → (front ts).at ≡ p → after ≡ behind ts → run at_most_200 (Top ds) ts ≡ run at_most_200 (Params ds n p []) after
-naming ds n p ts after token_is at_is after_is = takes at_most_200 (Top ds) (Params ds n p []) ts (front ts) (word.Name n) after refl token_is after_is (ap (λ w. go (Params ds n w [])) at_is)
-
-pub constructors_last : (ds : List Decl) (d : Data) → constructors_of (ds ++ Declares d ∷ []) ≡ constructors_of ds ++ d ∷ []
-constructors_last [] d = refl
-constructors_last (Declares c ∷ ds) d = ap (λ w. c ∷ w) (constructors_last ds d)
-constructors_last (Defines f ∷ ds) d = constructors_last ds d
-
-pub constructors_same : (ds : List Decl) (f : Function) → constructors_of (ds ++ Defines f ∷ []) ≡ constructors_of ds
-constructors_same [] f = refl
-constructors_same (Declares c ∷ ds) f = ap (λ w. c ∷ w) (constructors_same ds f)
-constructors_same (Defines g ∷ ds) f = constructors_same ds f
-
-pub functions_last : (ds : List Decl) (f : Function) → functions_of (ds ++ Defines f ∷ []) ≡ functions_of ds ++ f ∷ []
-functions_last [] f = refl
-functions_last (Declares c ∷ ds) f = functions_last ds f
-functions_last (Defines g ∷ ds) f = ap (λ w. g ∷ w) (functions_last ds f)
-
-pub functions_same : (ds : List Decl) (d : Data) → functions_of (ds ++ Declares d ∷ []) ≡ functions_of ds
-functions_same [] d = refl
-functions_same (Declares c ∷ ds) d = functions_same ds d
-functions_same (Defines g ∷ ds) d = ap (λ w. g ∷ w) (functions_same ds d)
-
-pub finishes : (l : Room) (ds : List Decl) (ts : List Lexeme) (x : Lexeme) → x ≡ front ts → x.token ≡ word.End → run l (Top ds) ts ≡ Ok ds
-finishes l ds ts x front_is token_is =
-    turns l (Top ds) ts ∙ ap (λ (y : Lexeme). follow (step l (Top ds) y.at y.token) (λ s. run l s (behind ts))) (sym front_is)
-    ∙ ap (λ w. follow (step l (Top ds) x.at w) (λ s. run l s (behind ts))) token_is
-
-pub no_param : (l : Room) (ds : List Decl) (n : NameId) (p : ℕ) (params : _) (at : ℕ) (token : Token) → is_name token ≡ false → (token ≡ word.Equals → ⊥) → step l (Params ds n p params) at token ≡ stop (refused at token)
-no_param l ds n p params at (word.Name m) e h = absurd cc
-no_param l ds n p params at word.Equals e h = absurd (h refl)
-no_param l ds n p params at token e h = refl
-
-pub no_end : (l : Room) (ds : List Decl) (n : NameId) (p : ℕ) (params : _) (e : Expr) (at : ℕ) (token : Token) → (token ≡ word.Semicolon → ⊥) → step l (Ended (InFunction ds n p params) e) at token ≡ stop (refused at token)
-no_end l ds n p params e at word.Semicolon h = absurd (h refl)
-no_end l ds n p params e at token h = refl

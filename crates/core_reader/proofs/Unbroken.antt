@@ -9,7 +9,7 @@ use Rattle.core_reader.specs.Words.{IsInRange, written_number}
 use Rattle.core_reader.specs.Rules.{NumberRange, TextTooLong, IsUnbroken}
 use Rattle.core_reader.specs.Lexed.{AreInRange}
 use Rattle.core_reader.specs.Laws.{UnbrokenIsReadable}
-use Rattle.core_reader.proofs.Causes.{one_last, begins_at}
+use Rattle.core_reader.proofs.FirstBroken.{one_last, begins_at}
 use Rattle.core_reader.proofs.Readability.{readable}
 use Rattle.core_reader.proofs.Answers.{few}
 

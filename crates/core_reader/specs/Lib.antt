@@ -21,7 +21,11 @@ pub mod Readable
 pub mod Laws
 -- devices of the proofs
 pub mod LookOf
+pub mod ReadingOf
 pub mod Machine
+pub mod AroundOf
+pub mod Declaring
+pub mod HeaderOf
 pub mod Parsed
 pub mod LexedOf
 pub mod Lexed

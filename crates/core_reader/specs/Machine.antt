@@ -1,6 +1,6 @@
--- Reading one token after the other, with a stack of what is open. A device of the proofs: no
--- public clause speaks of it.
-use Rattle.std.specs.Prelude.{◌≡◌, ℕ, suc, pos, Bool, true, false, List, [], ◌∷◌, ◌++◌, cond, map, Result, Ok, Err}
+-- Reading an expression one token after the other, with a stack of what is open. A device of the
+-- proofs: no clause of `read` speaks of it.
+use Rattle.std.specs.Prelude.{◌≡◌, ℕ, suc, Bool, true, false, List, [], ◌∷◌, ◌++◌, cond, map, Result, Ok, Err}
 use Rattle.std.specs.Global.{Vec}
 use Rattle.core_reader.specs.declared.syntax.NameId.{NameId}
 use Rattle.core_reader.specs.declared.syntax.Binder.{Binder}
@@ -11,8 +11,6 @@ use Rattle.core_reader.specs.declared.syntax.App as app
 use Rattle.core_reader.specs.declared.syntax.Bind as bind
 use Rattle.core_reader.specs.declared.syntax.Expr as expr
 use Rattle.core_reader.specs.declared.syntax.Alt as alternative
-use Rattle.core_reader.specs.declared.syntax.Data as code-data
-use Rattle.core_reader.specs.declared.syntax.Function as code-function
 use Rattle.core_reader.specs.declared.token.Token.{Token}
 use Rattle.core_reader.specs.declared.token.Token.TheVariants as word
 use Rattle.core_reader.specs.declared.token.Lexeme.{Lexeme}
@@ -20,7 +18,9 @@ use Rattle.core_reader.specs.declared.refusal.ReadRefusal.{ReadRefusal}
 use Rattle.core_reader.specs.declared.refusal.ReadRefusal.TheVariants.{BadByte, Syntax, NumberRange, TooDeep, TextTooLong, Memory}
 use Rattle.core_reader.specs.Tree.{Term, Terms, NoTerms, AndTerm, Application, Bind, Expr, App, Let, Case, Alts, NoAlts, AndAlt, Data, Function, terms_of, alts_of}
 use Rattle.core_reader.specs.Tree as tree
-use Rattle.core_reader.specs.Grammar.{Room, at_most_200, Decl, Declares, Defines}
+use Rattle.core_reader.specs.Grammar.{Room, at_most_200, binders}
+use Rattle.core_reader.specs.ReadingOf as any
+pub use Rattle.core_reader.specs.ReadingOf.{go, done, stop}
 
 abbrev pub with_last : Terms → Term → Terms
 with_last NoTerms b = AndTerm b NoTerms
@@ -38,15 +38,9 @@ binding n at head args =
 abbrev pub applied : Term → Terms → Expr
 applied head args = App (record { head = head; args = args })
 
-abbrev pub declared : NameId → ℕ → ℕ → Decl
-declared n at fields = Declares (record { name = n.0; fields = fields; at = at })
-
-abbrev pub defined : NameId → ℕ → List Binder → Expr → Decl
-defined n at params body = Defines (record { name = n.0; at = at; params = params; body = body })
-
 -- what an expression stands in
 pub data Cont : Type 0 where
-  InFunction : List Decl → NameId → ℕ → List Binder → Cont
+  Outermost : Cont
   LetBody : Cont → List Bind → Cont
   Scrutinee : Cont → Cont
   AltBody : Cont → Expr → Alts → Pattern → Cont
@@ -59,7 +53,7 @@ pub data Frame : Type 0 where
 
 -- how many constructs are open there
 abbrev pub nests : Cont → ℕ
-nests (InFunction ds n p params) = 0
+nests Outermost = 0
 nests (LetBody k binds) = suc (nests k)
 nests (Scrutinee k) = suc (nests k)
 nests (AltBody k e alts p) = suc (nests k)
@@ -70,11 +64,6 @@ opens (InBind k binds n at) = suc (nests k)
 opens (Inside k held at) = suc (opens k)
 
 pub data State : Type 0 where
-  Top : List Decl → State
-  DataName : List Decl → State
-  Count : List Decl → NameId → ℕ → State
-  DataEnd : List Decl → NameId → ℕ → ℕ → State
-  Params : List Decl → NameId → ℕ → List Binder → State
   Apply : Frame → Terms → State
   BindName : Cont → List Bind → State
   BindEquals : Cont → List Bind → NameId → ℕ → State
@@ -84,36 +73,23 @@ pub data State : Type 0 where
   AltNames : Cont → Expr → Alts → NameId → ℕ → List Binder → State
   AltArrow : Cont → Expr → Alts → Pattern → State
 
-pub data Step : Type 0 where
-  go : State → Step
-  done : List Decl → Step
-  stop : ReadRefusal → Step
+abbrev pub Step : Type 0
+Step = any.Step State Expr
 
 abbrev pub refused : ℕ → Token → ReadRefusal
 refused at word.Bad = BadByte at
 refused at token = Syntax at
 
--- an expression is whole, and the token stands after it
+-- An expression is whole, and the token stands after it. The outermost one leaves the token.
 abbrev pub give : Cont → Expr → ℕ → Token → Step
 give (LetBody k binds) e at token = give k (Let binds e) at token
-give (InFunction ds n p params) e at word.Semicolon = go (Top (ds ++ defined n p params e ∷ []))
+give Outermost e at token = done e
 give (Scrutinee k) e at word.Of = go (Brace k e)
 give (AltBody k s alts p) e at word.Semicolon = go (AltStart k s (alts ⊹ AndAlt p e NoAlts))
 give (AltBody k s alts p) e at word.CloseBrace = go (Ended k (Case s (alts ⊹ AndAlt p e NoAlts)))
 give k e at token = stop (refused at token)
 
 abbrev pub step : Room → State → ℕ → Token → Step
-step l (Top ds) at word.Data = go (DataName ds)
-step l (Top ds) at (word.Name n) = go (Params ds n at [])
-step l (Top ds) at word.End = done ds
-step l (DataName ds) at (word.Con n) = go (Count ds n at)
-step l (Count ds n p) at (word.Number false (pos size)) = go (DataEnd ds n p size)
-step l (Count ds n p) at (word.Large false) = stop (NumberRange at)
-step l (DataEnd ds n p fields) at word.Semicolon = go (Top (ds ++ declared n p fields ∷ []))
-step l (Params ds n p params) at (word.Name m) =
-    go (Params ds n p (params ++ record { name = m; at = at } ∷ []))
-step l (Params ds n p params) at word.Equals =
-    go (Apply (InBody (InFunction ds n p params)) NoTerms)
 step l (Apply k held) at (word.Name n) = go (Apply k (with_last held (tree.Name n.0 at)))
 step l (Apply k held) at (word.Con n) = go (Apply k (with_last held (tree.Con n.0 at)))
 step l (Apply k held) at (word.Number minus v) = go (Apply k (with_last held (tree.Int v at)))
@@ -149,14 +125,19 @@ step l (AltNames k s alts n p names) at word.Arrow =
 step l (AltArrow k s alts p) at word.Arrow = go (Apply (InBody (AltBody k s alts p)) NoTerms)
 step l s at token = stop (refused at token)
 
-abbrev pub follow : Step → (State → Result (List Decl) ReadRefusal) → Result (List Decl) ReadRefusal
-follow (go s) next = next s
-follow (done ds) next = Ok ds
-follow (stop e) next = Err e
+-- an expression, and the tokens behind it
+pub record Found : Type 0 where
+  pub expr : Expr
+  pub rest : List Lexeme
 
-unfoldable pub run : Room → State → List Lexeme → Result (List Decl) ReadRefusal
-run l s [] = Err (BadByte 0)
-run l s (t ∷ ts) = follow (step l s t.at t.token) (λ s. run l s ts)
+abbrev pub follow : Step → List Lexeme → (State → Result Found ReadRefusal) → Result Found ReadRefusal
+follow (go s) ts next = next s
+follow (done e) ts next = Ok (record { expr = e; rest = ts })
+follow (stop er) ts next = Err er
+
+unfoldable pub run : Room → State → List Lexeme → Result Found ReadRefusal
+run l s [] = follow (step l s 0 word.Bad) [] (λ s. Err (BadByte 0))
+run l s (t ∷ ts) = follow (step l s t.at t.token) (t ∷ ts) (λ s. run l s ts)
 
 -- the token that stands next, and what stands behind it
 abbrev pub front : List Lexeme → Lexeme
@@ -191,6 +172,10 @@ Fails (NumberRange at) read = read ≡ Err (NumberRange at)
 Fails (TooDeep at) read = read ≡ Err (TooDeep at)
 Fails TextTooLong read = read ≡ Err TextTooLong
 Fails (Memory e) read = Unit {0}
+
+abbrev pub IsMemory : ReadRefusal → Type 0
+IsMemory (Memory e) = Unit {0}
+IsMemory e = ⊥
 
 abbrev pub Goes : {X Y : Type 0} → Result X ReadRefusal → Result Y ReadRefusal
     → (X → Result Y ReadRefusal) → Type 0
@@ -267,34 +252,7 @@ ReadsPattern old new result =
     → Goes result (run at_most_200 (AltStart k e xs) old) (λ p.
     run at_most_200 (Apply (InBody (AltBody k e xs p)) NoTerms) new)
 
--- A state that keeps names takes one more.
-abbrev pub KeepsNames : (List Binder → State) → Type 0
-KeepsNames state = (names : List Binder) (n : NameId) (at : ℕ)
-    → step at_most_200 (state names) at (word.Name n)
-    ≡ go (state (names ++ record { name = n; at = at } ∷ []))
-
--- The names of a list were read, by whatever keeps them.
+-- The names of a list were read, or memory ran out.
 abbrev pub ReadsNames : List Lexeme → List Lexeme → Result (Vec Binder) ReadRefusal → Type 0
-ReadsNames old new result = (state : List Binder → State) → KeepsNames state
-    → Goes result (run at_most_200 (state []) old) (λ names.
-    run at_most_200 (state names.items) new)
-
--- A count was read.
-abbrev pub ReadsCount : List Lexeme → List Lexeme → Result ℕ ReadRefusal → Type 0
-ReadsCount old new result =
-    (ds : List Decl) (n : NameId) (p : ℕ)
-    → Goes result (run at_most_200 (Count ds n p) old) (λ size.
-    run at_most_200 (DataEnd ds n p size) new)
-
-abbrev pub ReadsDecl : {X : Type 0} → (X → Decl) → List Lexeme → List Lexeme
-    → Result X ReadRefusal → Type 0
-ReadsDecl view old new result =
-    (ds : List Decl)
-    → Goes result (run at_most_200 (Top ds) old) (λ x.
-    run at_most_200 (Top (ds ++ view x ∷ [])) new)
-
-abbrev pub data_decl : code-data.Data → Decl
-data_decl d = Declares (tree.data_of d)
-
-abbrev pub function_decl : code-function.Function → Decl
-function_decl f = Defines (tree.function f)
+ReadsNames old new (Ok names) = old ≡ binders names.items ++ new
+ReadsNames old new (Err e) = IsMemory e

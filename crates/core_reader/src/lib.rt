@@ -8,9 +8,11 @@
 //! and the longest-token rule, `WordsOf` and `NamesOf` what a token says (`Tokens`, `Words` and
 //! `Names` are those of Core), `Grammar` the productions, `Programs` the program of a text, `Rules`
 //! what a text must not have (`Text` has the words, names, programs and rules in one place), and
-//! `Readable` what holds of each program that was read. `LexedOf` says what `lex` gives, and
-//! `Machine` and `Parsed` what a `Parser` does. `specs/LookOf` is a device of the proofs; no clause
-//! of `read` speaks of these four.
+//! `Readable` what holds of each program that was read. `LexedOf` says what `lex` gives. `Machine`
+//! (expressions), `Declaring` (declarations) and `Parsed` say what a `Parser` does. A language around
+//! Core says how it is read by `ReadingOf`: by `AroundOf`, if expressions of Core stand in it, or by
+//! `HeaderOf`, if Core's declarations follow a header of its own. `LookOf` is a device of the
+//! proofs. No clause of `read` speaks of any of these.
 #![tactic(auto)]
 
 mod bytes;

@@ -1,7 +1,8 @@
 //! From tokens to a tree.
 
 ghost use Rattle.std.specs.Prelude.{◌≡◌, ◌<◌, ◌≤◌, true, false, length, OnOk};
-ghost use Rattle.core_reader.specs.Machine.{front, behind, is_name, starts_atom, refusal, ReadsAtom, ReadsApp, ReadsHeaded, ReadsBind, ReadsBinds, ReadsExpr, ReadsAlts, ReadsPattern, ReadsNames, ReadsCount, ReadsDecl, Takes, data_decl, function_decl};
+ghost use Rattle.core_reader.specs.Machine.{front, behind, is_name, starts_atom, refusal, ReadsAtom, ReadsApp, ReadsHeaded, ReadsBind, ReadsBinds, ReadsExpr, ReadsAlts, ReadsPattern, ReadsNames, Takes};
+ghost use Rattle.core_reader.specs.Declaring.{ReadsCount, ReadsDecl, data_decl, function_decl};
 ghost use Rattle.core_reader.specs.Parsed.{ReadsProgram};
 ghost use Rattle.core_reader.specs.declared.token.Token.TheVariants as word;
 

@@ -428,6 +428,9 @@ fn listings(rt: HostRuntime) -> Result<(), Fail> {
         // No procedure gives numbers alone, and each parameter's cell is updated.
         (TAKES_TEXT, "unbox", TAKES_WITH_TAGS),
         (TAKES_TEXT, "raise", TAKES_WITH_TAGS),
+        // Each cell is fetched from: the lists by what takes or prints them, the number by what
+        // prints.
+        (TAKES_TEXT, "dead", TAKES_WITH_TAGS),
     ];
     for (text, after, out) in rows {
         let text = format!(in rt.alloc(); "{LISTS}{text}")?;
@@ -499,6 +502,22 @@ fn a_parameter_gives_place_to_fields(rt: HostRuntime) -> Result<(), Fail> {
         assert!(rt; shown.is_done(), "{after}");
         assert!(rt; shown.has_line(line), "{after}");
         assert!(rt; !shown.has_line(no_line), "{after}");
+    }
+    Ok(())
+}
+
+#[test]
+fn cells_that_nothing_reads_are_not_stored(rt: HostRuntime) -> Result<(), Fail> {
+    let text = format!(in rt.alloc(); "{LISTS}main = let a = 65; b = Cons a a in Nil;")?;
+    for (after, is_stored) in [("raise", true), ("dead", false)] {
+        let shown = listed(rt.alloc(), text.as_str(), after)?;
+        assert!(rt;
+            shown.is_done() && shown.has_line("  unit (CNil)"),
+            "{after}"
+        );
+        assert_eq!(rt; shown.has_line("    v0 = (CInt 65)"), is_stored);
+        assert_eq!(rt; shown.has_line("    v1 = (CCons v0 v0)"), is_stored);
+        assert_eq!(rt; shown.has_line("  store"), is_stored);
     }
     Ok(())
 }

@@ -41,6 +41,11 @@ impl Ended {
         self.is_bytes(code, out.as_bytes(), err)
     }
 
+    /// Whether this is the status of the process, and whether the error output took this text.
+    pub(crate) fn ends(&self, code: u8, err: &str) -> bool {
+        self.status.code() == code && self.err.taken() == err.as_bytes()
+    }
+
     /// Whether this is the status of the process, and whether the two outputs took these bytes.
     pub(crate) fn is_bytes(&self, code: u8, out: &[u8], err: &str) -> bool {
         self.status.code() == code && self.out.taken() == out && self.err.taken() == err.as_bytes()

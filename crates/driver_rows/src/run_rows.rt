@@ -184,3 +184,73 @@ fn what_is_given_suffices_or_not(rt: HostRuntime) -> Result<(), Fail> {
     }
     Ok(())
 }
+
+#[test]
+fn cells_that_nothing_reads(rt: HostRuntime) -> Result<(), Fail> {
+    // With the first heap a program ends, and with the second, a cell less, its heap is full.
+    let rows = [
+        ("k x y = x; main = k Nil (Cons 65 Nil);", "2", "1", ""),
+        (
+            "main = let a = 65; b = Cons a a; c = Cons b b in Cons a Nil;",
+            "3",
+            "2",
+            "A",
+        ),
+        (
+            "f x = add x 1; main = case f 1 of { y -> Cons 65 Nil };",
+            "5",
+            "4",
+            "A",
+        ),
+        (
+            "data Pair 2; main = let p = Pair 65 66 in case p of { Pair x y -> Cons x Nil };",
+            "4",
+            "3",
+            "A",
+        ),
+        (
+            "data Box 1; main = let b = Box b in Cons 65 Nil;",
+            "3",
+            "2",
+            "A",
+        ),
+        (
+            "data Pair 2; swap p = case p of { Pair a b -> Pair b a }; \
+             main = case swap (Pair 1 65) of { Pair a b -> Cons a Nil };",
+            "4",
+            "3",
+            "A",
+        ),
+    ];
+    for (text, enough, less, out) in rows {
+        let text = format!(in rt.alloc(); "{LISTS}{text}")?;
+        let outside = Outside::of(text.as_bytes());
+        let shown = outside.run(rt.alloc(), &["grinc", "run", "a", "--heap", enough])?;
+        assert!(rt; shown.is(0, out, ""), "{text}");
+        let shown = outside.run(rt.alloc(), &["grinc", "run", "a", "--heap", less])?;
+        assert!(rt; shown.ends(4, "grinc: heap full\n"), "{text}");
+    }
+    let rows = [
+        (
+            "h y = case y of { Nil -> Nil; Cons a b -> b }; main = let c = Cons 1 Nil in Nil;",
+            "1",
+            0,
+            "",
+            "",
+        ),
+        (
+            "go n = case add n 1 of { m -> Cons 46 (go n) }; main = go 1;",
+            "12",
+            4,
+            "...",
+            "grinc: heap full\n",
+        ),
+    ];
+    for (text, heap, code, out, err) in rows {
+        let text = format!(in rt.alloc(); "{LISTS}{text}")?;
+        let words = ["grinc", "run", "a", "--heap", heap];
+        let shown = Outside::of(text.as_bytes()).run(rt.alloc(), &words)?;
+        assert!(rt; shown.is(code, out, err), "{text}");
+    }
+    Ok(())
+}

@@ -21,3 +21,7 @@ pub mod PassContract
 pub mod Used
 pub mod Placing
 pub mod Fronting
+pub mod Scanned
+pub mod Places
+pub mod Asking
+pub mod Walked

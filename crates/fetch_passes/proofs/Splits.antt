@@ -103,16 +103,16 @@ module _ (ts : List Tag) where
   pub block_none : (ks : Names) (a : W.Word) (n : ℕ) (stmts old : List Stmt) (last : Code) → BlockSoFar ks ks a a [] n n stmts old old 0 last
   block_none ks a n stmts old last = record { by = refl; room = refl }
 
-  pub block_next : (ks js js' : Names) (a a' a2 : W.Word) (qs qs' : List Wait) (n m m' : ℕ) (stmts old made made' rest : List Stmt) (i : ℕ) (s : Stmt) (last : Code) → i < length stmts → s ≡ get_or stmts i s → rest ≡ drop (suc i) stmts → BlockSoFar ks js a a' qs n m stmts old made i last
-      → all_before (map before_of made') (split_code ts js' a2 qs' m' (all_before (map before_of rest) last)) ≡ all_before (map before_of made) (split_code ts js a' qs m (before_of s (all_before (map before_of rest) last)))
-      → m' + made_code ts qs' (all_before (map before_of rest) last) ≡ m + made_code ts qs (before_of s (all_before (map before_of rest) last)) → BlockSoFar ks js' a a2 qs' n m' stmts old made' (i + 1) last
-  block_next ks js js' a a' a2 qs qs' n m m' stmts old made made' rest i s last lt e d f x y = subst (λ k. BlockSoFar ks js' a a2 qs' n m' stmts old made' k last) (let q : suc i ≡ i + 1 = omega arith in q) (record {
-    by = (λ j. all_before (map before_of made') (split_code ts js' a2 qs' m' (all_before (map before_of (sym d j)) last))) ∙ x ∙ ap (λ c. all_before (map before_of made) (split_code ts js a' qs m c)) here ∙ f.by;
-    room = (λ j. m' + made_code ts qs' (all_before (map before_of (sym d j)) last)) ∙ y ∙ ap (λ c. m + made_code ts qs c) here ∙ f.room;
+  pub block_next : (ks js js' : Names) (a a' a2 : W.Word) (qs qs' : List Wait) (n m m' : ℕ) (stmts old made made' rest : List Stmt) (i : ℕ) (s : Stmt) (o l : Op) → i < length stmts → s ≡ get_or stmts i s → rest ≡ drop (suc i) stmts → o ≡ l → BlockSoFar ks js a a' qs n m stmts old made i (end (act_of l))
+      → all_before (map before_of made') (split_code ts js' a2 qs' m' (all_before (map before_of rest) (end (act_of o)))) ≡ all_before (map before_of made) (split_code ts js a' qs m (before_of s (all_before (map before_of rest) (end (act_of o)))))
+      → m' + made_code ts qs' (all_before (map before_of rest) (end (act_of o))) ≡ m + made_code ts qs (before_of s (all_before (map before_of rest) (end (act_of o)))) → BlockSoFar ks js' a a2 qs' n m' stmts old made' (i + 1) (end (act_of l))
+  block_next ks js js' a a' a2 qs qs' n m m' stmts old made made' rest i s o l lt e d z f x y = subst (λ k. BlockSoFar ks js' a a2 qs' n m' stmts old made' k (end (act_of l))) (let q : suc i ≡ i + 1 = omega arith in q) (record {
+    by = (λ j. all_before (map before_of made') (split_code ts js' a2 qs' m' (all_before (map before_of (sym d j)) (end (act_of (sym z j)))))) ∙ x ∙ ap (λ c. all_before (map before_of made) (split_code ts js a' qs m c)) here ∙ f.by;
+    room = (λ j. m' + made_code ts qs' (all_before (map before_of (sym d j)) (end (act_of (sym z j))))) ∙ y ∙ ap (λ c. m + made_code ts qs c) here ∙ f.room;
   })
     where
-      here : before_of s (all_before (map before_of rest) last) ≡ code_from stmts i last
-      here = ap (λ r. before_of s (all_before (map before_of r) last)) d ∙ sym (code_at stmts i s last lt e)
+      here : before_of s (all_before (map before_of rest) (end (act_of o))) ≡ code_from stmts i (end (act_of l))
+      here = (λ j. before_of s (all_before (map before_of (d j)) (end (act_of (z j))))) ∙ sym (code_at stmts i s (end (act_of l)) lt e)
 
   pub block_done : (ks js : Names) (a a' : W.Word) (qs : List Wait) (n m m1 : ℕ) (b made : Block) (old mid ss : List Stmt) (i : ℕ) (o l : Op) → length b.stmts ≤ i → BlockSoFar ks js a a' qs n m b.stmts old mid i (end (act_of b.last.value))
       → act_of o ≡ split_act ts js a' qs m (act_of b.last.value) → m1 ≡ m + made_act ts qs (act_of b.last.value)

@@ -6,3 +6,5 @@ pub mod Fetched
 pub mod Placed
 pub mod Positions
 pub mod Fronts
+pub mod Notes
+pub mod Asked

@@ -5,7 +5,9 @@
 mod ending;
 mod names;
 mod nodes;
+mod notes;
 mod pass;
+mod scan;
 mod split;
 mod windows;
 

@@ -4,19 +4,20 @@
 
 ghost use Rattle.std.specs.Prelude.{◌≡◌, ◌++◌, [], ◌∷◌, cond, ◌+◌, suc, length, map, IfOk, OnOk};
 ghost use Rattle.grin_syntax.specs.declared.program.Word.TheVariants.{Lit};
-ghost use Rattle.grin_syntax.specs.Tree.{Code, end, act_of, before_of, code_of, all_before};
+ghost use Rattle.grin_syntax.specs.Tree.{Code, before_of, code_of, all_before};
 ghost use Rattle.grin_syntax.specs.Fresh.{variable};
 ghost use Rattle.pass_ground.specs.Uses.{code_uses};
-ghost use Rattle.fetch_passes.specs.Windows.{outside};
+ghost use Rattle.fetch_passes.specs.Notes.{Here, sized, code_trace};
+ghost use Rattle.fetch_passes.specs.Asked.{IsWindow};
 ghost use Rattle.fetch_passes.specs.Names.{hiding, named_if};
 ghost use Rattle.fetch_passes.specs.Waits.{waits_of};
 ghost use Rattle.fetch_passes.specs.Split.{fetched_if, word_fetches, front, front_names};
 
 use crate::names::{Standing, Wait};
-use crate::windows::outside;
+use crate::notes::{Notes, Place};
+use crate::windows::{Window, outside};
 use grin_syntax::fresh::Fresh;
 use grin_syntax::{Block, Op, Stmt, Target, VarId, Word};
-use pass_ground::uses::block_uses;
 use seq::Seq;
 use std::alloc::{AllocError, Global};
 
@@ -59,16 +60,19 @@ fn wait_unless(kept: bool, var: VarId, place: u32, waits: &mut Seq<Wait>) -> Res
     Ok(())
 }
 
-// A word at the front of an alternative: it is fetched into a new variable where the alternative
-// uses it.
+// A word at the front of an alternative, which begins here: it is fetched into a new variable where
+// the alternative uses it.
 fn front_word(
+    notes: &Notes,
     fresh: &mut Fresh,
     names: &mut Seq<Standing>,
     cell: Word,
     wait: Wait,
     body: &Block,
+    here: Place,
     made: &mut Seq<Stmt>,
 ) -> Result<(), AllocError>
+    requires { Here notes.now here (sized (code_trace (code_of body.now))) }
     ensures stmts { OnOk result ((c : Code) → all_before (map before_of made.new) c
         ≡ all_before (map before_of made.old)
         (fetched_if (code_uses wait.var.0 (code_of body.now)) (variable fresh.old.next) cell
@@ -78,21 +82,25 @@ fn front_word(
     ensures next { OnOk result (fresh.new.next ≡ suc fresh.old.next) }
 {
     let var = fresh.variable()?;
-    let used = block_uses(wait.var, body);
+    let used = notes.block_uses(wait.var, body, here)?;
     fetched_if(used, var, cell, wait.place, made)?;
     named_if(used, wait.var, var, names)?;
     Ok(())
 }
 
-/// The fetches at the front of an alternative, of the words that wait and that it uses.
+/// The fetches at the front of an alternative, which begins here, of the words that wait and that
+/// it uses.
 pub(crate) fn front(
     alloc: Global,
+    notes: &Notes,
     fresh: &mut Fresh,
     names: &mut Seq<Standing>,
     cell: Word,
     waits: &[Wait],
     body: &Block,
+    here: Place,
 ) -> Result<Seq<Stmt>, AllocError>
+    requires { Here notes.now here (sized (code_trace (code_of body.now))) }
     ensures stmts { IfOk result (λ ss. (c : Code) → all_before (map before_of ss) c
         ≡ front cell fresh.old.next waits.now (code_of body.now) c) }
     ensures names { OnOk result (names.new
@@ -101,7 +109,7 @@ pub(crate) fn front(
 {
     let mut made = Seq::new(alloc);
     for wait in waits {
-        front_word(fresh, names, cell, *wait, body, &mut made)?;
+        front_word(notes, fresh, names, cell, *wait, body, here, &mut made)?;
     }
     Ok(made)
 }
@@ -129,27 +137,26 @@ fn node_word(
     Ok(())
 }
 
-/// The fetches directly after the tag `tag`, of the words that these variables stand for; the words
-/// that wait are the answer.
+/// The fetches directly after the tag `tag`, of the words that these variables stand for, by a
+/// window on the block that follows; the words that wait are the answer.
 pub(crate) fn words(
     alloc: Global,
+    notes: &Notes,
     tag: VarId,
     cell: Word,
     vars: &[VarId],
-    rest: &[Stmt],
-    last: &Op,
+    window: Window,
     made: &mut Seq<Stmt>,
 ) -> Result<Seq<Wait>, AllocError>
-    ensures stmts { OnOk result ((c : Code) → all_before (map before_of made.new) c
-        ≡ all_before (map before_of made.old)
-        (word_fetches tag.0 (all_before (map before_of rest.now) (end (act_of last.now))) cell 1
-        vars.now c)) }
-    ensures waits { IfOk result (λ ws. ws
-        ≡ waits_of tag.0 (all_before (map before_of rest.now) (end (act_of last.now))) 1 vars.now) }
+    ensures stmts { OnOk result ((b : Code) → IsWindow notes.now tag.0 b window → (c : Code)
+        → all_before (map before_of made.new) c
+        ≡ all_before (map before_of made.old) (word_fetches tag.0 b cell 1 vars.now c)) }
+    ensures waits { IfOk result (λ ws. (b : Code) → IsWindow notes.now tag.0 b window
+        → ws ≡ waits_of tag.0 b 1 vars.now) }
 {
     let mut waits = Seq::new(alloc);
     for at in 0..vars.len() {
-        let kept = outside(tag, vars[at], rest, last);
+        let kept = outside(notes, tag, vars[at], window);
         node_word(kept, cell, vars[at], at + 1, made, &mut waits)?;
     }
     Ok(waits)

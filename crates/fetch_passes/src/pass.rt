@@ -8,6 +8,7 @@ ghost use Rattle.pass_ground.specs.Vectors.{OfVectors};
 ghost use Rattle.fetch_passes.specs.Split.{split, split_procs};
 ghost use Rattle.fetch_passes.specs.Fetched.{Fetched};
 
+use crate::notes::{Notes, Place};
 use crate::split::Splitting;
 use grin_meaning::Pass;
 use grin_syntax::fresh::Fresh;
@@ -39,12 +40,18 @@ fn split_procs(alloc: Global, tags: &Seq<Tag>, procs: &[Proc]) -> Result<Seq<Pro
         (map procedure_of procs.now)) }
 {
     let mut fresh = Fresh::past(procs);
-    let splitting = Splitting { tags };
     let mut made = Seq::new(alloc);
     for proc in procs {
         let none = Seq::new(alloc);
         let before = Seq::new(alloc);
-        let body = splitting.block(alloc, &mut fresh, &proc.body, none, Word::Lit(0), before)?;
+        let notes = Notes::of(alloc, &proc.body)?;
+        let splitting = Splitting {
+            tags,
+            notes: &notes,
+        };
+        let begin = Place { at: 0, piece: 0 };
+        let cell = Word::Lit(0);
+        let body = splitting.block(alloc, &mut fresh, &proc.body, none, cell, before, begin)?;
         made.push(Proc {
             name: Seq::from_slice(alloc, proc.name.as_slice())?,
             params: Seq::from_slice(alloc, proc.params.as_slice())?,

@@ -5,12 +5,15 @@ ghost use Rattle.std.specs.Prelude.{◌≡◌, ◌+◌, [], ◌∷◌, cond, len
 ghost use Rattle.grin_syntax.specs.Tree.{Code, end, bind, fetch, fetch_word, act_of, before_of, code_of, all_before};
 ghost use Rattle.grin_syntax.specs.declared.program.Target.TheVariants.{Vector};
 ghost use Rattle.fetch_passes.specs.Waits.{waits_after};
+ghost use Rattle.fetch_passes.specs.Notes.{sized, act_trace, code_trace, Here};
+ghost use Rattle.fetch_passes.specs.Asked.{Spans};
 ghost use Rattle.fetch_passes.specs.Split.{front, front_names, names_after, cell_from, bound, made_act, made_code, split_act, split_code};
 
 use crate::ending::end_with;
 use crate::names::{Standing, Wait, as_cells, as_val, as_word, as_words};
 use crate::nodes::{front, hide, words};
-use crate::windows::owns;
+use crate::notes::{Notes, Place, Span};
+use crate::windows::open_window;
 use grin_syntax::copies::copy_target;
 use grin_syntax::fresh::Fresh;
 use grin_syntax::{Alt, Block, Op, Shape, Stmt, Tag, Target, VarId, Word};
@@ -86,14 +89,17 @@ fn pass_on(now: &mut Passing, own: bool, cell: Word, waits: Seq<Wait>)
 // tag's case.
 fn fetch_vector(
     alloc: Global,
+    notes: &Notes,
     now: &mut Passing,
     tag: VarId,
     vars: &[VarId],
     cell: Word,
     rest: &[Stmt],
     last: &Op,
+    span: Span,
     made: &mut Seq<Stmt>,
 ) -> Result<(), AllocError>
+    requires { Spans notes.now span (all_before (map before_of rest.now) (end (act_of last.now))) }
     ensures stmts { OnOk result ((c : Code) → all_before (map before_of made.new) c
         ≡ all_before (map before_of made.old)
         (bound (fetch cell) (Vector (tag ∷ vars.now))
@@ -109,22 +115,26 @@ fn fetch_vector(
         (all_before (map before_of rest.now) (end (act_of last.now))) now.old.waits) }
 {
     made.push(Stmt::Bind(Target::One(tag), Op::FetchWord(cell, 0)))?;
-    let waits = words(alloc, tag, cell, vars, rest, last, made)?;
+    let window = open_window(notes, tag, rest, last, span)?;
+    let waits = words(alloc, notes, tag, cell, vars, window, made)?;
     hide(&mut now.names, waits.as_slice())?;
-    pass_on(now, owns(tag, rest, last), cell, waits);
+    pass_on(now, window.owned, cell, waits);
     Ok(())
 }
 
 // An operation that is split goes to its target.
 fn bind(
     alloc: Global,
+    notes: &Notes,
     now: &mut Passing,
     target: &Target,
     op: Op,
     rest: &[Stmt],
     last: &Op,
+    span: Span,
     made: &mut Seq<Stmt>,
 ) -> Result<(), AllocError>
+    requires { Spans notes.now span (all_before (map before_of rest.now) (end (act_of last.now))) }
     ensures stmts { OnOk result ((c : Code) → all_before (map before_of made.new) c
         ≡ all_before (map before_of made.old)
         (bound (act_of op) target.now (all_before (map before_of rest.now) (end (act_of last.now)))
@@ -143,7 +153,9 @@ fn bind(
         Op::Fetch(cell) => match target {
             Target::Vector(vars) => match vars.as_slice().split_first() {
                 Some((tag, fields)) => {
-                    fetch_vector(alloc, now, *tag, fields, cell, rest, last, made)
+                    fetch_vector(
+                        alloc, notes, now, *tag, fields, cell, rest, last, span, made,
+                    )
                 }
                 None => fetch_word(alloc, target, cell, 0, made),
             },
@@ -166,10 +178,11 @@ fn bind(
     }
 }
 
-/// Splits the fetches of a program with these tags.
+/// Splits the fetches of a procedure, of which this is noted, in a program with these tags.
 #[derive(Drop)]
 pub(crate) struct Splitting<'a> {
     pub tags: &'a Seq<Tag>,
+    pub notes: &'a Notes,
 }
 
 impl Splitting<'_> {
@@ -182,7 +195,9 @@ impl Splitting<'_> {
         cell: Word,
         waits: &[Wait],
         op: &Op,
+        here: Place,
     ) -> Result<Op, AllocError>
+        requires { Here self.now.notes.now here (sized (act_trace (act_of op.now))) }
         ensures is { IfOk result (λ o. act_of o
             ≡ split_act self.now.tags.now names.now cell waits.now fresh.old.next (act_of op.now)) }
         ensures next { OnOk result (fresh.new.next
@@ -202,14 +217,16 @@ impl Splitting<'_> {
             Op::Case(v, alts) => {
                 let v = as_val(alloc, names, v)?;
                 let mut made = Seq::new(alloc);
+                let mut place = self.notes.alts(here)?;
                 for alt in alts.as_slice() {
-                    made.push(self.alt(alloc, fresh, names, cell, waits, alt)?)?;
+                    made.push(self.alt(alloc, fresh, names, cell, waits, alt, place)?)?;
+                    place = self.notes.past(place)?;
                 }
                 Ok(Op::Case(v, made))
             }
             Op::Nested(block) => {
                 let names = Seq::from_slice(alloc, names)?;
-                let inner = self.block(alloc, fresh, block, names, cell, Seq::new(alloc))?;
+                let inner = self.block(alloc, fresh, block, names, cell, Seq::new(alloc), here)?;
                 Ok(Op::Nested(Box::new(alloc, inner)?))
             }
             Op::Fail => Ok(Op::Fail),
@@ -226,7 +243,9 @@ impl Splitting<'_> {
         cell: Word,
         waits: &[Wait],
         alt: &Alt,
+        here: Place,
     ) -> Result<Alt, AllocError>
+        requires { Here self.now.notes.now here (sized (code_trace (code_of alt.now.body))) }
         ensures pattern { IfOk result (λ a. a.pattern ≡ alt.now.pattern) }
         ensures body { IfOk result (λ a. code_of a.body
             ≡ front cell fresh.old.next waits.now (code_of alt.now.body)
@@ -239,8 +258,10 @@ impl Splitting<'_> {
     {
         let pattern = copy_shape(alloc, &alt.pattern)?;
         let mut inner = Seq::from_slice(alloc, names)?;
-        let made = front(alloc, fresh, &mut inner, cell, waits, &alt.body)?;
-        let body = self.block(alloc, fresh, &alt.body, inner, cell, made)?;
+        let made = front(
+            alloc, self.notes, fresh, &mut inner, cell, waits, &alt.body, here,
+        )?;
+        let body = self.block(alloc, fresh, &alt.body, inner, cell, made, here)?;
         Ok(Alt { pattern, body })
     }
 
@@ -254,8 +275,11 @@ impl Splitting<'_> {
         stmt: &Stmt,
         rest: &[Stmt],
         last: &Op,
+        span: Span,
         made: &mut Seq<Stmt>,
     ) -> Result<(), AllocError>
+        requires { Spans self.now.notes.now span
+            (before_of stmt.now (all_before (map before_of rest.now) (end (act_of last.now)))) }
         ensures is { OnOk result
             (all_before (map before_of made.new)
             (split_code self.now.tags.now now.new.names now.new.cell now.new.waits fresh.new.next
@@ -278,8 +302,10 @@ impl Splitting<'_> {
             }
             Stmt::Bind(target, op) => {
                 let names = now.names.as_slice();
-                let op = self.op(alloc, fresh, names, now.cell, now.waits.as_slice(), op)?;
-                bind(alloc, now, target, op, rest, last, made)?;
+                let waits = now.waits.as_slice();
+                let op = self.op(alloc, fresh, names, now.cell, waits, op, span.place)?;
+                let next = self.notes.rest(span)?;
+                bind(alloc, self.notes, now, target, op, rest, last, next, made)?;
                 Ok(())
             }
         }
@@ -295,7 +321,9 @@ impl Splitting<'_> {
         names: Seq<Standing>,
         cell: Word,
         before: Seq<Stmt>,
+        here: Place,
     ) -> Result<Block, AllocError>
+        requires { Here self.now.notes.now here (sized (code_trace (code_of block.now))) }
         ensures is { IfOk result (λ b. code_of b
             ≡ all_before (map before_of before)
             (split_code self.now.tags.now names cell [] fresh.old.next (code_of block.now))) }
@@ -309,6 +337,7 @@ impl Splitting<'_> {
             waits: Seq::new(alloc),
         };
         let stmts = block.stmts.as_slice();
+        let mut span = self.notes.block(here)?;
         let mut at = 0;
         for stmt in stmts {
             at += 1;
@@ -319,8 +348,10 @@ impl Splitting<'_> {
                 stmt,
                 &stmts[at..],
                 &block.last,
+                span,
                 &mut made,
             )?;
+            span = self.notes.rest(span)?;
         }
         let names = now.names.as_slice();
         let op = self.op(
@@ -330,6 +361,7 @@ impl Splitting<'_> {
             now.cell,
             now.waits.as_slice(),
             &block.last,
+            span.place,
         )?;
         let last = end_with(alloc, self.tags.as_slice(), fresh, op, &mut made)?;
         Ok(Block {

@@ -1,15 +1,19 @@
 // The case on a node's tag that comes next after its fetch, other fetches aside.
 #![tactic(auto, using(grin_syntax::proofs::TreeOf::tree_of), unfolding(crate::specs::Windows::owns, crate::specs::Windows::outside, pass_ground::specs::Uses::act_mentions))]
 
-ghost use Rattle.std.specs.Prelude.{◌≡◌, ◌||◌, ◌&&◌, cond, map, slice_get};
+ghost use Rattle.std.specs.Prelude.{◌≡◌, ◌||◌, ◌&&◌, ℕ, Bool, true, false, cond, nat_eq, map, slice_get, Some, None, IfOk};
 ghost use Rattle.grin_syntax.specs.declared.program.Val.TheVariants.{Vector};
 ghost use Rattle.grin_syntax.specs.Tree.{Code, act_of, before_of, arms_of, arm_of, all_before, end};
-ghost use Rattle.pass_ground.specs.Uses.{act_uses, code_uses};
-ghost use Rattle.fetch_passes.specs.Windows.{begins_with, is_int, tests_number, vector_uses, act_owns, is_passed, owns, act_outside, outside};
+ghost use Rattle.pass_ground.specs.Uses.{word_is};
+ghost use Rattle.fetch_passes.specs.Windows.{begins_with, is_int, tests_number, vector_uses, act_owns, is_passed, decides, outside};
+ghost use Rattle.fetch_passes.specs.Notes.{Trace};
+ghost use Rattle.fetch_passes.specs.Asked.{Spans, is_var, IsWindow, Passed, BeginsBy};
 
+use crate::notes::{Notes, Span};
 use grin_syntax::{Alt, Op, Shape, Stmt, Val, VarId, Word};
-use pass_ground::truth::{both, either};
-use pass_ground::uses::{cells_use, op_uses, val_uses, word_is};
+use pass_ground::truth::either;
+use pass_ground::uses::word_is;
+use std::alloc::AllocError;
 
 fn word_at(words: &[Word], at: usize) -> Option<Word>
     ensures { result ≡ slice_get words.now at }
@@ -63,29 +67,18 @@ fn tests_number(alts: &[Alt]) -> bool
     tests
 }
 
-#[tactic(auto, using(crate::proofs::Firsts::pair_uses, crate::proofs::Firsts::short_uses, crate::proofs::Firsts::pair_has))]
-fn words_decide(tests: bool, x: VarId, v: &Val, words: &[Word]) -> bool
-    requires { v.now ≡ Vector words.now }
-    ensures { result ≡ vector_uses tests x.0 v.now }
+fn is_same(x: VarId, y: VarId) -> bool
+    ensures { result ≡ nat_eq x.0 y.0 }
 {
-    match word_at(words, 1) {
-        Some(second) => match word_at(words, 0) {
-            Some(first) => either(word_is(x, first), both(tests, word_is(x, second))),
-            None => false,
-        },
-        None => val_uses(x, v),
-    }
+    x.0 == y.0
 }
 
-// The variable is one of the words of a case's vector that decide which alternative is taken.
-fn vector_uses(tests: bool, x: VarId, v: &Val) -> bool
-    ensures { result ≡ vector_uses tests x.0 v.now }
+fn is_tested(tested: Option<VarId>, x: VarId) -> bool
+    ensures { result ≡ is_var x.0 tested }
 {
-    match v {
-        Val::Vector(words) => words_decide(tests, x, v, words.as_slice()),
-        Val::NodeVar(_) => val_uses(x, v),
-        Val::Node(_, _) => val_uses(x, v),
-        Val::One(_) => val_uses(x, v),
+    match tested {
+        Some(y) => is_same(y, x),
+        None => false,
     }
 }
 
@@ -135,102 +128,152 @@ fn if_else(test: bool, yes: bool, no: bool) -> bool
     if test { yes } else { no }
 }
 
-// `uses`: whether the operation uses the variable at all.
-fn op_outside(t: VarId, x: VarId, op: &Op, uses: bool) -> bool
-    requires { uses ≡ act_uses x.0 (act_of op.now) }
-    ensures { result ≡ act_outside t.0 x.0 (act_of op.now) }
+// The word after the tag, where patterns test it and it is a variable.
+fn tested_word(tests: bool, word: Word) -> Option<VarId>
+    ensures { (x : ℕ) → is_var x result ≡ (tests && word_is x word) }
+{
+    if !tests {
+        return None;
+    }
+    match word {
+        Word::Var(y) => Some(y),
+        Word::Lit(_) => None,
+        Word::Global(_) => None,
+        Word::TagWord(_) => None,
+    }
+}
+
+// The variable that decides a case on a vector, beside the tag.
+#[tactic(auto)]
+fn tested_by(words: &[Word], tests: bool) -> Option<VarId>
+    ensures { (t x : ℕ) → begins_with t (Vector words.now) ≡ true
+        → vector_uses tests x (Vector words.now) ≡ (nat_eq t x || is_var x result) }
+{
+    match word_at(words, 1) {
+        Some(word) => tested_word(tests, word),
+        None => None,
+    }
+}
+
+// The variable that decides which alternative of a case is taken, beside the tag.
+fn tested(op: &Op) -> Option<VarId>
+    ensures { (t x : ℕ) → act_owns t (act_of op.now) ≡ true
+        → decides x (act_of op.now) ≡ (nat_eq t x || is_var x result) }
 {
     match op {
-        Op::Case(v, alts) => {
-            let decides = vector_uses(tests_number(alts.as_slice()), x, v);
-            if_else(begins_with(t, v), decides, uses)
+        Op::Case(v, alts) => match v {
+            Val::Vector(words) => tested_by(words.as_slice(), tests_number(alts.as_slice())),
+            Val::NodeVar(_) => None,
+            Val::Node(_, _) => None,
+            Val::One(_) => None,
+        },
+        Op::Unit(_) => None,
+        Op::Fetch(_) => None,
+        Op::FetchWord(_, _) => None,
+        Op::Update(_, _) => None,
+        Op::Eval(_) => None,
+        Op::Apply(_, _) => None,
+        Op::Call(_, _) => None,
+        Op::Prim(_, _, _) => None,
+        Op::Read => None,
+        Op::Write(_) => None,
+        Op::Nested(_) => None,
+        Op::Fail => None,
+    }
+}
+
+/// Where a variable is used outside the alternatives of the case on a tag: where that case comes
+/// next, up to it, as what decides there, and after it; and else anywhere in the block.
+#[derive(Clone, Copy, Debug)]
+pub(crate) struct Window {
+    /// The case comes next.
+    pub owned: bool,
+    pub from: u32,
+    pub case: u32,
+    pub after: u32,
+    pub end: u32,
+    /// The variable that decides there beside the tag.
+    pub tested: Option<VarId>,
+}
+
+// The window where the case does not come next.
+fn unowned(span: Span) -> Window
+    ensures { result ≡ record { owned = false; from = span.place.at; case = span.place.at; after = span.end; end = span.end; tested = None } }
+{
+    Window {
+        owned: false,
+        from: span.place.at,
+        case: span.place.at,
+        after: span.end,
+        end: span.end,
+        tested: None,
+    }
+}
+
+// The window on the block that begins at `span`, where fetches were passed and this operation comes
+// next.
+fn window_at(
+    notes: &Notes,
+    tag: VarId,
+    op: &Op,
+    span: Span,
+    now: Span,
+) -> Result<Window, AllocError>
+    ensures { IfOk result (λ w. (whole left : Code) (r : Trace)
+        → Passed notes.now tag.0 whole span now left → BeginsBy tag.0 (act_of op.now) left r
+        → IsWindow notes.now tag.0 whole w) }
+{
+    if !op_owns(tag, op) {
+        return Ok(unowned(span));
+    }
+    let after = notes.past(now.place)?;
+    Ok(Window {
+        owned: true,
+        from: span.place.at,
+        case: now.place.at,
+        after: after.at,
+        end: span.end,
+        tested: tested(op),
+    })
+}
+
+/// The window on these statements and the operation at their end, for the case on the vector of
+/// `tag`.
+pub(crate) fn open_window(
+    notes: &Notes,
+    tag: VarId,
+    stmts: &[Stmt],
+    last: &Op,
+    span: Span,
+) -> Result<Window, AllocError>
+    requires { Spans notes.now span (all_before (map before_of stmts.now) (end (act_of last.now))) }
+    ensures { IfOk result (λ w. IsWindow notes.now tag.0
+        (all_before (map before_of stmts.now) (end (act_of last.now))) w) }
+{
+    let mut now = span;
+    for stmt in stmts {
+        match stmt {
+            Stmt::Store(_) => return Ok(unowned(span)),
+            Stmt::Bind(_, op) => {
+                if !is_passed(op) {
+                    let window = window_at(notes, tag, op, span, now)?;
+                    return Ok(window);
+                }
+            }
         }
-        Op::Unit(_) => uses,
-        Op::Fetch(_) => uses,
-        Op::FetchWord(_, _) => uses,
-        Op::Update(_, _) => uses,
-        Op::Eval(_) => uses,
-        Op::Apply(_, _) => uses,
-        Op::Call(_, _) => uses,
-        Op::Prim(_, _, _) => uses,
-        Op::Read => uses,
-        Op::Write(_) => uses,
-        Op::Nested(_) => uses,
-        Op::Fail => uses,
+        now = notes.rest(now)?;
     }
+    let window = window_at(notes, tag, last, span, now)?;
+    Ok(window)
 }
 
-#[tactic(auto, using(grin_syntax::proofs::TreeOf::tree_of, crate::proofs::Firsts::bind_owns), unfolding(crate::specs::Windows::owns))]
-fn stmt_owns(t: VarId, stmt: &Stmt, later: bool) -> bool
-    ensures { (c : Code) → owns t.0 c ≡ later → owns t.0 (before_of stmt.now c) ≡ result }
+/// The variable `x` is used in the block outside the alternatives of the case on `tag`.
+pub(crate) fn outside(notes: &Notes, tag: VarId, x: VarId, window: Window) -> bool
+    ensures { (c : Code) → IsWindow notes.now tag.0 c window → result ≡ outside tag.0 x.0 c }
 {
-    match stmt {
-        Stmt::Store(_) => false,
-        Stmt::Bind(_, op) => if_else(is_passed(op), later, op_owns(t, op)),
-    }
-}
-
-/// The case on the vector of `t` comes next in these statements and the operation at their end,
-/// fetches aside.
-pub(crate) fn owns(t: VarId, stmts: &[Stmt], last: &Op) -> bool
-    ensures { result ≡ owns t.0 (all_before (map before_of stmts.now) (end (act_of last.now))) }
-{
-    let mut owned = op_owns(t, last);
-    let mut at = stmts.len();
-    while at > 0 {
-        at -= 1;
-        owned = stmt_owns(t, &stmts[at], owned);
-    }
-    owned
-}
-
-// Whether a block uses a variable: at all, and outside the alternatives of the case on some vector
-// where that comes next.
-#[derive(Clone, Copy)]
-struct Uses {
-    any: bool,
-    outside: bool,
-}
-
-// A statement before a block with these uses.
-#[tactic(auto, using(grin_syntax::proofs::TreeOf::tree_of))]
-fn with_stmt(t: VarId, x: VarId, stmt: &Stmt, later: Uses) -> Uses
-    ensures any { (c : Code) → code_uses x.0 c ≡ later.any
-        → code_uses x.0 (before_of stmt.now c) ≡ result.any }
-    ensures outside { (c : Code) → code_uses x.0 c ≡ later.any → outside t.0 x.0 c ≡ later.outside
-        → outside t.0 x.0 (before_of stmt.now c) ≡ result.outside }
-{
-    match stmt {
-        Stmt::Store(cells) => {
-            let any = either(cells_use(x, cells.as_slice()), later.any);
-            Uses { any, outside: any }
-        }
-        Stmt::Bind(_, op) => {
-            let uses = op_uses(x, op);
-            let any = either(uses, later.any);
-            let passed = either(uses, later.outside);
-            let other = either(op_outside(t, x, op, uses), later.any);
-            let outside = if_else(is_passed(op), passed, other);
-            Uses { any, outside }
-        }
-    }
-}
-
-/// The variable `x` is used in these statements and the operation at their end, outside the
-/// alternatives of the case on the vector of `t` where that comes next.
-pub(crate) fn outside(t: VarId, x: VarId, stmts: &[Stmt], last: &Op) -> bool
-    ensures { result ≡ outside t.0 x.0
-        (all_before (map before_of stmts.now) (end (act_of last.now))) }
-{
-    let any = op_uses(x, last);
-    let mut uses = Uses {
-        any,
-        outside: op_outside(t, x, last, any),
-    };
-    let mut at = stmts.len();
-    while at > 0 {
-        at -= 1;
-        uses = with_stmt(t, x, &stmts[at], uses);
-    }
-    uses.outside
+    let all = notes.within(x, window.from, window.end);
+    let before = notes.within(x, window.from, window.case);
+    let after = notes.within(x, window.after, window.end);
+    let decides = either(is_same(tag, x), is_tested(window.tested, x));
+    if_else(window.owned, either(before, either(decides, after)), all)
 }

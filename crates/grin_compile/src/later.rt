@@ -21,6 +21,7 @@ pub struct Later {
     pub updated: Grin,
     pub unboxed: Grin,
     pub raised: Grin,
+    pub dead: Grin,
 }
 
 impl Later {
@@ -38,6 +39,7 @@ impl Later {
             PassName::Update => &self.updated,
             PassName::Unbox => &self.unboxed,
             PassName::Raise => &self.raised,
+            PassName::Dead => &self.dead,
         }
     }
 
@@ -48,7 +50,9 @@ impl Later {
         requires slim { SlimBeside sizes (program_of self.now.vectorised) }
         ensures { IsLastOf (SlimBeside sizes) (programs_of self.now) (later_after self.now result) }
     {
-        if is_slim(&self.raised, sizes) {
+        if is_slim(&self.dead, sizes) {
+            PassName::Dead
+        } else if is_slim(&self.raised, sizes) {
             PassName::Raise
         } else if is_slim(&self.unboxed, sizes) {
             PassName::Unbox
@@ -89,6 +93,7 @@ pub(crate) fn later_stages(alloc: Global, g: &Grin) -> Result<Later, AllocError>
     let updated = passed_copy(alloc, PassName::Update, &copied)?;
     let unboxed = passed_copy(alloc, PassName::Unbox, &updated)?;
     let raised = passed_copy(alloc, PassName::Raise, &unboxed)?;
+    let dead = passed_copy(alloc, PassName::Dead, &raised)?;
     Ok(Later {
         vectorised,
         simplified,
@@ -97,5 +102,6 @@ pub(crate) fn later_stages(alloc: Global, g: &Grin) -> Result<Later, AllocError>
         updated,
         unboxed,
         raised,
+        dead,
     })
 }

@@ -72,6 +72,7 @@ module _ {F I K : Type 0} (f : ShelfChange F) (i : SourceChange I) (o : SinkChan
       listed listing.Update (inr h) = h.2
       listed listing.Unbox (inr h) = h.2
       listed listing.Raise (inr h) = h.2
+      listed listing.Dead (inr h) = h.2
       listed listing.Code (inr h) = h.2
   memory_untouched (Some (BuildFile file cells stack)) (inl h, same) = h.1
   memory_untouched (Some (BuildFile file cells stack)) (inr h, same) = h.2

@@ -117,6 +117,7 @@ pub(crate) fn list_after<K: Sink>(alloc: Global, text: &[u8], after: Listing, ou
         Listing::Update => list_text(alloc, text, PassName::Update, out),
         Listing::Unbox => list_text(alloc, text, PassName::Unbox, out),
         Listing::Raise => list_text(alloc, text, PassName::Raise, out),
+        Listing::Dead => list_text(alloc, text, PassName::Dead, out),
         Listing::Code => list_code(alloc, text, out),
     }
 }

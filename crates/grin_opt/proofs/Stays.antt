@@ -4,7 +4,7 @@ use Rattle.grin_syntax.specs.Tree.{Program}
 use Rattle.grin_meaning.specs.Ready.{IsInlined}
 use Rattle.pass_ground.specs.OpenUpdates.{open_updates}
 use Rattle.grin_opt.specs.declared.pass.PassName.{PassName}
-use Rattle.grin_opt.specs.declared.pass.PassName.TheVariants.{Translate, Eval, Apply, Vectorise, Simplify, Fetch, Copy, Update, Unbox, Raise}
+use Rattle.grin_opt.specs.declared.pass.PassName.TheVariants.{Translate, Eval, Apply, Vectorise, Simplify, Fetch, Copy, Update, Unbox, Raise, Dead}
 use Rattle.grin_opt.specs.Schedule.{IsPass, IsTaken, before, shape_of, IsOptimised, itself, by_pass}
 use Rattle.grin_opt.specs.Staying.{place, IsFrom, ComesOf, the_same, by_one_more, FromUpdates, WhatIsOutStaysOut}
 use Rattle.grin_opt.proofs.Steps.{shaped_of_vectors, of_vectors, FetchesWords, by_words}
@@ -21,6 +21,7 @@ from_vectors Copy from = tt
 from_vectors Update from = tt
 from_vectors Unbox from = tt
 from_vectors Raise from = tt
+from_vectors Dead from = tt
 
 from_words : (k : PassName) → IsFrom Fetch k → FetchesWords k
 from_words Translate from = omega (arith, from)
@@ -33,6 +34,7 @@ from_words Copy from = tt
 from_words Update from = tt
 from_words Unbox from = tt
 from_words Raise from = tt
+from_words Dead from = tt
 
 stays_inlined : (g h : Program) (k : PassName) → IsTaken g → IsOptimised g k h → IsInlined h
 stays_inlined g h k taken itself = taken.1.inlined
@@ -49,6 +51,7 @@ before_comes_first Copy = omega arith
 before_comes_first Update = omega arith
 before_comes_first Unbox = omega arith
 before_comes_first Raise = omega arith
+before_comes_first Dead = omega arith
 
 comes_after : (g : Program) (k : PassName) (h : Program) (k' : PassName) → ComesOf k g k' h → place k ≤ place k'
 comes_after g k h k' the_same = omega arith
@@ -65,6 +68,7 @@ no_more_by Copy g h from s = omega (arith, from)
 no_more_by Update g h from s = s.updates.no_more
 no_more_by Unbox g h from s = omega (arith, same_open_updates g h s.same_updates)
 no_more_by Raise g h from s = s.no_more_open
+no_more_by Dead g h from s = s.no_more_open
 
 no_more : (g h : Program) (k : PassName) → ComesOf Update g k h → open_updates h ≤ open_updates g
 no_more g h k the_same = omega arith
@@ -85,6 +89,7 @@ pass_on g b h Copy from so_far o s = absurd (omega (arith, from))
 pass_on g b h Update from so_far o s = record { updated = h; stage = o; comes = the_same }
 pass_on g b h Unbox from so_far o s = let far = so_far (omega arith) in record { updated = far.updated; stage = far.stage; comes = by_one_more {k' = Unbox} far.comes s }
 pass_on g b h Raise from so_far o s = let far = so_far (omega arith) in record { updated = far.updated; stage = far.stage; comes = by_one_more {k' = Raise} far.comes s }
+pass_on g b h Dead from so_far o s = let far = so_far (omega arith) in record { updated = far.updated; stage = far.stage; comes = by_one_more {k' = Dead} far.comes s }
 
 comes_of : (g h : Program) (k : PassName) → IsFrom Update k → IsOptimised g k h → FromUpdates g k h
 comes_of g h k from itself = absurd (omega (arith, from))

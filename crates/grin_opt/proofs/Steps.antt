@@ -5,7 +5,7 @@ use Rattle.grin_meaning.specs.Ready.{IsFetchedByWords}
 use Rattle.grin_meaning.proofs.Kept.{keeps_again}
 use Rattle.pass_ground.specs.Vectors.{OfVectors}
 use Rattle.grin_opt.specs.declared.pass.PassName.{PassName}
-use Rattle.grin_opt.specs.declared.pass.PassName.TheVariants.{Translate, Eval, Apply, Vectorise, Simplify, Fetch, Copy, Update, Unbox, Raise}
+use Rattle.grin_opt.specs.declared.pass.PassName.TheVariants.{Translate, Eval, Apply, Vectorise, Simplify, Fetch, Copy, Update, Unbox, Raise, Dead}
 use Rattle.grin_opt.specs.Schedule.{IsPass, IsTaken, shape_of, before, IsOfStage, IsPassedBy, IsOptimised, itself, by_pass}
 
 pub shaped_of_vectors : (k : PassName) (g h : Program) → shape_of k g h → OfVectors h
@@ -19,6 +19,7 @@ shaped_of_vectors Copy g h s = s.stays.of_vectors
 shaped_of_vectors Update g h s = s.stays.of_vectors
 shaped_of_vectors Unbox g h s = s.stays.of_vectors
 shaped_of_vectors Raise g h s = s.of_vectors
+shaped_of_vectors Dead g h s = s.of_vectors
 
 pub of_vectors : (g h : Program) (k : PassName) → IsPass k → IsOptimised g k h → OfVectors h
 of_vectors g h k has itself = absurd has
@@ -31,6 +32,7 @@ FetchesWords Copy = Unit {0}
 FetchesWords Update = Unit {0}
 FetchesWords Unbox = Unit {0}
 FetchesWords Raise = Unit {0}
+FetchesWords Dead = Unit {0}
 FetchesWords _ = ⊥
 
 pub shaped_by_words : (k : PassName) (g h : Program) → FetchesWords k → (FetchesWords (before k) → IsFetchedByWords g) → shape_of k g h → IsFetchedByWords h
@@ -44,6 +46,7 @@ shaped_by_words Copy g h has so_far s = s.stays.by_words (so_far tt)
 shaped_by_words Update g h has so_far s = s.stays.by_words (so_far tt)
 shaped_by_words Unbox g h has so_far s = s.stays.by_words (so_far tt)
 shaped_by_words Raise g h has so_far s = s.by_words
+shaped_by_words Dead g h has so_far s = s.by_words
 
 pub by_words : (g h : Program) (k : PassName) → FetchesWords k → IsOptimised g k h → IsFetchedByWords h
 by_words g h k has itself = absurd has
@@ -63,6 +66,7 @@ of_stage Copy g h of s = (shaped_of_vectors Copy g h s, s.stays.by_words of.1)
 of_stage Update g h of s = (shaped_of_vectors Update g h s, s.stays.by_words of.1)
 of_stage Unbox g h of s = (shaped_of_vectors Unbox g h s, s.stays.by_words of.1)
 of_stage Raise g h of s = (shaped_of_vectors Raise g h s, s.by_words)
+of_stage Dead g h of s = (shaped_of_vectors Dead g h s, s.by_words)
 
 -- the programs of the schedule are of their stages
 pub stage_of : (g h : Program) (k : PassName) → IsTaken g → IsOptimised g k h → IsOfStage k h

@@ -12,8 +12,9 @@ use Rattle.copy_prop.specs.Copied.{Copied}
 use Rattle.update_special.specs.Updated.{Updated}
 use Rattle.unbox.specs.Unboxed.{Unboxed}
 use Rattle.arity_raise.specs.Raised.{Raised}
+use Rattle.dead_store.specs.Stored.{Stored}
 use Rattle.grin_opt.specs.declared.pass.PassName.{PassName}
-use Rattle.grin_opt.specs.declared.pass.PassName.TheVariants.{Translate, Eval, Apply, Vectorise, Simplify, Fetch, Copy, Update, Unbox, Raise}
+use Rattle.grin_opt.specs.declared.pass.PassName.TheVariants.{Translate, Eval, Apply, Vectorise, Simplify, Fetch, Copy, Update, Unbox, Raise, Dead}
 
 -- the stages from the inlining of applications on
 abbrev pub IsAfterInlining : PassName → Type 0
@@ -40,6 +41,7 @@ shape_of Copy g h = Copied g h
 shape_of Update g h = Updated g h
 shape_of Unbox g h = Unboxed g h
 shape_of Raise g h = Raised g h
+shape_of Dead g h = Stored g h
 shape_of _ g h = ⊥
 
 -- the stage that such a pass takes
@@ -51,6 +53,7 @@ before Copy = Fetch
 before Update = Copy
 before Unbox = Update
 before Raise = Unbox
+before Dead = Raise
 before k = k
 
 -- what the programs of such a stage are: of vectors, from the first pass on, and without a fetch of

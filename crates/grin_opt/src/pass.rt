@@ -4,8 +4,8 @@
 /// its evaluations by the tags that they meet, that of its applications, vectors of words in place
 /// of its node variables, cases on known tags in place of which their alternatives stand, fetches
 /// of words in place of those of nodes, copies that are gone, updates with a known tag, numbers
-/// that are given without their tag, and parameters in place of which the words of their nodes
-/// stand.
+/// that are given without their tag, parameters in place of which the words of their nodes stand,
+/// and cells that nothing reads, which are gone.
 #[derive(Clone, Copy, PartialEq, Eq, Debug, Drop)]
 pub enum PassName {
     Translate,
@@ -18,4 +18,5 @@ pub enum PassName {
     Update,
     Unbox,
     Raise,
+    Dead,
 }

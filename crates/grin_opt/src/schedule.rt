@@ -8,6 +8,7 @@ use crate::pass::PassName;
 use arity_raise::Raise;
 use case_simplify::Simplify;
 use copy_prop::Copies;
+use dead_store::DeadStores;
 use fetch_passes::Fetches;
 use grin_meaning::Pass;
 use grin_syntax::Grin;
@@ -31,6 +32,7 @@ pub fn passed(alloc: Global, pass: PassName, g: Grin) -> Result<Grin, AllocError
         PassName::Update => Updates.apply(alloc, g),
         PassName::Unbox => Unbox.apply(alloc, g),
         PassName::Raise => Raise.apply(alloc, g),
+        PassName::Dead => DeadStores.apply(alloc, g),
     }
 }
 
@@ -47,6 +49,7 @@ fn stage_before(pass: PassName) -> PassName
         PassName::Update => PassName::Copy,
         PassName::Unbox => PassName::Update,
         PassName::Raise => PassName::Unbox,
+        PassName::Dead => PassName::Raise,
     }
 }
 

@@ -122,6 +122,7 @@ pub fn stage(alloc: Global, p: &Checked, upto: PassName) -> Result<Grin, Compile
         | PassName::Copy
         | PassName::Update
         | PassName::Unbox
-        | PassName::Raise => optimised(alloc, p, upto),
+        | PassName::Raise
+        | PassName::Dead => optimised(alloc, p, upto),
     }
 }

@@ -52,7 +52,7 @@ module _ (p : Tables) (H : Place → List Item) (A : Solution) where
       target_means (OneTarget x) f h = words_mean x (picked (word 0) X) (Asks p A k S (to (OneTarget x))) (λ u y. of_variable (o (word 0) u (picked_in (word 0) X y))) f h
       target_means (VectorTarget xs) f h = vector_means xs 0 xs (λ i x e. subst (λ n. slice_get xs n ≡ Some x) (omega arith) e) f h
 
-      asked_means : (s : Sink) (f : Fact) → In f (asked p H k X s) → Asks p A k S s f.place f.item.part f.item.word
+      pub asked_means : (s : Sink) (f : Fact) → In f (asked p H k X s) → Asks p A k S s f.place f.item.part f.item.word
       asked_means (to t) f h = target_means t f h
       asked_means (into_site s) f h = at_mean (site s) (as_nodes p k X) (Asks p A k S (into_site s)) (λ part u y. of_site (nodes_mean p X S o k part u y)) f h
       asked_means (into_result g) f h = at_mean (result g) X (Asks p A k S (into_result g)) (λ part u y. of_result (o part u y)) f h
@@ -114,7 +114,7 @@ module _ (p : Tables) (H : Place → List Item) (A : Solution) where
           in_left _ _ (subst (λ z. In (fact (var z.0) (item (word 0) u)) (facts_at (var y.0) (in_part (word 0) (as_word p j X)))) (sym is) (in_words y (as_word p j X) u (subst (λ m. In u (as_word p m X)) same h)))
       in_vector (y ∷ xs) j (suc i) n x u e g h = in_right (facts_at (var y.0) (in_part (word 0) (as_word p j X))) _ (in_vector xs (suc j) i n x u (omega (arith, e)) g h)
 
-      in_asked : (s : Sink) (q : Place) (part : Part) (u : AbstractWord) → Asks p A k S s q part u → In (fact q (item part u)) (asked p H k X s)
+      pub in_asked : (s : Sink) (q : Place) (part : Part) (u : AbstractWord) → Asks p A k S s q part u → In (fact q (item part u)) (asked p H k X s)
       in_asked s q part u (of_node_variable {x = x} y) = in_at (var x.0) (as_nodes p k X) part u (in_nodes p X S o k part u y)
       in_asked s q part u (of_variable {x = x} y) = in_words x (picked (word 0) X) u (in_picked (word 0) X (o (word 0) u y))
       in_asked s q part u (of_vector {xs = xs} {x = x} {j = j} e y) = in_vector xs 0 j j x u (omega arith) e (in_as_word p X S o j u y)

@@ -10,6 +10,9 @@ pub mod Fields
 pub mod OneTag
 pub mod PartOrder
 pub mod SameVec
+pub mod NumberedSets
+pub mod SiteTags
+pub mod FoundFlow
 pub mod Sets
 pub mod Loops
 pub mod Direct
@@ -26,3 +29,10 @@ pub mod InGroups
 pub mod UntilNoneWaits
 pub mod Registered
 pub mod Elsewhere
+pub mod Whole
+pub mod ValueWords
+pub mod WholeFetch
+pub mod VectorLoops
+pub mod Spotted
+pub mod StoredSound
+pub mod CopiesSound

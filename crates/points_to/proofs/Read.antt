@@ -1,7 +1,7 @@
 -- What tables of wanted numbers say of the facts.
 use Rattle.std.proofs.Common.{◌≡◌, ◌+◌, ◌<◌, ◌≤◌, ℕ, zero, suc, true, ◌||◌, nat_eq, List, [], ◌∷◌, ◌++◌, map, length, get_or, slice_get, refl, sym, ap, ◌∙◌, subst, inl, inr, ⊎_elim, arith}
 use Rattle.std.specs.Prelude.{◌⊎◌}
-use Rattle.std.specs.List.{Contains, dedup}
+use Rattle.std.specs.List.{Contains, dedup, flat_map}
 use Rattle.std.specs.List.Sorted.{IsStrictlyIncreasing, IsPermutation}
 use Rattle.std.specs.Ordering.{nat_cmp, match_ordering}
 use Rattle.std.specs.declared.cmp.Ordering.{Ordering}
@@ -16,12 +16,15 @@ use Rattle.flow_system.specs.declared.fact.Element.TheVariants.{Cell, Tag, Numbe
 use Rattle.flow_system.specs.declared.fact.Part.{Part}
 use Rattle.flow_system.specs.declared.fact.Part.TheVariants.{Tags as tags, Field as field, Word as word}
 use Rattle.points_to.specs.declared.facts.Item.{Item}
-use Rattle.points_to.specs.declared.facts.Facts.{Facts}
+use Rattle.flow_system.specs.declared.fact.Place.{Place}
 use Rattle.points_to.specs.declared.wanted.Kind.{Kind}
 use Rattle.points_to.specs.declared.wanted.Wanted.{Wanted}
 use Rattle.points_to.specs.declared.wanted.Wanted.TheVariants.{NodeTags, Tags as all_tags, Sites as cell_sites}
 use Rattle.points_to.specs.Held.{In, here, there, item}
-use Rattle.points_to.specs.Known.{held}
+use Rattle.points_to.specs.declared.bits.Bits.{Bits}
+use Rattle.points_to.specs.Bits.{word_of}
+use Rattle.points_to.specs.Rows.{numbers_in, words_in, SameMembers}
+use Rattle.points_to.proofs.Rows.{words_are}
 use Rattle.points_to.specs.Wanted.{tag_in, site_in, wanted_of, wanted, place_of, SameSet, is_in, Lists, numbers_by, IsTable}
 use Rattle.points_to.specs.Joined.{Joined}
 use Rattle.seq.proofs.Member.{none_in, cons_in, one_in, when_in, in_flat, flat_in}
@@ -115,6 +118,17 @@ sorted_same ns ms p = record {
   from = λ n h. contains-in n (dedup eqb ms) (Contains-dedup_nat ms n (Contains-permutation ns ms n p (in-contains n ns h)));
 }
 
+-- the words of a set, by their numbers
+pub words_of : (s : Bits) → words_in s ≡ map word_of (numbers_in s)
+words_of s = words_are s.blocks.items
+
+-- the tags among the same words
+pub tags_like : (us ws : List Element) (ns : List ℕ) → SameMembers us ws → SameSet ns (flat_map tag_in us) → SameSet ns (flat_map tag_in ws)
+tags_like us ws ns m s = record {
+  to = λ n h. let r = flat_in tag_in us (s.to n h) in in_flat tag_in ws (m.into r.0 r.1) r.2;
+  from = λ n h. let r = flat_in tag_in ws h in s.from n (in_flat tag_in us (m.back r.0 r.1) r.2);
+}
+
 -- numbers under a newtype
 pub unwrapped : {X : Type 0} (number : X → ℕ) (wrap : ℕ → X) → ((n : ℕ) → number (wrap n) ≡ n) → (ns : List ℕ) → map number (map wrap ns) ≡ ns
 unwrapped number wrap e [] = refl
@@ -139,21 +153,21 @@ module _ {X : Type 0} (number : X → ℕ) where
   entry (y ∷ table) zero xs P all last lt = all 0 (omega arith)
   entry (y ∷ table) (suc m) xs P all last lt = entry table m xs (λ m. P (suc m)) (λ m lt. all (suc m) (omega (arith, lt))) last (omega (arith, lt))
 
-module _ {X : Type 0} (number : X → ℕ) (f : Facts) (k : Kind) (w : Wanted) where
+module _ {X : Type 0} (number : X → ℕ) (H : Place → List Item) (k : Kind) (w : Wanted) where
   pub record TableSoFar (table : List (List X)) (n : ℕ) : Type 0 where
     pub many : length table ≡ n
-    pub lists : (m : ℕ) → m < n → Lists w (held f (place_of k m)) (numbers_by number (slice_get table m))
+    pub lists : (m : ℕ) → m < n → Lists w (H (place_of k m)) (numbers_by number (slice_get table m))
 
   pub no_table : TableSoFar [] 0
   no_table = record { many = refl; lists = λ m lt. absurd (omega (arith, lt)) }
 
-  pub table_more : (table : List (List X)) (n : ℕ) (xs : List X) → TableSoFar table n → Lists w (held f (place_of k n)) (map number xs) → TableSoFar (table ++ xs ∷ []) (n + 1)
+  pub table_more : (table : List (List X)) (n : ℕ) (xs : List X) → TableSoFar table n → Lists w (H (place_of k n)) (map number xs) → TableSoFar (table ++ xs ∷ []) (n + 1)
   table_more table n xs t l = record {
     many = longer number table xs ∙ ap (λ m. m + 1) t.many;
-    lists = λ m lt. entry number table m xs (λ m. Lists w (held f (place_of k m))) (λ m lt. t.lists m (omega (arith, t.many))) (subst (λ n. Lists w (held f (place_of k n)) (map number xs)) (sym t.many) l) (omega (arith, t.many, lt));
+    lists = λ m lt. entry number table m xs (λ m. Lists w (H (place_of k m))) (λ m lt. t.lists m (omega (arith, t.many))) (subst (λ n. Lists w (H (place_of k n)) (map number xs)) (sym t.many) l) (omega (arith, t.many, lt));
   }
 
-  pub table_done : (table : List (List X)) (n : ℕ) → TableSoFar table n → ((m : ℕ) → n ≤ m → held f (place_of k m) ≡ []) → IsTable number f k w table
+  pub table_done : (table : List (List X)) (n : ℕ) → TableSoFar table n → ((m : ℕ) → n ≤ m → H (place_of k m) ≡ []) → IsTable number H k w table
   table_done table n t past m = ⊎_elim
       (λ lt. t.lists m lt)
       (λ le. subst (λ X. Lists w X (numbers_by number (slice_get table m))) (sym (past m le)) (subst (λ o. Lists w [] (numbers_by number o)) (sym (slice_get_past table m (omega (arith, t.many, le)))) (no_numbers w)))

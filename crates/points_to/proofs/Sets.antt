@@ -112,3 +112,12 @@ on_ok (Err e) P Q f p = tt
 pub if_ok : {X E : Type 0} (r : Answer X E) (P Q : X → Type 0) → ((x : X) → P x → Q x) → IfOk r P → IfOk r Q
 if_ok (Ok x) P Q f p = f x p
 if_ok (Err e) P Q f p = tt
+
+pub if_both : {X E : Type 0} (r : Answer X E) (P Q R : X → Type 0) → ((x : X) → P x → Q x → R x) → IfOk r P → IfOk r Q → IfOk r R
+if_both (Ok x) P Q R f p q = f x p q
+if_both (Err e) P Q R f p q = tt
+
+-- from what holds where an answer is no error, and of its value
+pub if_on_ok : {X E : Type 0} (r : Answer X E) (P : Type 0) (Q R : X → Type 0) → ((x : X) → P → Q x → R x) → OnOk r P → IfOk r Q → IfOk r R
+if_on_ok (Ok x) P Q R f p q = f x p q
+if_on_ok (Err e) P Q R f p q = tt

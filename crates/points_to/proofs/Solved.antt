@@ -84,10 +84,10 @@ module _ (p : Tables) (cs : List Inclusion) where
       (λ B m q part u a. every.by B m q part u (at_known H q part u a))
 
 -- several facts
-grows_none : (H : Place → List Item) → Grows H H []
+pub grows_none : (H : Place → List Item) → Grows H H []
 grows_none H = record { kept = λ q j h. h; put = λ f h. none_in h; only = λ q j h. inl h }
 
-grows_more : (H H' H'' : Place → List Item) (fs gs : List Fact) → Grows H H' fs → Grows H' H'' gs → Grows H H'' (fs ++ gs)
+pub grows_more : (H H' H'' : Place → List Item) (fs gs : List Fact) → Grows H H' fs → Grows H' H'' gs → Grows H H'' (fs ++ gs)
 grows_more H H' H'' fs gs g k = record {
   kept = λ q j h. k.kept q j (g.kept q j h);
   put = λ e h. ⊎_elim (λ a. k.kept e.place e.item (g.put e a)) (λ b. k.put e b) (in_split fs gs h);

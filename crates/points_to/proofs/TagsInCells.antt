@@ -1,51 +1,30 @@
 -- The tags in the cells of variables, put together from the tables of their sites and of the sites' tags.
-use Rattle.std.proofs.Common.{◌≡◌, ◌+◌, ◌<◌, ◌≤◌, ℕ, List, [], ◌∷◌, ◌++◌, map, take, length, get_or, slice_get, append_assoc, refl, sym, ap, ◌∙◌, subst, ⊎_elim, arith}
+use Rattle.std.proofs.Common.{◌≡◌, ◌+◌, ◌<◌, ◌≤◌, ℕ, List, [], ◌∷◌, ◌++◌, map, take, length, get_or, slice_get, refl, sym, ap, ◌∙◌, subst, ⊎_elim, arith}
 use Rattle.std.specs.List.{flat_map}
 use Rattle.std.specs.List.Sorted.{IsStrictlyIncreasing}
 use Rattle.std.proofs.lemmas.List.{take_all, take_more}
-use Rattle.std.proofs.lemmas.List.Concat.{flat_map-append}
 use Rattle.std.proofs.lemmas.Option.{slice_get_past}
 use Rattle.grin_syntax.specs.declared.program.TagId.{TagId}
 use Rattle.grin_syntax.specs.declared.program.Site.{Site}
 use Rattle.flow_system.specs.declared.fact.Element.TheVariants.{Cell, Tag}
+use Rattle.flow_system.specs.declared.fact.Place.{Place}
 use Rattle.flow_system.specs.declared.fact.Place.TheVariants.{Site as site, Var as var}
 use Rattle.flow_system.specs.declared.fact.Part.TheVariants.{Tags as tags, Word as word}
 use Rattle.flow_system.specs.Solution.{At}
-use Rattle.points_to.specs.declared.facts.Facts.{Facts}
+use Rattle.points_to.specs.declared.facts.Item.{Item}
 use Rattle.points_to.specs.declared.wanted.Kind.TheVariants.{Sites as of_sites, Vars}
 use Rattle.points_to.specs.declared.wanted.Wanted.TheVariants.{NodeTags, Sites as cell_sites}
 use Rattle.points_to.specs.Held.{In}
-use Rattle.points_to.specs.Known.{held, solution_of}
+use Rattle.points_to.specs.Known.{solution_of}
 use Rattle.points_to.specs.Wanted.{is_in, SameSet, numbers_by, TagTable, SiteTable}
-use Rattle.points_to.specs.Met.{tags_of_sites, Ascends, MetTable, MetSoFar}
+use Rattle.points_to.specs.Met.{tags_of_sites, Ascends, MetSoFar, Meets as Meets'}
+use Rattle.points_to.specs.Rows.{SameMembers}
 use Rattle.seq.proofs.Member.{in_flat, flat_in}
-use Rattle.seq.proofs.Lists.{map_push, append_nil}
+use Rattle.seq.proofs.Lists.{map_push}
 use Rattle.seq.proofs.Truth.{both_ways}
 use Rattle.seq.proofs.Order.{lt_or_le}
 use Rattle.points_to.proofs.Read.{is_in-in, in-is_in, longer, entry, cells, node_tags}
 use Rattle.points_to.proofs.Solved.{known_at, at_known}
-
-module _ (table : List (List TagId)) where
-  abbrev of_first : ℕ → List Site → List ℕ
-  of_first i ss = tags_of_sites table (map (λ s. s.0) (take i ss))
-
-  pub tags_next : (ss : List Site) (i : ℕ) (d : Site) (old now more new : List ℕ) → i < length ss
-      → now ≡ old ++ of_first i ss → new ≡ now ++ more
-      → more ≡ numbers_by (λ t. t.0) (slice_get table (get_or ss i d).0)
-      → new ≡ old ++ of_first (i + 1) ss
-  tags_next ss i d old now more new lt h k q =
-      let f : ℕ → List ℕ = λ s. numbers_by (λ t. t.0) (slice_get table s) in
-      let ns = map (λ s. s.0) (take i ss) in
-      let x : ℕ = (get_or ss i d).0 in
-      let e : of_first (i + 1) ss ≡ flat_map f ns ++ (f x ++ [])
-      = ap (tags_of_sites table) (ap (map (λ s. s.0)) (take_more ss i d lt) ∙ map_push (λ s. s.0) (take i ss) (get_or ss i d))
-      ∙ flat_map-append f ns (x ∷ []) in
-      k ∙ ap (λ l. l ++ more) h ∙ append_assoc old (flat_map f ns) more
-      ∙ ap (λ l. old ++ (flat_map f ns ++ l)) (q ∙ sym (append_nil (f x))) ∙ ap (λ l. old ++ l) (sym e)
-
-  pub tags_done : (ss : List Site) (i : ℕ) (old now : List ℕ) → length ss ≤ i → now ≡ old ++ of_first i ss
-      → now ≡ old ++ tags_of_sites table (map (λ s. s.0) ss)
-  tags_done ss i old now le h = h ∙ ap (λ l. old ++ tags_of_sites table (map (λ s. s.0) l)) (take_all i ss le)
 
 pub ascends_of : (ms ns : List ℕ) → SameSet ns ms → IsStrictlyIncreasing ns → Ascends ms ns
 ascends_of ms ns s o = record {
@@ -53,6 +32,31 @@ ascends_of ms ns s o = record {
   same = λ n. both_ways (is_in n ns) (is_in n ms)
       (λ e. in-is_in n ms (s.to n (is_in-in n ns e)))
       (λ e. in-is_in n ns (s.from n (is_in-in n ms e)));
+}
+
+-- the same of a list with the same members
+pub ascends_like : (ms ms' ns : List ℕ) → SameMembers ms ms' → Ascends ms ns → Ascends ms' ns
+ascends_like ms ms' ns s a = record {
+  ascending = a.ascending;
+  same = λ n. a.same n ∙ both_ways (is_in n ms) (is_in n ms')
+      (λ e. in-is_in n ms' (s.into n (is_in-in n ms e)))
+      (λ e. in-is_in n ms (s.back n (is_in-in n ms' e)));
+}
+
+-- lists that are made of numbers under a newtype
+pub flat_ones : {X : Type 0} (number : X → ℕ) (xs : List X) → flat_map (λ x. number x ∷ []) xs ≡ map number xs
+flat_ones number [] = refl
+flat_ones number (x ∷ xs) = ap (λ l. number x ∷ l) (flat_ones number xs)
+
+pub flat_numbers : {X : Type 0} (number : X → ℕ) (f : ℕ → List ℕ) (xs : List X) → flat_map (λ x. f (number x)) xs ≡ flat_map f (map number xs)
+flat_numbers number f [] = refl
+flat_numbers number f (x ∷ xs) = ap (λ l. f (number x) ++ l) (flat_numbers number f xs)
+
+-- lists of lists with the same members
+pub flat_like : (f g : ℕ → List ℕ) → ((n : ℕ) → SameMembers (f n) (g n)) → (ns : List ℕ) → SameMembers (flat_map f ns) (flat_map g ns)
+flat_like f g s ns = record {
+  into = λ n h. let r = flat_in f ns h in in_flat g ns r.1 ((s r.0).into n r.2);
+  back = λ n h. let r = flat_in g ns h in in_flat f ns r.1 ((s r.0).back n r.2);
 }
 
 -- the same sites, so far
@@ -69,7 +73,7 @@ pub sites_all : (a b : List Site) (i : ℕ) → length a ≤ i → length b ≤ 
 sites_all a b i le le' h = ap (map (λ s. s.0)) (sym (take_all i a le)) ∙ h ∙ ap (map (λ s. s.0)) (take_all i b le')
 
 -- a table, entry by entry
-module _ (tags : List (List TagId)) (sites : List (List Site)) where
+module _ (tags : ℕ → List ℕ) (sites : List (List Site)) where
   abbrev sites_at : ℕ → List ℕ
   sites_at m = numbers_by (λ s. s.0) (slice_get sites m)
 
@@ -77,20 +81,20 @@ module _ (tags : List (List TagId)) (sites : List (List Site)) where
   none_met table e m lt = absurd (omega (arith, subst (λ t. m < length t) e lt))
 
   pub met_more : (table : List (List TagId)) (n : ℕ) (ss : List ℕ) (ts : List TagId) → MetSoFar tags sites table → length table ≡ n
-      → ss ≡ sites_at n → Ascends (tags_of_sites tags ss) (map (λ t. t.0) ts)
+      → ss ≡ sites_at n → Ascends (flat_map tags ss) (map (λ t. t.0) ts)
       → MetSoFar tags sites (table ++ ts ∷ [])
-  met_more table n ss ts t many e l m lt = entry (λ t. t.0) table m ts (λ m. Ascends (tags_of_sites tags (sites_at m)))
+  met_more table n ss ts t many e l m lt = entry (λ t. t.0) table m ts (λ m. Ascends (flat_map tags (sites_at m)))
       (λ m lt. t m lt)
-      (subst (λ ss. Ascends (tags_of_sites tags ss) (map (λ t. t.0) ts)) (e ∙ ap sites_at (sym many)) l)
+      (subst (λ ss. Ascends (flat_map tags ss) (map (λ t. t.0) ts)) (e ∙ ap sites_at (sym many)) l)
       (let long : length (table ++ ts ∷ []) ≡ length table + 1 = longer (λ t. t.0) table ts in omega (arith, lt, long))
 
   nothing_ascends : Ascends [] []
   nothing_ascends = record { ascending = λ k lt. absurd (omega (arith, lt)); same = λ n. refl }
 
-  pub met_done : (table : List (List TagId)) (n : ℕ) → MetSoFar tags sites table → length table ≡ n → length sites ≤ n → MetTable tags sites table
+  pub met_done : (table : List (List TagId)) (n : ℕ) → MetSoFar tags sites table → length table ≡ n → length sites ≤ n → (m : ℕ) → Meets' tags sites table m
   met_done table n t many past m = ⊎_elim
       (λ lt. t m (omega (arith, many, lt)))
-      (λ le. subst (λ o. Ascends (tags_of_sites tags (numbers_by (λ s. s.0) o)) (numbers_by (λ t. t.0) (slice_get table m)))
+      (λ le. subst (λ o. Ascends (flat_map tags (numbers_by (λ s. s.0) o)) (numbers_by (λ t. t.0) (slice_get table m)))
       (sym (slice_get_past sites m (omega (arith, past, le))))
       (subst (λ o. Ascends [] (numbers_by (λ t. t.0) o))
       (sym (slice_get_past table m (omega (arith, many, le))))
@@ -100,11 +104,11 @@ module _ (tags : List (List TagId)) (sites : List (List Site)) where
   -- an earlier entry, where the sites are the same
   pub met_earlier : (table : List (List TagId)) (n : ℕ) (ss there : List ℕ) (ts : List ℕ) → MetSoFar tags sites table → n < length table
       → ss ≡ there → there ≡ sites_at n → ts ≡ numbers_by (λ t. t.0) (slice_get table n)
-      → Ascends (tags_of_sites tags ss) ts
-  met_earlier table n ss there ts t lt e q k = subst (λ l. Ascends (tags_of_sites tags l) ts) (sym (e ∙ q)) (subst (Ascends (tags_of_sites tags (sites_at n))) (sym k) (t n lt))
+      → Ascends (flat_map tags ss) ts
+  met_earlier table n ss there ts t lt e q k = subst (λ l. Ascends (flat_map tags l) ts) (sym (e ∙ q)) (subst (Ascends (flat_map tags (sites_at n))) (sym k) (t n lt))
 
 -- what the reader says
-module _ (f : Facts) (table : List (List TagId)) (sites : List (List Site)) (at_sites : TagTable f of_sites NodeTags table) (at_vars : SiteTable f Vars cell_sites sites) (x : ℕ) where
+module _ (H : Place → List Item) (table : List (List TagId)) (sites : List (List Site)) (at_sites : TagTable H of_sites NodeTags table) (at_vars : SiteTable H Vars cell_sites sites) (x : ℕ) where
   abbrev ss : List ℕ
   ss = numbers_by (λ s. s.0) (slice_get sites x)
 
@@ -112,17 +116,17 @@ module _ (f : Facts) (table : List (List TagId)) (sites : List (List Site)) (at_
   ts s = numbers_by (λ t. t.0) (slice_get table s)
 
   abbrev pub Meets : ℕ → Type 0
-  Meets t = (s : ℕ) × At (solution_of (held f)) (var x) (word 0) (Cell s)
-      × At (solution_of (held f)) (site s) tags (Tag t)
+  Meets t = (s : ℕ) × At (solution_of H) (var x) (word 0) (Cell s)
+      × At (solution_of H) (site s) tags (Tag t)
 
   pub tags_met : (ns : List ℕ) → Ascends (tags_of_sites table ss) ns → (t : ℕ) → (In t ns → Meets t) × (Meets t → In t ns)
   tags_met ns l t = (
     λ h. let r = flat_in ts ss (is_in-in t (tags_of_sites table ss) (sym (l.same t) ∙ in-is_in t ns h)) in (
       r.0,
-      known_at (held f) (var x) (word 0) (Cell r.0) ((cells (held f (var x)) ss (at_vars x) r.0).0 r.1),
-      known_at (held f) (site r.0) tags (Tag t) ((node_tags (held f (site r.0)) (ts r.0) (at_sites r.0) t).0 r.2),
+      known_at H (var x) (word 0) (Cell r.0) ((cells (H (var x)) ss (at_vars x) r.0).0 r.1),
+      known_at H (site r.0) tags (Tag t) ((node_tags (H (site r.0)) (ts r.0) (at_sites r.0) t).0 r.2),
     ),
     λ m. is_in-in t ns (l.same t ∙ in-is_in t (tags_of_sites table ss) (in_flat ts ss
-        ((cells (held f (var x)) ss (at_vars x) m.0).1 (at_known (held f) (var x) (word 0) (Cell m.0) m.1))
-        ((node_tags (held f (site m.0)) (ts m.0) (at_sites m.0) t).1 (at_known (held f) (site m.0) tags (Tag t) m.2)))),
+        ((cells (H (var x)) ss (at_vars x) m.0).1 (at_known H (var x) (word 0) (Cell m.0) m.1))
+        ((node_tags (H (site m.0)) (ts m.0) (at_sites m.0) t).1 (at_known H (site m.0) tags (Tag t) m.2)))),
   )

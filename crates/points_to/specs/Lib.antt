@@ -16,5 +16,9 @@ pub mod Wanted
 pub mod Joined
 pub mod Met
 pub mod Found
+pub mod Stored
+pub mod ValueWords
+pub mod Kept
 pub mod Waiting
 pub mod Worklist
+pub mod Copies

@@ -6,9 +6,12 @@ use Rattle.grin_syntax.specs.declared.program.TagId.{TagId}
 use Rattle.grin_syntax.specs.declared.program.Site.{Site}
 use Rattle.points_to.specs.Wanted.{is_in, numbers_by}
 
--- the tags that a table has for some sites
+-- the tags of a site in a table, and those of some sites
+abbrev pub tags_at : List (List TagId) → ℕ → List ℕ
+tags_at tags s = numbers_by (λ t. t.0) (slice_get tags s)
+
 abbrev pub tags_of_sites : List (List TagId) → List ℕ → List ℕ
-tags_of_sites tags = flat_map (λ s. numbers_by (λ t. t.0) (slice_get tags s))
+tags_of_sites tags = flat_map (tags_at tags)
 
 -- an ascending list, without repeats, of the members of another
 pub record Ascends (ms ns : List ℕ) : Type 0 where
@@ -16,14 +19,14 @@ pub record Ascends (ms ns : List ℕ) : Type 0 where
   pub same : (n : ℕ) → is_in n ns ≡ is_in n ms
 
 -- the tags of the sites of the variable n
-abbrev pub Meets : List (List TagId) → List (List Site) → List (List TagId) → ℕ → Type 0
+abbrev pub Meets : (ℕ → List ℕ) → List (List Site) → List (List TagId) → ℕ → Type 0
 Meets tags sites table n =
-    Ascends (tags_of_sites tags (numbers_by (λ s. s.0) (slice_get sites n)))
+    Ascends (flat_map tags (numbers_by (λ s. s.0) (slice_get sites n)))
     (numbers_by (λ t. t.0) (slice_get table n))
 
 -- for each variable the tags of its sites, in a table that has all entries, or the first ones
 abbrev pub MetTable : List (List TagId) → List (List Site) → List (List TagId) → Type 0
-MetTable tags sites table = (n : ℕ) → Meets tags sites table n
+MetTable tags sites table = (n : ℕ) → Meets (tags_at tags) sites table n
 
-abbrev pub MetSoFar : List (List TagId) → List (List Site) → List (List TagId) → Type 0
+abbrev pub MetSoFar : (ℕ → List ℕ) → List (List Site) → List (List TagId) → Type 0
 MetSoFar tags sites table = (n : ℕ) → n < length table → Meets tags sites table n

@@ -11,13 +11,11 @@ use Rattle.flow_system.specs.declared.fact.Part.TheVariants.{Tags as tags, Field
 use Rattle.flow_system.specs.declared.fact.Place.{Place}
 use Rattle.flow_system.specs.declared.fact.Place.TheVariants.{Site as site, Var as var, Result as result}
 use Rattle.points_to.specs.declared.facts.Item.{Item}
-use Rattle.points_to.specs.declared.facts.Facts.{Facts}
 use Rattle.points_to.specs.declared.wanted.Kind.{Kind}
 use Rattle.points_to.specs.declared.wanted.Kind.TheVariants.{Sites as of_sites, Vars, Results}
 use Rattle.points_to.specs.declared.wanted.Wanted.{Wanted}
 use Rattle.points_to.specs.declared.wanted.Wanted.TheVariants.{NodeTags, Tags as all_tags, Sites as cell_sites}
 use Rattle.points_to.specs.Held.{In, picked}
-use Rattle.points_to.specs.Known.{held}
 
 abbrev pub tag_in : Element → List ℕ
 tag_in (Cell s) = []
@@ -77,12 +75,13 @@ numbers_by f None = []
 numbers_by f (Some xs) = map f xs
 
 -- an entry for each place of a kind, by the place's number
-abbrev pub IsTable : {X : Type 0} → (X → ℕ) → Facts → Kind → Wanted → List (List X) → Type 0
-IsTable number f k w table =
-    (n : ℕ) → Lists w (held f (place_of k n)) (numbers_by number (slice_get table n))
+abbrev pub IsTable : {X : Type 0} → (X → ℕ) → (Place → List Item) → Kind → Wanted → List (List X)
+    → Type 0
+IsTable number H k w table =
+    (n : ℕ) → Lists w (H (place_of k n)) (numbers_by number (slice_get table n))
 
-abbrev pub TagTable : Facts → Kind → Wanted → List (List TagId) → Type 0
+abbrev pub TagTable : (Place → List Item) → Kind → Wanted → List (List TagId) → Type 0
 TagTable = IsTable (λ t. t.0)
 
-abbrev pub SiteTable : Facts → Kind → Wanted → List (List Site) → Type 0
+abbrev pub SiteTable : (Place → List Item) → Kind → Wanted → List (List Site) → Type 0
 SiteTable = IsTable (λ s. s.0)

@@ -6,7 +6,7 @@ ghost use Rattle.flow_system.specs.Inclusions.{held as held', evaluated, into_si
 ghost use Rattle.flow_system.specs.Shown.{tables_of, source_of, sink_of, inclusion_of};
 ghost use Rattle.flow_system.specs.Tables.{params_of};
 ghost use Rattle.points_to.specs.Held.{as_nodes, elements, items};
-ghost use Rattle.points_to.specs.Asked.{target_facts, cell_facts, flow_facts, delayed_facts, forced, demands};
+ghost use Rattle.points_to.specs.Asked.{asked, target_facts, cell_facts, flow_facts, delayed_facts, forced, demands};
 ghost use Rattle.points_to.specs.Applied.{call_arguments, call_facts, tag_applied};
 ghost use Rattle.points_to.specs.ByTag.{IsByTag};
 ghost use Rattle.points_to.specs.Known.{held};
@@ -17,7 +17,7 @@ use crate::give::{arguments_by_tag, elements, items, value_nodes, width};
 use crate::nodes::{as_nodes, evaluated, listed};
 use crate::runs::{FactRuns, ItemRuns};
 use crate::tags::{called, delayed};
-use crate::targets::{facts_at, flow_to_target, nodes_at_place, vector_facts};
+use crate::targets::{facts_at, flow_to_target, items_to_target, nodes_at_place, vector_facts};
 use flow_system::fact::{Element, Part, Place};
 use flow_system::inclusion::{FlowSystem, Inclusion, Sink, Source};
 use grin_syntax::program::{ProcId, Site, Val, Word};
@@ -135,6 +135,27 @@ fn flow_facts(
         Sink::Result(f) => flow_to_result(alloc, system, facts, source, *f, out),
         Sink::Site(s) => flow_to_site(alloc, system, facts, source, *s, out),
         Sink::CellsAt(w) => flow_to_cells(alloc, system, facts, source, *w, out),
+    }
+}
+
+/// What is asked so that items reach a sink.
+pub fn asked(
+    alloc: Global,
+    system: &FlowSystem,
+    facts: &Facts,
+    k: Option<usize>,
+    items: &ItemRuns,
+    sink: &Sink,
+    out: &mut FactRuns,
+) -> Result<(), AllocError>
+    ensures { OnOk result (out.new ≡ out.old
+        ++ asked (tables_of system.now) (held facts.now) k items.now (sink_of sink.now)) }
+{
+    match sink {
+        Sink::To(target) => items_to_target(alloc, system, k, items, target, out),
+        Sink::Result(f) => facts_at(Place::Result(f.0), items, out),
+        Sink::Site(s) => nodes_at_place(alloc, system, k, items, Place::Site(s.0), out),
+        Sink::CellsAt(w) => cells_asked(alloc, system, facts, k, items, *w, out),
     }
 }
 

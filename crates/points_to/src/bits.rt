@@ -235,7 +235,7 @@ fn has_at(blocks: &[(u32, u64)], block: (u32, u64), found: Result<usize, usize>)
     }
 }
 
-fn bits_at(blocks: &[(u32, u64)], number: u32) -> u64
+pub(crate) fn bits_at(blocks: &[(u32, u64)], number: u32) -> u64
     requires { Ascending blocks.now }
     ensures { BitsAt blocks.now number result }
 {

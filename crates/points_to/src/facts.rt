@@ -1,8 +1,10 @@
 // What is known of a program: for each place, which words stand in which of its parts.
 
 ghost use Rattle.std.specs.Prelude.{◌≡◌, ℕ, ◌<◌, ◌≤◌, ◌+◌, [], ◌++◌, length, MatchOption, IsTrue, ◌↔◌, ◌⊎◌, OnOk, IfOk, true, false};
+ghost use Rattle.std.specs.List.{flat_map};
 ghost use Rattle.flow_system.specs.declared.fact.Place.{Place as Place'};
 ghost use Rattle.flow_system.specs.Shown.{tables_of};
+ghost use Rattle.points_to.specs.Bits.{block_words};
 ghost use Rattle.points_to.specs.Held.{In, picked, done_items};
 ghost use Rattle.points_to.specs.Known.{items_at, held, Puts, Grows};
 ghost use Rattle.points_to.specs.Runs.{run_items, run_facts};
@@ -112,6 +114,17 @@ impl Facts {
             Place::Site(n) => list_words(self.sites.as_slice(), n, part, out),
             Place::Var(n) => list_words(self.vars.as_slice(), n, part, out),
             Place::Result(n) => list_words(self.results.as_slice(), n, part, out),
+        }
+    }
+
+    /// The blocks of the words that a variable of one word may stand for.
+    pub fn word_blocks(&self, var: u32) -> &[(u32, u64)]
+        ensures { flat_map block_words result.now
+            ≡ picked (Part.Word 0) (held self.now (Place.Var var)) }
+    {
+        match self.vars.get(var as usize) {
+            Some(items) => items.blocks(Part::Word(0)),
+            None => &[],
         }
     }
 

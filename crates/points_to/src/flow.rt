@@ -9,12 +9,18 @@ ghost use Rattle.points_to.specs.Held.{In};
 ghost use Rattle.points_to.specs.Wanted.{TagTable, SiteTable};
 ghost use Rattle.points_to.specs.Met.{MetTable};
 ghost use Rattle.points_to.specs.Known.{held, solution_of};
+ghost use Rattle.points_to.specs.Stored.{tables_in, values_in, whole};
+ghost use Rattle.flow_system.specs.Shown.{tables_of, inclusions_of};
 
 use crate::facts::{Fact, Facts, Item};
 use crate::met::met_table;
+use crate::origin::Origin;
+use crate::stored::Stored;
+use crate::stored_tags::stored_table;
 use crate::tables::{site_entry, site_table, tag_entry, tag_table};
 use crate::wanted::{Kind, Wanted};
 use flow_system::fact::{Element, Part, Place};
+use flow_system::inclusion::FlowSystem;
 use grin_syntax::program::{ProcId, Site, TagId, VarId};
 use seq::Seq;
 use std::alloc::{AllocError, Global};
@@ -24,16 +30,19 @@ use std::alloc::{AllocError, Global};
 #[derive(Drop)]
 pub struct Flow {
     facts: Facts,
+    stored: Stored,
+    origin: Origin,
     site_tags: Seq<Seq<TagId>>,
     var_sites: Seq<Seq<Site>>,
     var_tags: Seq<Seq<TagId>>,
     met_tags: Seq<Seq<TagId>>,
     result_tags: Seq<Seq<TagId>>,
-    ghost at_sites: { TagTable facts of_sites NodeTags site_tags },
-    ghost cells_of_vars: { SiteTable facts Vars cell_sites var_sites },
-    ghost tags_of_vars: { TagTable facts Vars all_tags var_tags },
+    ghost at_sites: { TagTable (whole (tables_in origin) origin.values facts stored) of_sites
+        NodeTags site_tags },
+    ghost cells_of_vars: { SiteTable (held facts) Vars cell_sites var_sites },
+    ghost tags_of_vars: { TagTable (held facts) Vars all_tags var_tags },
     ghost tags_in_cells: { MetTable site_tags var_sites met_tags },
-    ghost tags_of_results: { TagTable facts Results all_tags result_tags },
+    ghost tags_of_results: { TagTable (held facts) Results all_tags result_tags },
 }
 
 impl Flow {
@@ -44,12 +53,51 @@ impl Flow {
         ensures { IfOk result (λ f. found f ≡ solution_of (held facts)) }
     {
         let site_tags = tag_table(alloc, &facts, Kind::Sites, Wanted::NodeTags)?;
+        Flow::make(
+            alloc,
+            facts,
+            Stored::new(alloc),
+            Origin::none(alloc),
+            site_tags,
+        )
+    }
+
+    /// The solution that has these facts, and the nodes of the values in cells.
+    pub(crate) fn with_values(
+        alloc: Global,
+        system: &FlowSystem,
+        facts: Facts,
+        stored: Stored,
+    ) -> Result<Flow, AllocError>
+        ensures { IfOk result (λ f. found f ≡ solution_of (whole (tables_of system.now)
+            (values_in (inclusions_of system.now)) facts stored)) }
+    {
+        let site_tags = stored_table(alloc, system, &facts, &stored)?;
+        let origin = Origin::of(alloc, system)?;
+        Flow::make(alloc, facts, stored, origin, site_tags)
+    }
+
+    fn make(
+        alloc: Global,
+        facts: Facts,
+        stored: Stored,
+        origin: Origin,
+        site_tags: Seq<Seq<TagId>>,
+    ) -> Result<Flow, AllocError>
+        requires { TagTable (whole (tables_in origin) origin.values facts stored) of_sites NodeTags
+            site_tags }
+        ensures facts { IfOk result (λ f. f.facts ≡ facts) }
+        ensures stored { IfOk result (λ f. f.stored ≡ stored) }
+        ensures origin { IfOk result (λ f. f.origin ≡ origin) }
+    {
         let var_sites = site_table(alloc, &facts, Kind::Vars, Wanted::Sites)?;
         let var_tags = tag_table(alloc, &facts, Kind::Vars, Wanted::Tags)?;
         let met_tags = met_table(alloc, &var_sites, &site_tags)?;
         let result_tags = tag_table(alloc, &facts, Kind::Results, Wanted::Tags)?;
         Ok(Flow {
             facts,
+            stored,
+            origin,
             site_tags,
             var_sites,
             var_tags,

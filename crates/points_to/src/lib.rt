@@ -9,24 +9,34 @@ ghost use Rattle.points_to.specs.Found.{found};
 mod ask;
 mod bits;
 mod by_tag;
+mod copies;
 mod facts;
+mod fast;
 mod fetch;
 mod first;
 mod flow;
 mod give;
 mod groups;
+mod hints;
 mod items;
+mod kept;
 mod met;
 mod nodes;
 mod number_set;
+mod origin;
 mod pending;
 mod readers;
 mod reads;
 mod rounds;
 mod runs;
+mod state;
+mod stored;
+mod stored_tags;
 mod tables;
 mod tags;
 mod targets;
+mod value_word;
+mod vectors;
 mod wanted;
 mod worklist;
 
@@ -40,6 +50,10 @@ pub fn solve(alloc: Global, system: &FlowSystem) -> Result<Flow, AllocError>
     ensures { IfOk result (λ f.
         IsLeast (tables_of system.now) (inclusions_of system.now) (found f)) }
 {
+    if vectors::reads_by_words(system) {
+        let kept = vectors::least_kept(alloc, system)?;
+        return Flow::with_values(alloc, system, kept.facts, kept.stored);
+    }
     let facts = worklist::least_facts(alloc, system)?;
     Flow::from_facts(alloc, facts)
 }

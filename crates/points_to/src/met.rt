@@ -1,47 +1,61 @@
 // A list, for each variable, of the tags in the cells that it may stand for.
 
-ghost use Rattle.std.specs.Prelude.{◌≡◌, ◌++◌, true, map, OnOk, IfOk};
-ghost use Rattle.points_to.specs.Met.{tags_of_sites, Ascends, MetSoFar, MetTable};
+ghost use Rattle.std.specs.Prelude.{◌≡◌, ℕ, true, map, IfOk};
+ghost use Rattle.std.specs.List.{flat_map};
+ghost use Rattle.points_to.specs.Met.{tags_at, Ascends, MetSoFar, MetTable};
+ghost use Rattle.points_to.specs.Rows.{numbers_in, SameMembers};
+ghost use Rattle.points_to.specs.Stored.{sets_at};
 
+use crate::bits::Bits;
+use crate::stored::{blocks_at, list_numbers, number_block, put_all};
 use crate::tables::{as_tags, ascending, site_entry, tag_entry};
 use grin_syntax::program::{Site, TagId};
 use seq::Seq;
 use std::alloc::{AllocError, Global};
 
-fn put_tags(tags: &[TagId], out: &mut Seq<u32>) -> Result<(), AllocError>
-    ensures { OnOk result (out.new ≡ out.old ++ map (λ t. t.0) tags.now) }
+// The tags of a site, as a set of numbers.
+fn tag_set(alloc: Global, tags: &[TagId]) -> Result<Bits, AllocError>
+    ensures { IfOk result (λ set. SameMembers (numbers_in set) (map (λ t. t.0) tags.now)) }
 {
+    let mut set = Bits::new(alloc);
     for tag in tags {
-        out.push(tag.0)?;
+        set.add_new(number_block(tag.0))?;
     }
-    Ok(())
+    Ok(set)
 }
 
-fn put_tags_of(
-    sites: &[Site],
-    site_tags: &Seq<Seq<TagId>>,
-    out: &mut Seq<u32>,
-) -> Result<(), AllocError>
-    ensures { OnOk result (out.new ≡ out.old
-        ++ tags_of_sites site_tags.now (map (λ s. s.0) sites.now)) }
+// The tags of each site, as sets of numbers.
+fn tag_sets(alloc: Global, site_tags: &Seq<Seq<TagId>>) -> Result<Vec<Bits>, AllocError>
+    ensures { IfOk result (λ sets. (s : ℕ)
+        → SameMembers (sets_at sets.items s) (tags_at site_tags.now s)) }
 {
-    for site in sites {
-        put_tags(tag_entry(site_tags, site.0 as usize), out)?;
+    let mut sets = Vec::new(alloc);
+    for s in 0..site_tags.len() {
+        sets.push(tag_set(alloc, tag_entry(site_tags, s))?)?;
     }
-    Ok(())
+    Ok(sets)
+}
+
+// The numbers in the sets of some sites.
+fn numbers_met(alloc: Global, sites: &[Site], sets: &[Bits]) -> Result<Bits, AllocError>
+    ensures { IfOk result (λ met. SameMembers (numbers_in met)
+        (flat_map (sets_at sets.now) (map (λ s. s.0) sites.now))) }
+{
+    let mut met = Bits::new(alloc);
+    for site in sites {
+        put_all(blocks_at(sets, site.0), &mut met)?;
+    }
+    Ok(met)
 }
 
 // The tags of some sites, ascending and without repeats.
-fn met_at(
-    alloc: Global,
-    sites: &[Site],
-    site_tags: &Seq<Seq<TagId>>,
-) -> Result<Seq<TagId>, AllocError>
-    ensures { IfOk result (λ ts.
-        Ascends (tags_of_sites site_tags.now (map (λ s. s.0) sites.now)) (map (λ t. t.0) ts)) }
+fn met_at(alloc: Global, sites: &[Site], sets: &[Bits]) -> Result<Seq<TagId>, AllocError>
+    ensures { IfOk result (λ ts. Ascends (flat_map (sets_at sets.now) (map (λ s. s.0) sites.now))
+        (map (λ t. t.0) ts)) }
 {
+    let met = numbers_met(alloc, sites, sets)?;
     let mut numbers = Seq::new(alloc);
-    put_tags_of(sites, site_tags, &mut numbers)?;
+    list_numbers(met.blocks.as_slice(), &mut numbers)?;
     let listed = ascending(numbers);
     let mut tags = Seq::new(alloc);
     as_tags(listed.as_slice(), &mut tags)?;
@@ -68,19 +82,19 @@ fn met_again(
     table: &Seq<Seq<TagId>>,
     earlier: usize,
     var_sites: &Seq<Seq<Site>>,
-    site_tags: &Seq<Seq<TagId>>,
+    sets: &[Bits],
     sites: &[Site],
 ) -> Result<Seq<TagId>, AllocError>
-    requires { MetSoFar site_tags.now var_sites.now table.now }
-    ensures { IfOk result (λ ts.
-        Ascends (tags_of_sites site_tags.now (map (λ s. s.0) sites.now)) (map (λ t. t.0) ts)) }
+    requires { MetSoFar (sets_at sets.now) var_sites.now table.now }
+    ensures { IfOk result (λ ts. Ascends (flat_map (sets_at sets.now) (map (λ s. s.0) sites.now))
+        (map (λ t. t.0) ts)) }
 {
     if earlier < table.len() {
         if same_sites(sites, site_entry(var_sites, earlier)) {
             return Seq::from_slice(alloc, tag_entry(table, earlier));
         }
     }
-    met_at(alloc, sites, site_tags)
+    met_at(alloc, sites, sets)
 }
 
 /// The tags of the sites of each variable. In a case the fields of all alternatives often have the
@@ -92,11 +106,13 @@ pub fn met_table(
 ) -> Result<Seq<Seq<TagId>>, AllocError>
     ensures { IfOk result (MetTable site_tags.now var_sites.now) }
 {
+    let sets = tag_sets(alloc, site_tags)?;
     let mut table = Seq::new(alloc);
     let mut earlier = 0;
     for n in 0..var_sites.len() {
         let sites = site_entry(var_sites, n);
-        table.push(met_again(alloc, &table, earlier, var_sites, site_tags, sites)?)?;
+        let tags = met_again(alloc, &table, earlier, var_sites, sets.as_slice(), sites)?;
+        table.push(tags)?;
         if !sites.is_empty() {
             earlier = n;
         }

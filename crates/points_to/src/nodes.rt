@@ -284,7 +284,7 @@ fn fields_of_tags(
 }
 
 // Word i of the nodes among some items: the tag, then the fields, then numbers.
-fn fetched(
+pub fn fetched(
     alloc: Global,
     system: &FlowSystem,
     i: u32,

@@ -13,15 +13,15 @@ use crate::runs::FactRuns;
 use flow_system::inclusion::{FlowSystem, Inclusion};
 use std::alloc::{AllocError, Global};
 
-// Whether one of two holds.
-fn either(a: bool, b: bool) -> bool
+/// Whether one of two holds.
+pub fn either(a: bool, b: bool) -> bool
     ensures { result ≡ (a || b) }
 {
     a || b
 }
 
-// Adds facts, and says whether some of them may be new.
-fn add_all(alloc: Global, facts: &mut Facts, more: &FactRuns) -> Result<bool, AllocError>
+/// Adds facts, and says whether some of them may be new.
+pub fn add_all(alloc: Global, facts: &mut Facts, more: &FactRuns) -> Result<bool, AllocError>
     ensures grown { OnOk result (Grows (held facts.old) (held facts.new) more.now) }
     ensures still { IfOk result (λ added. added ≡ false → facts.new ≡ facts.old) }
     ensures counted { IfOk result (λ added. Counted facts.old facts.new added) }
@@ -33,8 +33,8 @@ fn add_all(alloc: Global, facts: &mut Facts, more: &FactRuns) -> Result<bool, Al
     Ok(added)
 }
 
-// Adds all that an inclusion asks for, and says whether some of it may be new.
-fn satisfy(
+/// Adds all that an inclusion asks for, and says whether some of it may be new.
+pub fn satisfy(
     alloc: Global,
     system: &FlowSystem,
     facts: &mut Facts,

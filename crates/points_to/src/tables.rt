@@ -1,6 +1,6 @@
 // Lists of what readers want, place by place.
 
-ghost use Rattle.std.specs.Prelude.{◌≡◌, ◌<◌, ℕ, [], ◌∷◌, ◌++◌, map, length, slice_get, OnOk, IfOk};
+ghost use Rattle.std.specs.Prelude.{◌≡◌, ◌<◌, ℕ, [], ◌∷◌, ◌++◌, map, length, slice_get, true, OnOk, IfOk};
 ghost use Rattle.std.specs.List.{flat_map};
 ghost use Rattle.std.specs.List.Sorted.{IsStrictlyIncreasing};
 ghost use Rattle.points_to.specs.Bits.{block_words};
@@ -9,7 +9,7 @@ ghost use Rattle.points_to.specs.Known.{held};
 ghost use Rattle.points_to.specs.Wanted.{tag_in, site_in, by_parts, place_of, SameSet, Lists, site_id, numbers_by, TagTable, SiteTable};
 ghost use Rattle.grin_syntax.specs.Tags.{tag_id};
 
-use crate::bits::{Block, word_of};
+use crate::bits::{Bits, Block, word_of};
 use crate::facts::Facts;
 use crate::runs::WordRuns;
 use crate::wanted::{Kind, Wanted};
@@ -58,10 +58,10 @@ fn put_sites(block: (u32, u64), out: &mut Seq<u32>) -> Result<(), AllocError>
     Ok(())
 }
 
-fn put_all_tags(words: &WordRuns, out: &mut Seq<u32>) -> Result<(), AllocError>
-    ensures { OnOk result (out.new ≡ out.old ++ flat_map tag_in words.now) }
+fn put_all_tags(blocks: &[(u32, u64)], out: &mut Seq<u32>) -> Result<(), AllocError>
+    ensures { OnOk result (out.new ≡ out.old ++ flat_map tag_in (flat_map block_words blocks.now)) }
 {
-    for block in words.blocks() {
+    for block in blocks {
         put_tags(*block, out)?;
     }
     Ok(())
@@ -97,12 +97,12 @@ fn put_parts(
 {
     match w {
         Wanted::NodeTags => {
-            put_all_tags(&words_in(alloc, facts, place, Part::Tags)?, out)?;
+            put_all_tags(words_in(alloc, facts, place, Part::Tags)?.blocks(), out)?;
             Ok(())
         }
         Wanted::Tags => {
-            put_all_tags(&words_in(alloc, facts, place, Part::Tags)?, out)?;
-            put_all_tags(&words_in(alloc, facts, place, Part::Word(0))?, out)?;
+            put_all_tags(words_in(alloc, facts, place, Part::Tags)?.blocks(), out)?;
+            put_all_tags(words_in(alloc, facts, place, Part::Word(0))?.blocks(), out)?;
             Ok(())
         }
         Wanted::Sites => {
@@ -112,11 +112,41 @@ fn put_parts(
     }
 }
 
-/// Numbers in any order, made ascending and without repeats.
+/// Words in blocks, as ascending tags.
+pub fn tags_in(alloc: Global, words: &WordRuns) -> Result<Seq<TagId>, AllocError>
+    ensures ascending { IfOk result (λ ts. IsStrictlyIncreasing (map (λ t. t.0) ts)) }
+    ensures same { IfOk result (λ ts. SameSet (map (λ t. t.0) ts) (flat_map tag_in words.now)) }
+{
+    let mut set = Bits::new(alloc);
+    words.put_into(&mut set, 0)?;
+    let mut numbers = Seq::new(alloc);
+    put_all_tags(set.blocks.as_slice(), &mut numbers)?;
+    let listed = ascending(numbers);
+    let mut out = Seq::new(alloc);
+    as_tags(listed.as_slice(), &mut out)?;
+    Ok(out)
+}
+
+// Whether numbers ascend, without repeats.
+fn rises(numbers: &[u32]) -> bool
+    ensures { result ≡ true → IsStrictlyIncreasing numbers.now }
+{
+    for i in 1..numbers.len() {
+        if numbers[i - 1] >= numbers[i] {
+            return false;
+        }
+    }
+    true
+}
+
+/// Numbers in any order, made ascending and without repeats. Mostly they are so already.
 pub fn ascending(numbers: Seq<u32>) -> Seq<u32>
     ensures ascending { IsStrictlyIncreasing result }
     ensures same { SameSet result numbers }
 {
+    if rises(numbers.as_slice()) {
+        return numbers;
+    }
     let mut listed = numbers.into_vec();
     listed.sort_unstable();
     listed.dedup();
@@ -187,7 +217,7 @@ pub fn tag_table(
     kind: Kind,
     w: Wanted,
 ) -> Result<Seq<Seq<TagId>>, AllocError>
-    ensures { IfOk result (TagTable facts.now kind w) }
+    ensures { IfOk result (TagTable (held facts.now) kind w) }
 {
     let count = facts.places(kind)?;
     let mut table = Seq::new(alloc);
@@ -205,7 +235,7 @@ pub fn site_table(
     kind: Kind,
     w: Wanted,
 ) -> Result<Seq<Seq<Site>>, AllocError>
-    ensures { IfOk result (SiteTable facts.now kind w) }
+    ensures { IfOk result (SiteTable (held facts.now) kind w) }
 {
     let count = facts.places(kind)?;
     let mut table = Seq::new(alloc);

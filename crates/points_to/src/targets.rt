@@ -4,15 +4,15 @@ ghost use Rattle.std.specs.Prelude.{◌≡◌, ◌++◌, OnOk};
 ghost use Rattle.std.specs.List.{flat_map};
 ghost use Rattle.flow_system.specs.Inclusions.{to};
 ghost use Rattle.flow_system.specs.Shown.{tables_of, source_of};
-ghost use Rattle.points_to.specs.Held.{in_part, as_word, as_nodes, numbered, items};
-ghost use Rattle.points_to.specs.Asked.{facts_at, vector_facts, flow_facts};
+ghost use Rattle.points_to.specs.Held.{picked, in_part, as_word, as_nodes, numbered, items};
+ghost use Rattle.points_to.specs.Asked.{facts_at, vector_facts, target_facts, flow_facts};
 ghost use Rattle.points_to.specs.Bits.{block_words};
 ghost use Rattle.points_to.specs.Known.{held};
 
 use crate::facts::Facts;
 use crate::first::first_words;
 use crate::give::{items, width, words_of};
-use crate::nodes::{as_nodes, as_word};
+use crate::nodes::{as_nodes, as_word, picked};
 use crate::runs::{FactRuns, ItemRun, ItemRuns, WordRuns};
 use flow_system::fact::{Part, Place};
 use flow_system::inclusion::{FlowSystem, Source};
@@ -259,4 +259,39 @@ pub fn flow_to_target(
         Target::One(x) => flow_to_word(alloc, system, facts, source, *x, out),
         Target::Vector(xs) => flow_to_vector(alloc, system, facts, source, xs.as_slice(), out),
     }
+}
+
+/// What is asked so that items reach a target.
+pub fn items_to_target(
+    alloc: Global,
+    system: &FlowSystem,
+    k: Option<usize>,
+    items: &ItemRuns,
+    target: &Target,
+    out: &mut FactRuns,
+) -> Result<(), AllocError>
+    ensures { OnOk result (out.new ≡ out.old
+        ++ target_facts (tables_of system.now) k items.now target.now) }
+{
+    match target {
+        Target::Nothing => Ok(()),
+        Target::Node(x) => nodes_at_place(alloc, system, k, items, Place::Var(x.0), out),
+        Target::One(x) => first_at_variable(alloc, items, *x, out),
+        Target::Vector(xs) => vector_facts(alloc, system, items, xs.as_slice(), out),
+    }
+}
+
+// The first words of items, at a variable of one word.
+fn first_at_variable(
+    alloc: Global,
+    items: &ItemRuns,
+    x: VarId,
+    out: &mut FactRuns,
+) -> Result<(), AllocError>
+    ensures { OnOk result (out.new ≡ out.old
+        ++ facts_at (Place.Var x.0) (in_part (Part.Word 0) (picked (Part.Word 0) items.now))) }
+{
+    let mut words = WordRuns::new(alloc);
+    picked(Part::Word(0), items, &mut words)?;
+    words_at_variable(x, &words, out)
 }

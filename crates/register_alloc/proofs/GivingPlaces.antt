@@ -6,7 +6,7 @@ use Rattle.seq.proofs.Lists.{get_left}
 use Rattle.parallel_move.specs.declared.Spot.{Spot}
 use Rattle.parallel_move.specs.declared.Spot.TheVariants.{Reg, Slot}
 use Rattle.register_alloc.specs.Live.{IsLive}
-use Rattle.register_alloc.specs.Uses.{AreUses}
+use Rattle.variable_uses.specs.Uses.{AreUses}
 use Rattle.register_alloc.specs.Holders.{Held, new_holder, AreStillUsed, AreRegisters, Step, register, slot, Extends, Numbered, in_register, in_slot, variables_of, Keeps}
 use Rattle.register_alloc.specs.Point.{SameText, SamePlaces, Gives, GivesSlot, Grows, Adds, AllGiven, Binds, NotesCall}
 use Rattle.register_alloc.specs.declared.holders.Holder.{Holder}

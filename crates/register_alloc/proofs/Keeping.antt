@@ -1,7 +1,7 @@
 -- Who holds the registers, from one point to the next.
 use Rattle.std.proofs.Common.{◌≡◌, ◌≢◌, ◌⊎◌, ◌↔◌, ℕ, suc, ◌+◌, ◌-◌, ◌<◌, ◌≤◌, true, false, List, [], ◌∷◌, ◌++◌, length, Option, Some, None, slice_get, inl, inr, refl, sym, ap, ◌∙◌, subst, arith}
 use Rattle.std.specs.Prelude.{slice_set}
-use Rattle.std.proofs.lemmas.Option.{same_Some, slice_get_within}
+use Rattle.std.proofs.lemmas.Option.{slice_get_within}
 use Rattle.seq.proofs.Truth.{both_ways}
 use Rattle.seq.proofs.Lists.{some_at, length_set, get_set}
 use Rattle.parallel_move.specs.declared.Spot.{Spot}
@@ -10,10 +10,11 @@ use Rattle.low_code.specs.Tree.{Code}
 use Rattle.low_code.specs.Formed.{uses}
 use Rattle.register_alloc.specs.Live.{IsLive}
 use Rattle.register_alloc.specs.Fits.{IsSlot, ClearOf, Apart, Holds, Full}
-use Rattle.register_alloc.specs.Inner.{Stands}
+use Rattle.variable_uses.specs.Stands.{Stands}
 use Rattle.register_alloc.specs.Holders.{Held, new_holder, IsWanted, IsStill, IsMarked, AreStillUsed, AreEntering, AllFree, Step, register, slot, Holding, IsKept, Keeps, Giving}
 use Rattle.register_alloc.specs.declared.holders.Holder.{Holder}
-use Rattle.register_alloc.proofs.Lists.{among_first, among_either, set_cases, used_among, among_used}
+use Rattle.register_alloc.proofs.Lists.{among_first, among_either, set_cases}
+use Rattle.variable_uses.proofs.Standing.{used_among, among_used}
 use Rattle.seq.specs.Lists.{is_among}
 use Rattle.seq.proofs.Counted.{among_later, among_cases, among_left, among_right}
 

@@ -1,6 +1,5 @@
 pub mod Masks
 pub mod Walked
-pub mod Positions
 pub mod Scanned
 pub mod Lists
 pub mod Keeping

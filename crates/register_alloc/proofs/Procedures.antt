@@ -8,8 +8,9 @@ use Rattle.low_code.specs.Tree.{Code, set, prim, load, save, take, put, get, cal
 use Rattle.low_code.specs.Formed.{uses, binds, arms_binds, variables, all_variables, calls_in, sites_of, all_sites, Site}
 use Rattle.register_alloc.specs.Live.{LiveAfter, ArmsLiveAfter}
 use Rattle.register_alloc.specs.Fits.{IsPlace, slot_end, slots_of, longest}
-use Rattle.register_alloc.specs.Uses.{AreUses}
-use Rattle.register_alloc.specs.Inner.{sizes_of, Stands}
+use Rattle.variable_uses.specs.Uses.{AreUses}
+use Rattle.register_alloc.specs.Inner.{sizes_of}
+use Rattle.variable_uses.specs.Stands.{Stands}
 use Rattle.register_alloc.specs.Holders.{AllFree, Agrees, Numbered, none, in_register, in_slot, variables_of, Giving, Holding}
 use Rattle.register_alloc.specs.Point.{After, points, Notes, NoteAll, NoneLater, Before, Walked, SameText, IsNew, Adds, AllGiven, Ends, IsWalked}
 use Rattle.register_alloc.specs.Gathered.{IsWalkOf, Gathers, one_more, sites_at, calls_of_walks, longest_at}
@@ -19,7 +20,8 @@ use Rattle.register_alloc.specs.declared.registers.Given.{Given}
 use Rattle.register_alloc.specs.declared.registers.CallSite.{CallSite}
 use Rattle.register_alloc.specs.declared.registers.Registers.{Registers}
 use Rattle.register_alloc.specs.declared.registers.Text.{Text}
-use Rattle.register_alloc.proofs.Lists.{among_first, among_either, stands_all, got_after}
+use Rattle.register_alloc.proofs.Lists.{among_first, among_either, got_after}
+use Rattle.variable_uses.proofs.Standing.{stands_all}
 use Rattle.register_alloc.proofs.Keeping.{free_keeps, given_holds}
 use Rattle.register_alloc.proofs.Walking.{agrees_old}
 use Rattle.register_alloc.proofs.Walked.{nothing_more}

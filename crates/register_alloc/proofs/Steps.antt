@@ -9,7 +9,7 @@ use Rattle.low_code.specs.Tree.{Code, set, prim, load, save, take, put, get, cal
 use Rattle.low_code.specs.Formed.{uses, binds, arms_binds, used_by, used_by_all, used_by_tests}
 use Rattle.low_code.proofs.TreeOf.{arm_of-parts}
 use Rattle.register_alloc.specs.Holders.{variables_of}
-use Rattle.register_alloc.specs.Uses.{AreUses}
+use Rattle.variable_uses.specs.Uses.{AreUses}
 use Rattle.register_alloc.specs.Holders.{AreEntering}
 use Rattle.register_alloc.specs.Point.{SameGiven, SameText, SamePlaces, EntersInner, Grows, Adds, Binds, NotesCall, Walks, GoesOn, Does, DoesArm, Ends}
 use Rattle.register_alloc.specs.declared.holders.Holder.{Holder}

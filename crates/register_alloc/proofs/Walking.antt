@@ -7,15 +7,16 @@ use Rattle.low_code.specs.declared.program.LowTest.{LowTest}
 use Rattle.low_code.specs.declared.program.Operand.{Operand}
 use Rattle.register_alloc.specs.Live.{EachBinding}
 use Rattle.register_alloc.specs.Fits.{Ascending}
-use Rattle.register_alloc.specs.Uses.{AreUses}
-use Rattle.register_alloc.specs.Inner.{sizes_of, arms_sizes, Stands}
+use Rattle.variable_uses.specs.Uses.{AreUses}
+use Rattle.register_alloc.specs.Inner.{sizes_of, arms_sizes}
+use Rattle.variable_uses.specs.Stands.{Stands}
 use Rattle.register_alloc.specs.Holders.{AreStillUsed, AreEntering, NoneOf, Holding, Keeps, Good, Giving, Agrees, Extends, Numbered}
 use Rattle.register_alloc.specs.Point.{After, points, arms_points, Notes, NoteAll, NoneLater, Before, Walked, Onward, Bound, SameGiven, SameText, SamePlaces, EntersInner, Grows}
 use Rattle.register_alloc.specs.declared.holders.Holder.{Holder}
 use Rattle.register_alloc.specs.declared.registers.CallSite.{CallSite}
 use Rattle.register_alloc.specs.declared.registers.Registers.{Registers}
 use Rattle.register_alloc.specs.declared.registers.Text.{Text}
-use Rattle.register_alloc.proofs.Lists.{stands_first, stands_rest, stands_head}
+use Rattle.variable_uses.proofs.Standing.{stands_first, stands_rest, stands_head}
 use Rattle.register_alloc.proofs.Keeping.{still_keeps, entering_holds, holding_less, given_holds}
 use Rattle.register_alloc.proofs.Walked.{grouped, nothing_more}
 use Rattle.seq.specs.Lists.{is_among}

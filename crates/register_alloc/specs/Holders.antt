@@ -6,7 +6,7 @@ use Rattle.parallel_move.specs.declared.Spot.TheVariants.{Reg, Slot}
 use Rattle.low_code.specs.Tree.{Code}
 use Rattle.register_alloc.specs.Live.{IsLive}
 use Rattle.register_alloc.specs.Fits.{Apart, Full, Ascending}
-use Rattle.register_alloc.specs.Uses.{IsUsedWithin}
+use Rattle.variable_uses.specs.Uses.{IsUsedWithin}
 use Rattle.register_alloc.specs.declared.holders.Holder.{Holder}
 use Rattle.register_alloc.specs.declared.registers.Given.{Given}
 use Rattle.seq.specs.Lists.{is_among}

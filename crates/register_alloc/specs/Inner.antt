@@ -1,6 +1,5 @@
--- The blocks of joins and the arms of a block, as they begin, and lists in which a walk stands at a
--- place.
-use Rattle.std.specs.Prelude.{◌≡◌, ℕ, List, [], ◌∷◌, ◌++◌, length, drop}
+-- The blocks of joins and the arms of a block, as they begin.
+use Rattle.std.specs.Prelude.{ℕ, List, [], ◌∷◌, ◌++◌, length}
 use Rattle.low_code.specs.Tree.{Code, set, prim, load, save, take, put, get, call, join, give, tail, choose, fail, Arms, otherwise, arm}
 use Rattle.low_code.specs.Formed.{uses}
 
@@ -24,8 +23,3 @@ abbrev mutual
   pub arms_sizes : Arms → List ℕ
   arms_sizes (otherwise c) = sizes_of c
   arms_sizes (arm ts c as') = length (uses c) ∷ (sizes_of c ++ arms_sizes as')
-
--- the items from this place on begin with these
-pub record Stands (items : List ℕ) (at : ℕ) (part : List ℕ) : Type 0 where
-  pub after : List ℕ
-  pub is : drop at items ≡ part ++ after

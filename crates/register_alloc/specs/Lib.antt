@@ -6,7 +6,6 @@ pub mod Reach
 pub mod Rounds
 pub mod Results
 pub mod Gathered
-pub mod Uses
 pub mod Inner
 pub mod Holders
 pub mod Point

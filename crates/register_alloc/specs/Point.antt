@@ -7,8 +7,9 @@ use Rattle.low_code.specs.Tree.{Code, set, prim, load, save, take, put, get, cal
 use Rattle.low_code.specs.Formed.{uses, binds, variables}
 use Rattle.register_alloc.specs.Live.{IsLive, EachBinding, EachBindingOf}
 use Rattle.register_alloc.specs.Fits.{Ascending}
-use Rattle.register_alloc.specs.Uses.{AreUses}
-use Rattle.register_alloc.specs.Inner.{sizes_of, Stands}
+use Rattle.variable_uses.specs.Uses.{AreUses}
+use Rattle.register_alloc.specs.Inner.{sizes_of}
+use Rattle.variable_uses.specs.Stands.{Stands}
 use Rattle.register_alloc.specs.Holders.{Holding, Good, NoneOf, Keeps, Giving, Step, Agrees, Extends, Numbered, variables_of}
 use Rattle.register_alloc.specs.declared.holders.Holder.{Holder}
 use Rattle.register_alloc.specs.declared.registers.CallSite.{CallSite}

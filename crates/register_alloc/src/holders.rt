@@ -1,14 +1,14 @@
 // The variables that hold the registers x8 to x31 at a point of a procedure.
 
 ghost use Rattle.std.specs.Prelude.{◌≡◌, ◌<◌, ◌++◌, ◌∷◌, [], ℕ, true, false, List, length, slice_get, slice_set, Some, None, Option, vec_len, IfOk, OnOk, IfSome, MatchOption};
-ghost use Rattle.register_alloc.specs.Uses.{AreUses};
+ghost use Rattle.variable_uses.specs.Uses.{AreUses};
 ghost use Rattle.register_alloc.specs.Holders.{Held, AreStillUsed, AreEntering, AllFree, AreRegisters, IsStill, IsMarked, Pairwise, new_holder};
 ghost use Rattle.register_alloc.specs.declared.holders.Holder.{Holder};
 
 use crate::either::either;
-use crate::uses::Uses;
 use seq::Seq;
 use std::alloc::{AllocError, Global};
+use variable_uses::Uses;
 
 /// A variable that holds a register, and whether it is used after the joins around the block.
 #[derive(Clone, Copy, Debug, PartialEq, Eq)]

@@ -10,7 +10,6 @@ mod hints;
 mod holders;
 mod registers;
 mod scan;
-mod uses;
 mod walk;
 mod wish;
 mod written;

@@ -14,12 +14,12 @@ ghost use Rattle.register_alloc.specs.declared.registers.CallSite.{CallSite};
 use crate::hints::Hints;
 use crate::holders::Holders;
 use crate::scan::Scan;
-use crate::uses::Uses;
 use crate::wish::{GivenFirst, Wish, where_held};
 use low_code::{LowArm, LowBlock, LowEnd, LowProc, LowStmt, LowTest, Operand, PrimOp};
 use parallel_move::Spot;
 use seq::Seq;
 use std::alloc::{AllocError, Global};
+use variable_uses::Uses;
 
 /// A variable and its place.
 #[derive(Clone, Copy, Debug, PartialEq, Eq)]

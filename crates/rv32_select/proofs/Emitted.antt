@@ -1,6 +1,6 @@
 -- Items of statements, ends and arms that were put behind others.
-use Rattle.std.proofs.Common.{◌≡◌, ℕ, suc, ◌+◌, ◌*◌, ◌<◌, ◌≤◌, List, [], ◌∷◌, ◌++◌, map, length, refl, sym, ap, ◌∙◌, append_assoc, append-nil, arith, zero, drop, drop-cons, get_or, subst, Some}
-use Rattle.std.specs.Prelude.{slice_get, nat_eq, ◌||◌, false}
+use Rattle.std.proofs.Common.{◌≡◌, ◌≢◌, ℕ, suc, ◌+◌, ◌*◌, ◌<◌, ◌≤◌, List, [], ◌∷◌, ◌++◌, map, length, refl, sym, ap, ◌∙◌, append_assoc, append-nil, arith, zero, drop, drop-cons, get_or, subst, Some}
+use Rattle.std.specs.Prelude.{slice_get, nat_eq, ◌||◌, Bool, true, false, if◌then◌else◌}
 use Rattle.std.proofs.lemmas.List.{length-map}
 use Rattle.std.proofs.lemmas.Bool.Decides.{nat_tests}
 use Rattle.std.proofs.lemmas.Grind.{common_steps}
@@ -18,10 +18,11 @@ use Rattle.low_code.specs.declared.program.LowStmt.TheVariants.{Set, Prim, Load,
 use Rattle.low_code.specs.declared.program.LowEnd.{LowEnd}
 use Rattle.low_code.specs.declared.program.LowEnd.TheVariants.{Give, Tail, Choose, Fail}
 use Rattle.low_code.specs.declared.program.LowArm.{LowArm}
+use Rattle.low_code.specs.declared.program.LowTest.{LowTest}
 use Rattle.low_code.specs.declared.program.LowBlock.{LowBlock}
 use Rattle.low_code.specs.declared.program.LowProc.{LowProc}
 use Rattle.low_code.specs.declared.program.Low.{Low}
-use Rattle.low_code.specs.Tree.{Code, set, prim, load, save, take, put, get, call, join, Arms, Program, procedure_of, program_of, before_of, end_of, code_of, arm_of, all_before, arms_before}
+use Rattle.low_code.specs.Tree.{Code, set, prim, load, save, take, put, get, call, join, choose, Arms, Program, procedure_of, program_of, before_of, end_of, code_of, arm_of, all_before, arms_before}
 use Rattle.low_code.proofs.TreeOf.{before_of-Set, before_of-Prim, before_of-Load, before_of-Save, before_of-Take, before_of-Put, before_of-Get, before_of-Call, before_of-Join, end_of-Give, end_of-Tail, end_of-Choose, end_of-Fail, arm_of-parts, code_of-parts}
 use Rattle.register_alloc.specs.Assignment.{Assignment, place_of, saves_at}
 use Rattle.rv32_items.specs.declared.Item.{Item}
@@ -29,11 +30,11 @@ use Rattle.rv32_items.specs.declared.Item.TheVariants.{Label, Jump}
 use Rattle.rv32_select.specs.declared.source.Source.{Source}
 use Rattle.rv32_select.specs.declared.source.Way.{Way}
 use Rattle.rv32_select.specs.declared.source.Way.TheVariants.{Follows}
-use Rattle.rv32_select.specs.Emit.{plain, moves_code, number_moves, save_moves, restore_moves, result_spots, set_code, prim_code, load_code, save_code, take_items, put_code, get_code}
-use Rattle.rv32_select.specs.IsSelected.{source, sources, heap_end, heap_full, places, further, way_out, tests_items, no_alternative, argument_spots_of, result_spots_of, results_of, moves_between, Emits, EmitsArms}
+use Rattle.rv32_select.specs.Emit.{plain, moves_code, number_moves, save_moves, restore_moves, result_spots, set_code, prim_code, load_code, save_code, take_items, put_code, get_code, match_items}
+use Rattle.rv32_select.specs.IsSelected.{source, sources, heap_end, heap_full, places, further, way_out, tests_items, no_alternative, argument_spots_of, result_spots_of, results_of, moves_between, is_rare, waits, has_one, last_of, stands_last, Emits, EmitsArms, EmitsLast}
 use Rattle.rv32_select.specs.Ranges.{IsSource, AreSpots, AllInRange, is_spot_in, Different, AreTargets}
 use Rattle.rv32_select.specs.Writable.{Writable, HasPlace, HavePlaces, OperandPlaced, OperandsPlaced, TargetsPlaced, TestsPlaced, CallPlaced, Placed, ArmsPlaced, ArmPlaced, ProcedurePlaced}
-use Rattle.rv32_select.specs.Emitting.{Moved, Sent, Called, TailCalled, Emitted, EmittedArms, Before, ArmsBefore, one_arm}
+use Rattle.rv32_select.specs.Emitting.{Moved, Sent, Called, TailCalled, Emitted, EmittedArms, EmittedLast, Before, ArmsBefore, one_arm}
 use Rattle.rv32_select.proofs.Plain.{plain_append}
 use Rattle.rv32_select.proofs.Sending.{spots_in_range, procedure_at}
 
@@ -237,6 +238,69 @@ called_by l a saved f site as' xs registers old c1 c2 c3 c4 new e one sent jump 
 pub arm_placed : (l : Program) (a : Assignment) (t : LowArm) → ArmPlaced l a (arm_of t) → TestsPlaced l a t.tests × Placed l a (code_of t.block)
 arm_placed l a t h = subst (ArmPlaced l a) (arm_of-parts t) h
 
+-- a block's rarity, statement by statement
+pub rare_block : (b : LowBlock) (items : List LowStmt) → items ≡ b.stmts → is_rare (code_of b) ≡ is_rare (all_before (map before_of items) (end_of b.last))
+rare_block b items e = ap is_rare (code_of-parts b) ∙ ap (λ ss. is_rare (all_before (map before_of ss) (end_of b.last))) (sym e)
+
+pub rare_here : (items : List LowStmt) (i : ℕ) (s : LowStmt) (e : Code) (r : Bool) → i < length items → s ≡ get_or items i s → ((c : Code) → is_rare (before_of s c) ≡ (if r then true else is_rare c))
+    → is_rare (all_before (map before_of (drop i items)) e) ≡ (if r then true else is_rare (all_before (map before_of (drop (suc i) items)) e))
+rare_here items i s e r lt is h =
+    let front : drop i items ≡ s ∷ drop (suc i) items = drop-cons items i s lt ∙ ap (λ x. x ∷ drop (suc i) items) (sym is) in
+    ap (λ ss. is_rare (all_before (map before_of ss) e)) front ∙ h (all_before (map before_of (drop (suc i) items)) e)
+
+pub rare_call : (items : List LowStmt) (i : ℕ) (s : LowStmt) (e : Code) (r : Bool) → i < length items → s ≡ get_or items i s → ((c : Code) → is_rare (before_of s c) ≡ (if r then true else is_rare c)) → r ≡ true
+    → is_rare (all_before (map before_of (drop i items)) e) ≡ true
+rare_call items i s e r lt is h t =
+    rare_here items i s e r lt is h ∙ ap (λ x. if x then true else is_rare (all_before (map before_of (drop (suc i) items)) e)) t
+
+pub rare_on : (items : List LowStmt) (i : ℕ) (s : LowStmt) (e : Code) (r : Bool) → i < length items → s ≡ get_or items i s → ((c : Code) → is_rare (before_of s c) ≡ (if r then true else is_rare c)) → r ≡ false
+    → is_rare (all_before (map before_of (drop i items)) e) ≡ is_rare (all_before (map before_of (drop (i + 1) items)) e)
+rare_on items i s e r lt is h t =
+    let next : suc i ≡ i + 1 = omega arith in
+    rare_here items i s e r lt is h ∙ ap (λ x. if x then true else is_rare (all_before (map before_of (drop (suc i) items)) e)) t
+    ∙ ap (λ x. is_rare (all_before (map before_of (drop x items)) e)) next
+
+pub rare_end : (items : List LowStmt) (i : ℕ) (e : Code) → length items ≤ i → is_rare (all_before (map before_of (drop i items)) e) ≡ is_rare e
+rare_end items i e over = ap (λ ss. is_rare (all_before (map before_of ss) e)) (drop_past items i over)
+
+pub both_true : (p q : Bool) → (if p then q else false) ≡ true → p ≡ true
+both_true true q h = refl
+both_true false q h = absurd (cc)
+
+-- one test alone
+pub single : (tests xs : List LowTest) (d : LowTest) → xs ≡ tests → has_one tests ≡ true → tests ≡ get_or xs 0 d ∷ []
+single [] xs d e h = absurd (cc)
+single (x ∷ []) xs d e h = ap (λ ys. get_or ys 0 d ∷ []) (sym e)
+single (x ∷ (y ∷ ys)) xs d e h = absurd (cc)
+
+pub one_is : (tests : List LowTest) (n : ℕ) (w : Bool) → n ≡ length tests → n ≡ 1 → w ≡ (if has_one tests then w else false)
+one_is [] n w e h = absurd (omega (arith, e, h))
+one_is (x ∷ []) n w e h = refl
+one_is (x ∷ (y ∷ ys)) n w e h = absurd (omega (arith, e, h))
+
+pub one_not : (tests : List LowTest) (n : ℕ) (w : Bool) → n ≡ length tests → n ≢ 1 → false ≡ (if has_one tests then w else false)
+one_not [] n w e h = refl
+one_not (x ∷ []) n w e h = absurd (h e)
+one_not (x ∷ (y ∷ ys)) n w e h = refl
+
+-- the rule for arms, of the first of which has_one and waits are known
+last_is : (ts : List (List LowTest × Code)) (c : Code) → last_of (arms_before ts c) ≡ c
+last_is [] c = refl
+last_is (t ∷ ts) c = last_is ts c
+
+pub rule_is : (way : Way) (first : LowArm) (rest : List LowArm) (c : Code) → stands_last way (arms_before (map arm_of (first ∷ rest)) c) ≡ (if has_one first.tests then waits way (code_of first.block) c else false)
+rule_is way first rest c =
+    let parts : stands_last way (one_arm (arm_of first) (arms_before (map arm_of rest) c)) ≡ stands_last way (one_arm (first.tests, code_of first.block) (arms_before (map arm_of rest) c)) = ap (λ p. stands_last way (one_arm p (arms_before (map arm_of rest) c))) (arm_of-parts first) in
+    parts ∙ ap (λ d. if has_one first.tests then waits way (code_of first.block) d else false) (last_is (map arm_of rest) c)
+
+pub first_last_placed : (l : Program) (a : Assignment) (first : LowArm) (t : LowTest) (rest : List LowArm) (c : Code) → first.tests ≡ t ∷ [] → ArmsPlaced l a (arms_before (map arm_of (first ∷ rest)) c)
+    → OperandPlaced l a t.left × (ArmsPlaced l a (arms_before (map arm_of rest) c) × Placed l a (code_of first.block))
+first_last_placed l a first t rest c one h =
+    let p : ArmPlaced l a (arm_of first) = (h.0, h.1) in
+    let parts = arm_placed l a first p in
+    let tests : TestsPlaced l a (t ∷ []) = subst (TestsPlaced l a) one parts.0 in
+    (tests.0, (h.2, parts.1))
+
 pub arm_made : (l : Program) (a : Assignment) (cells stack words saved : ℕ) (to : List Spot) (way way' : Way) (t : LowArm) (old c1 mid new : List Item) (n label k m : ℕ) → label ≡ n → k ≡ suc n → way' ≡ further way → c1 ≡ old ++ tests_items l a label t.tests
     → Emitted l a cells stack words saved to way' (code_of t.block) c1 k mid m → new ≡ mid ++ Label label ∷ []
     → ArmsBefore l a cells stack words saved to way (one_arm (arm_of t)) old n new m
@@ -325,6 +389,14 @@ module _ (l : Program) (a : Assignment) (cells stack words saved : ℕ) where
         rw (append_assoc t.items b.items more) first;
   }
 
+  pub arm_added : (to : List Spot) (way : Way) (whole : Code → Arms) (items : List LowArm) (i : ℕ) (s : LowArm) (old mid new : List Item) (n k m : ℕ) → i < length items → s ≡ get_or items i s → TowardsArms to way whole (arms_before (map arm_of (drop i items))) old n mid k
+      → ArmsBefore l a cells stack words saved to way (one_arm (arm_of s)) mid k new m → TowardsArms to way whole (arms_before (map arm_of (drop (i + 1) items))) old n new m
+  arm_added to way whole items i s old mid new n k m lt is t b =
+      let front : drop i items ≡ s ∷ drop (suc i) items = drop-cons items i s lt ∙ ap (λ x. x ∷ drop (suc i) items) (sym is) in
+      let next : suc i ≡ i + 1 = omega arith in
+      subst (λ x. TowardsArms to way whole (arms_before (map arm_of (drop x items))) old n new m) next
+      (one_more_arm to way whole s (drop (suc i) items) old mid new n k m (subst (λ ss. TowardsArms to way whole (arms_before (map arm_of ss)) old n mid k) front t) b)
+
   pub arms_made : (to : List Spot) (way : Way) (whole : Code → Arms) (c : Code) (items : List LowArm) (i : ℕ) (old mid new : List Item) (n k m : ℕ) → length items ≤ i → TowardsArms to way whole (arms_before (map arm_of (drop i items))) old n mid k
       → Emitted l a cells stack words saved to way c mid k new m → EmittedArms l a cells stack words saved to way (whole c) old n new m
   arms_made to way whole c items i old mid new n k m over t e =
@@ -334,6 +406,22 @@ module _ (l : Program) (a : Assignment) (cells stack words saved : ℕ) where
         is = e.is ∙ ap (λ x. x ++ e.items) t.is ∙ append_assoc old t.items e.items;
         emits = t.emits c m e.items last;
       }
+
+  -- the first arm, behind the others
+  pub first_last_made : (to : List Spot) (way way' : Way) (first : LowArm) (t : LowTest) (rest : List LowArm) (c : Code) (old c1 c2 c3 new : List Item) (n label k i m : ℕ) → first.tests ≡ t ∷ [] → label ≡ n → k ≡ suc n → way' ≡ further way
+      → c1 ≡ old ++ match_items label (source l a t.left) t.right → EmittedArms l a cells stack words saved to way' (arms_before (map arm_of rest) c) c1 k c2 i → c3 ≡ c2 ++ Label label ∷ []
+      → Emitted l a cells stack words saved to way (code_of first.block) c3 i new m → EmittedLast l a cells stack words saved to way (arms_before (map arm_of (first ∷ rest)) c) old n new m
+  first_last_made to way way' first t rest c old c1 c2 c3 new n label k i m one is next w matched others labelled e =
+      let arms' : EmitsArms l a cells stack words saved to (further way) (arms_before (map arm_of rest) c) (suc n) i others.items = rw (sym w, sym next) others.emits in
+      let test = match_items n (source l a t.left) t.right in
+      let all : new ≡ (((old ++ test) ++ others.items) ++ Label n ∷ []) ++ e.items =
+      e.is ∙ ap (λ x. x ++ e.items) (labelled ∙ (λ i. c2 ++ Label (is i) ∷ []) ∙ ap (λ x. x ++ Label n ∷ []) (others.is ∙ ap (λ x. x ++ others.items) (matched ∙ ap (λ x. old ++ match_items x (source l a t.left) t.right) is))) in
+      let shape : (((old ++ test) ++ others.items) ++ Label n ∷ []) ++ e.items ≡ old ++ ((test ++ (others.items ++ Label n ∷ [])) ++ e.items) = grind (arith, common_steps) in
+      subst (λ p. EmittedLast l a cells stack words saved to way (one_arm p (arms_before (map arm_of rest) c)) old n new m) (sym (arm_of-parts first)) (record {
+        items = (test ++ (others.items ++ Label n ∷ [])) ++ e.items;
+        is = all ∙ shape;
+        emits = (t, one, i, others.items, arms', (e.items, refl, e.emits));
+      })
 
   pub arm_at_placed : (to : List Spot) (way : Way) (items : List LowArm) (i : ℕ) (c : Code) (old new : List Item) (n m : ℕ) (s : LowArm) → i < length items → s ≡ get_or items i s → TowardsArms to way (arms_before (map arm_of items)) (arms_before (map arm_of (drop i items))) old n new m
       → ArmsPlaced l a (arms_before (map arm_of items) c) → ArmPlaced l a (arm_of s)
@@ -346,6 +434,34 @@ module _ (l : Program) (a : Assignment) (cells stack words saved : ℕ) where
       → ArmsPlaced l a (arms_before (map arm_of items) c) → Placed l a c
   otherwise_placed to way items i c old new n m over t h =
       subst (λ ss. ArmsPlaced l a (arms_before (map arm_of ss) c)) (drop_past items i over) (t.placed c h)
+
+  -- a choice, by where its first arm stands
+  pub last_made : (to : List Spot) (way : Way) (as' : Arms) (old new : List Item) (n m : ℕ) → stands_last way as' ≡ true → EmittedLast l a cells stack words saved to way as' old n new m → Emitted l a cells stack words saved to way (choose as') old n new m
+  last_made to way as' old new n m e t = record {
+    items = t.items;
+    is = t.is;
+    emits = subst (λ r. elim r as (λ x. Type 0) [ true ↦ EmitsLast l a cells stack words saved to way as' n m t.items | false ↦ EmitsArms l a cells stack words saved to way as' n m t.items ]) (sym e) t.emits;
+  }
+
+  pub in_order_made : (to : List Spot) (way : Way) (as' : Arms) (old new : List Item) (n m : ℕ) → stands_last way as' ≡ false → EmittedArms l a cells stack words saved to way as' old n new m → Emitted l a cells stack words saved to way (choose as') old n new m
+  in_order_made to way as' old new n m e t = record {
+    items = t.items;
+    is = t.is;
+    emits = subst (λ r. elim r as (λ x. Type 0) [ true ↦ EmitsLast l a cells stack words saved to way as' n m t.items | false ↦ EmitsArms l a cells stack words saved to way as' n m t.items ]) (sym e) t.emits;
+  }
+
+  -- arms of which the first and the others are known, by the rule
+  pub last_chosen : (to : List Spot) (way : Way) (arms rest : List LowArm) (first : LowArm) (c : Code) (r : Bool) (old new : List Item) (n m : ℕ) → arms ≡ first ∷ rest → r ≡ (if has_one first.tests then waits way (code_of first.block) c else false) → r ≡ true
+      → EmittedLast l a cells stack words saved to way (arms_before (map arm_of (first ∷ rest)) c) old n new m → Emitted l a cells stack words saved to way (choose (arms_before (map arm_of arms) c)) old n new m
+  last_chosen to way arms rest first c r old new n m all e t h =
+      subst (λ ts. Emitted l a cells stack words saved to way (choose (arms_before (map arm_of ts) c)) old n new m) (sym all)
+      (last_made to way (arms_before (map arm_of (first ∷ rest)) c) old new n m (rule_is way first rest c ∙ sym e ∙ t) h)
+
+  pub order_chosen : (to : List Spot) (way : Way) (arms rest : List LowArm) (first : LowArm) (c : Code) (r : Bool) (old new : List Item) (n m : ℕ) → arms ≡ first ∷ rest → r ≡ (if has_one first.tests then waits way (code_of first.block) c else false) → r ≡ false
+      → EmittedArms l a cells stack words saved to way (arms_before (map arm_of arms) c) old n new m → Emitted l a cells stack words saved to way (choose (arms_before (map arm_of arms) c)) old n new m
+  order_chosen to way arms rest first c r old new n m all e t h =
+      let rule = ap (λ ts. stands_last way (arms_before (map arm_of ts) c)) all ∙ rule_is way first rest c ∙ sym e ∙ t in
+      in_order_made to way (arms_before (map arm_of arms) c) old new n m rule h
 
   -- ---- ends
 
@@ -370,9 +486,9 @@ module _ (l : Program) (a : Assignment) (cells stack words saved : ℕ) where
   pub choose_placed : (e : LowEnd) (arms : List LowArm) (b : Box LowBlock Global) → e ≡ Choose arms b → Placed l a (end_of e) → ArmsPlaced l a (arms_before (map arm_of arms) (code_of b.value))
   choose_placed e arms b is h = subst (Placed l a) (ap end_of is ∙ end_of-Choose arms b) h
 
-  pub choose_made : (e : LowEnd) (arms : List LowArm) (b : Box LowBlock Global) (to : List Spot) (way : Way) (old new : List Item) (n m : ℕ) → e ≡ Choose arms b → EmittedArms l a cells stack words saved to way (arms_before (map arm_of arms) (code_of b.value)) old n new m
+  pub choose_made : (e : LowEnd) (arms : List LowArm) (b : Box LowBlock Global) (to : List Spot) (way : Way) (old new : List Item) (n m : ℕ) → e ≡ Choose arms b → Emitted l a cells stack words saved to way (choose (arms_before (map arm_of arms) (code_of b.value))) old n new m
       → Emitted l a cells stack words saved to way (end_of e) old n new m
-  choose_made e arms b to way old new n m is t = rw (ap end_of is ∙ end_of-Choose arms b) (record { items = t.items; is = t.is; emits = t.emits })
+  choose_made e arms b to way old new n m is t = rw (ap end_of is ∙ end_of-Choose arms b) t
 
   pub fail_made : (e : LowEnd) (to : List Spot) (way : Way) (old new : List Item) (n : ℕ) → e ≡ Fail → new ≡ old ++ Jump 0 (no_alternative l) ∷ [] → Emitted l a cells stack words saved to way (end_of e) old n new n
   fail_made e to way old new n is put' = rw (ap end_of is ∙ end_of-Fail) (record { items = Jump 0 (no_alternative l) ∷ []; is = put'; emits = (refl, refl) })

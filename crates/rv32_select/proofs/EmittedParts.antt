@@ -12,16 +12,17 @@ use Rattle.low_code.specs.Tree.{Code, set, prim, load, save, take, put, get, cal
 use Rattle.low_code.specs.Formed.{calls_in, arms_calls}
 use Rattle.low_code.specs.Size.{code_size, arms_size, FewTests, ArmsFewTests}
 use Rattle.register_alloc.specs.Assignment.{Assignment, place_of, saves_at}
+use Rattle.rv32_items.specs.declared.Cond.TheVariants.{Eq, Ne}
 use Rattle.rv32_items.specs.declared.Item.{Item}
 use Rattle.rv32_items.specs.declared.Item.TheVariants.{Label, Plain, Jump}
 use Rattle.rv32_select.specs.declared.source.Way.{Way}
 use Rattle.rv32_select.specs.declared.source.Way.TheVariants.{Returns, Follows, Jumps}
-use Rattle.rv32_select.specs.Emit.{plain, moves_code, spot_moves, number_moves, take_items, leave_code, save_moves, restore_moves, test_items}
-use Rattle.rv32_select.specs.IsSelected.{IsOrder, moves_between, heap_end, heap_full, step, no_alternative, source, sources, places, argument_spots_of, result_spots_of, further, way_out, tests_items, call_items, Emits, EmitsArms}
+use Rattle.rv32_select.specs.Emit.{plain, moves_code, spot_moves, number_moves, take_items, leave_code, save_moves, restore_moves, test_items, match_items}
+use Rattle.rv32_select.specs.IsSelected.{IsOrder, moves_between, heap_end, heap_full, step, no_alternative, source, sources, places, argument_spots_of, result_spots_of, further, way_out, tests_items, call_items, stands_last, Emits, EmitsArms, EmitsLast}
 use Rattle.rv32_select.specs.Writable.{Placed, ArmsPlaced}
 use Rattle.rv32_select.proofs.StaticPieces.{Piece, piece_append, piece_more, set_piece, prim_piece, load_word_piece, save_word_piece, put_piece, get_piece, leave_piece, save_piece, restore_piece}
-use Rattle.rv32_select.proofs.EmittedLabels.{emits_up}
-use Rattle.rv32_select.proofs.Parts.{sent_code, between_code, Part, inside_part, code_part, part_append, part_more, part_then, part_under, jump_part, take_part, test_part, closed_part, tested_part}
+use Rattle.rv32_select.proofs.EmittedLabels.{whichever, emits_up, arms_up}
+use Rattle.rv32_select.proofs.Parts.{sent_code, between_code, Part, inside_part, code_part, part_append, part_more, part_then, part_under, jump_part, take_part, compare_part, closed_part, tested_part}
 
 -- the label behind a block
 abbrev pub IsWay : Way → ℕ → Type 0
@@ -122,7 +123,7 @@ module _ (l : Program) (a : Assignment) (cells stack : ℕ) where
     tests_part Few n next (t ∷ ts) =
         part_more procs (λ k. next ≡ k) Few n n (8 + 8 * length ts) (8 * length (t ∷ ts)) _ (omega arith)
         (part_append procs (λ k. next ≡ k) Few n n n 8 (8 * length ts) (test_items next (source l a t.left) t.right) (tests_items l a next ts)
-        (test_part procs (λ k. next ≡ k) Few n next (source l a t.left) t.right refl)
+        (compare_part procs (λ k. next ≡ k) Few Ne n next (source l a t.left) t.right refl)
         (tests_part Few n next ts))
 
     -- a statement's code, and the block behind it
@@ -168,6 +169,21 @@ module _ (l : Program) (a : Assignment) (cells stack : ℕ) where
         (part_under procs (Outer way) (FewTests c) Few n k (most c) (block ++ Label n ∷ []) (λ f. f.1) closed))
         (part_under procs (Outer way) (ArmsFewTests as') Few k m (arms_most as') rest (λ f. f.2) q)
 
+    -- arms before which a test leaves for a block behind them
+    turned : (way : Way) (t : LowTest) (c : Code) (as' : Arms) (n k m : ℕ) (others rest items : List Item) → 3 + procs ≤ n → ArmsBlock (further way) as' (suc n) k others → Block way c k m rest
+        → items ≡ (match_items n (source l a t.left) t.right ++ (others ++ Label n ∷ [])) ++ rest → ArmsBlock way (arm (t ∷ []) c as') n m items
+    turned way t c as' n k m others rest items le p q e =
+        let Few = ArmsFewTests (arm (t ∷ []) c as') in
+        let le' : procs ≤ n = omega (arith, le) in
+        let test = match_items n (source l a t.left) t.right in
+        let both = length-append (calls_in c) (arms_calls as') in
+        let closed = closed_part procs (Outer way) (ArmsFewTests as') (Outer (further way)) n k (arms_most as') others le' (λ j h. inr (same_way way j h)) p in
+        let one = compare_part procs (λ j. n ≡ j) Few Eq n n (source l a t.left) t.right refl in
+        part_then procs (Outer way) Few n k m (8 + arms_most as') (most c) (arms_most (arm (t ∷ []) c as')) (test ++ (others ++ Label n ∷ [])) rest items e (omega (arith, both))
+        (tested_part procs (Outer way) Few n k 8 (arms_most as') test others le' one (inside_part procs (suc n) k others (omega (arith, le)) p.counts)
+        (part_under procs (Outer way) (ArmsFewTests as') Few n k (arms_most as') (others ++ Label n ∷ []) (λ f. f.2) closed))
+        (part_under procs (Outer way) (FewTests c) Few k m (most c) rest (λ f. f.1) q)
+
     mutual
       pub block_part : (c : Code) (to : List Spot) (way : Way) (n m : ℕ) (items : List Item) → 3 + procs ≤ n → Placed l a c → Emits l a cells stack words saved to way c n m items → Block way c n m items
       block_part (set x b c) to way n m items le p h =
@@ -204,7 +220,9 @@ module _ (l : Program) (a : Assignment) (cells stack : ℕ) where
           let e = h.0 in
           ended way n m (6 * length os + 7) (most (tail f site os)) (FewTests (tail f site os)) _ items e h.3 (omega arith) (tail_part way (FewTests (tail f site os)) f os h.1 n p.0 h.2)
       block_part (choose as') to way n m items le p h =
-          part_more procs (Outer way) (ArmsFewTests as') n m (arms_most as') (most (choose as')) items (omega arith) (arms_part as' to way n m items le p h)
+          let part : ArmsBlock way as' n m items = whichever (EmitsLast l a cells stack words saved to way as' n m items) (EmitsArms l a cells stack words saved to way as' n m items) (stands_last way as')
+          (λ z. last_part as' to way n m items le p z) (λ z. arms_part as' to way n m items le p z) h in
+          part_more procs (Outer way) (ArmsFewTests as') n m (arms_most as') (most (choose as')) items (omega arith) part
       block_part fail to way n m items le p h =
           ended way n m 3 (most fail) (FewTests fail) _ items h.0 h.1 (omega arith) (jump_part procs (Outer way) (FewTests fail) n 0 (no_alternative l) (inl (omega arith)) (λ e. absurd (cc)))
 
@@ -215,3 +233,11 @@ module _ (l : Program) (a : Assignment) (cells stack : ℕ) where
           let first = block_part c to (further way) (suc n) h.0 h.1 (omega (arith, le)) p.1 h.2 in
           let rest = arms_part as' to way h.0 m h.3.0 (omega (arith, le, up)) p.2 h.3.2 in
           chosen way ts c as' n h.0 m h.1 h.3.0 items le first rest h.3.1
+
+      pub last_part : (as' : Arms) (to : List Spot) (way : Way) (n m : ℕ) (items : List Item) → 3 + procs ≤ n → ArmsPlaced l a as' → EmitsLast l a cells stack words saved to way as' n m items → ArmsBlock way as' n m items
+      last_part (otherwise c) to way n m items le p h = absurd h
+      last_part (arm ts c as') to way n m items le p h =
+          let up = arms_up l a cells stack words saved as' to (further way) (suc n) h.2 h.3 h.4 in
+          let first = arms_part as' to (further way) (suc n) h.2 h.3 (omega (arith, le)) p.2 h.4 in
+          let rest = block_part c to way h.2 m h.5.0 (omega (arith, le, up)) p.1 h.5.2 in
+          subst (λ x. ArmsBlock way (arm x c as') n m items) (sym h.1) (turned way h.0 c as' n h.2 m h.3 h.5.0 items le first rest h.5.1)

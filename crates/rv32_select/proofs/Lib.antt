@@ -16,6 +16,7 @@ pub mod OneBound
 pub mod WordStatements
 pub mod TakenCells
 pub mod Stops
+pub mod RoomTaken
 pub mod TakeStatement
 pub mod BlockEnds
 pub mod GiveStatement

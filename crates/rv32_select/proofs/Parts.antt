@@ -1,6 +1,6 @@
 -- Parts of the items: the labels that stand there, where the items go, and how many words they take.
-use Rattle.std.proofs.Common.{◌≡◌, ℕ, suc, ◌+◌, ◌*◌, ◌<◌, ◌≤◌, true, List, [], ◌∷◌, ◌++◌, length, ◌⊎◌, inl, inr, sym, subst, arith}
-use Rattle.std.specs.Prelude.{nat_eq, pos}
+use Rattle.std.proofs.Common.{◌≡◌, ℕ, suc, ◌+◌, ◌*◌, ◌<◌, ◌≤◌, Bool, true, false, List, [], ◌∷◌, ◌++◌, length, ◌⊎◌, inl, inr, sym, subst, arith}
+use Rattle.std.specs.Prelude.{nat_eq, pos, if◌then◌else◌}
 use Rattle.std.proofs.lemmas.Bool.Decides.{nat_tests}
 use Rattle.rv32_isa.specs.declared.instr.Instr.{Instr}
 use Rattle.rv32_isa.specs.declared.instr.Instr.TheVariants.{OpImm}
@@ -8,15 +8,15 @@ use Rattle.rv32_isa.specs.declared.instr.ImmKind.TheVariants.{Addi}
 use Rattle.parallel_move.specs.declared.Spot.{Spot}
 use Rattle.parallel_move.specs.declared.Move.{Move}
 use Rattle.rv32_items.specs.declared.Cond.{Cond}
-use Rattle.rv32_items.specs.declared.Cond.TheVariants.{Ltu, Ne}
+use Rattle.rv32_items.specs.declared.Cond.TheVariants.{Ltu}
 use Rattle.rv32_items.specs.declared.Item.{Item}
 use Rattle.rv32_items.specs.declared.Item.TheVariants.{Label, Branch, Jump}
 use Rattle.rv32_items.specs.Placed.{size_of, times}
 use Rattle.rv32_select.specs.declared.source.Source.{Source}
 use Rattle.rv32_select.specs.declared.source.Source.TheVariants.{Number}
-use Rattle.rv32_select.specs.Emit.{plain, hold, held, add_to, moves_code, spot_moves, number_moves, cells_code, room_items, take_items, test_items}
+use Rattle.rv32_select.specs.Emit.{plain, hold, held, add_to, moves_code, spot_moves, number_moves, cells_code, is_offset, room_items, cells_below, near_cells, far_cells, take_items, compare_items}
 use Rattle.rv32_select.specs.IsSelected.{IsOrder, moves_between}
-use Rattle.rv32_select.proofs.StaticPieces.{Piece, piece_append, piece_more, piece_one, hold_piece, held_number_piece, add_piece, moves_piece, sent_piece, cells_piece}
+use Rattle.rv32_select.proofs.StaticPieces.{Piece, piece_append, piece_more, piece_one, hold_piece, held_number_piece, add_piece, moves_piece, sent_piece, cells_piece, below_piece}
 use Rattle.rv32_select.proofs.Flowing.{Inside, Ahead, Goes, ahead_behind, goes_both, goes_then, goes_plain, inside_of, times_plain, below_more, Counts, counts_append, size_plain}
 use Rattle.rv32_items.proofs.Counted.{size_append, times_append}
 
@@ -98,18 +98,32 @@ module _ (procs : ℕ) where
     room_part n bytes full far =
         part_append n n n 3 3 (plain (add_to 5 3 bytes)) _ (code_part n 3 _ (add_piece 5 3 bytes)) (branch_part n Ltu 4 5 full far)
 
-    pub take_part : (n step full : ℕ) (ss : List Spot) → Far full → Part Far n n (7 + 6 * length ss) Few (take_items step full ss)
-    take_part n step full ss far =
+    far_part : (n step full : ℕ) (ss : List Spot) → Far full → Part Far n n (7 + 6 * length ss) Few (far_cells step full ss)
+    far_part n step full ss far =
         let last = OpImm Addi 3 5 (pos 0) in
         part_more n n (6 + (6 * length ss + 1)) (7 + 6 * length ss) _ (omega arith)
         (part_append n n n 6 (6 * length ss + 1) (room_items (step * length ss) full) (plain (cells_code step 0 ss ++ last ∷ [])) (room_part n (step * length ss) full far)
         (code_part n (6 * length ss + 1) (cells_code step 0 ss ++ last ∷ []) (piece_append (6 * length ss) 1 (cells_code step 0 ss) (last ∷ []) (cells_piece step 0 ss) (piece_one last tt))))
 
-    pub test_part : (n next : ℕ) (word : Source) (k : ℕ) → Far next → Part Far n n 8 Few (test_items next word k)
-    test_part n next word k far =
+    near_part : (n step full : ℕ) (ss : List Spot) → Far full → Part Far n n (7 + 6 * length ss) Few (near_cells step full ss)
+    near_part n step full ss far =
+        let up = OpImm Addi 3 3 (pos (step * length ss)) in
+        part_more n n (1 + (3 + 4 * length ss)) (7 + 6 * length ss) _ (omega arith)
+        (part_append n n n 1 (3 + 4 * length ss) (plain (up ∷ [])) (Branch Ltu 4 3 full ∷ plain (cells_below step ss)) (code_part n 1 (up ∷ []) (piece_one up tt))
+        (part_append n n n 3 (4 * length ss) (Branch Ltu 4 3 full ∷ []) (plain (cells_below step ss)) (branch_part n Ltu 4 3 full far) (code_part n (4 * length ss) (cells_below step ss) (below_piece step ss))))
+
+    pub take_part : (n step full : ℕ) (ss : List Spot) → Far full → Part Far n n (7 + 6 * length ss) Few (take_items step full ss)
+    take_part n step full ss far = by_size (is_offset (step * length ss))
+      where
+        by_size : (t : Bool) → Part Far n n (7 + 6 * length ss) Few (if t then near_cells step full ss else far_cells step full ss)
+        by_size true = near_part n step full ss far
+        by_size false = far_part n step full ss far
+
+    pub compare_part : (c : Cond) (n next : ℕ) (word : Source) (k : ℕ) → Far next → Part Far n n 8 Few (compare_items c next word k)
+    compare_part c n next word k far =
         part_append n n n 5 3 (plain (hold 5 word ++ hold 6 (Number k))) _
         (code_part n 5 _ (piece_append 3 2 (hold 5 word) _ (hold_piece 5 word) (held_number_piece 6 k)))
-        (branch_part n Ne (held 5 word) (held 6 (Number k)) next far)
+        (branch_part n c (held 5 word) (held 6 (Number k)) next far)
 
     -- a block whose far labels are far from here, or the one behind it
     pub closed_part : (Near : ℕ → Type 0) (n k a : ℕ) (block : List Item) → procs ≤ n → ((l : ℕ) → Near l → (n ≡ l) ⊎ Far l)

@@ -3,17 +3,18 @@ use Rattle.std.proofs.Common.{◌≡◌, ℕ, zero, suc, ◌+◌, ◌*◌, List,
 use Rattle.std.specs.Prelude.{Option}
 use Rattle.parallel_move.specs.declared.Spot.{Spot}
 use Rattle.low_code.specs.Tree.{Code, set, prim, load, save, take, put, get, call, join, give, tail, choose, fail, Arms, otherwise, arm, Procedure, Program}
-use Rattle.low_code.specs.Formed.{uses}
+use Rattle.low_code.specs.Formed.{uses, variables}
 use Rattle.low_code.specs.Values.{Word, Env, World, with_var}
 use Rattle.low_code.specs.Run.{Calls, calls}
 use Rattle.register_alloc.specs.Assignment.{Assignment, place_of, words_at}
+use Rattle.register_alloc.specs.Fits.{slots_of}
 use Rattle.rv32_items.specs.declared.Item.{Item}
 use Rattle.rv32_items.specs.declared.Item.TheVariants.{Label}
 use Rattle.rv32_items.specs.Course.{Layout, address_from}
 use Rattle.rv32_select.specs.declared.source.Way.{Way}
 use Rattle.rv32_select.specs.declared.source.Way.TheVariants.{Returns, Follows}
-use Rattle.rv32_select.specs.Emit.{result_spots}
-use Rattle.rv32_select.specs.IsSelected.{further, tests_items}
+use Rattle.rv32_select.specs.Emit.{result_spots, match_items}
+use Rattle.rv32_select.specs.IsSelected.{further, source, tests_items, stands_last, EmitsArms, EmitsLast}
 use Rattle.rv32_select.proofs.Straight.{Data, at}
 use Rattle.rv32_select.proofs.Relation.{bases, Back, Needed}
 use Rattle.rv32_select.proofs.PlaceFacts.{ProcedureFine, Setting}
@@ -27,7 +28,8 @@ use Rattle.rv32_select.proofs.GiveStatement.{give_simulated}
 use Rattle.rv32_select.proofs.TailStatement.{tail_simulated}
 use Rattle.rv32_select.proofs.CallStatement.{call_statement}
 use Rattle.rv32_select.proofs.JoinStatement.{inner, join_simulated}
-use Rattle.rv32_select.proofs.ChoiceStatement.{ArmsBlock, ArmsSimulates, arm_simulated, choice, last_arm}
+use Rattle.rv32_select.proofs.ChoiceStatement.{ArmsBlock, ArmsSimulates, arm_simulated, turned_arm, arms_block, choice, last_arm}
+use Rattle.rv32_select.proofs.EmittedLabels.{whichever}
 use Rattle.rv32_select.proofs.ProcedureEntry.{NoMust}
 use Rattle.rv32_select.proofs.ProcedureCall.{waits_here, call_simulated}
 
@@ -71,7 +73,12 @@ module _ (l : Program) (a : Assignment) (cells stack : ℕ) (lay : Layout) (item
         tail_simulated l a cells stack lay items begins s calls_n n called f q pf j m outer d0 u found total g site os to way Must k k' block p scope later env top under d w b
     simulate (choose as') to way Must k k' block p scope later env top under d w b =
         choice l a cells stack lay items begins s calls_n n f q pf j m outer d0 u as' to way Must k k' block p scope later env top under d w
-        (simulate_arms as' to way Must k k' block p scope later env top under d w b)
+        (whichever (EmitsLast l a cells stack (words_at a f) (slots_of (place_of a) (variables q)) to way as' k k' block) (EmitsArms l a cells stack (words_at a f) (slots_of (place_of a) (variables q)) to way as' k k' block) (stands_last way as')
+        (λ h. simulate_last as' to way Must k k' block p scope later env top under d w b h)
+        (λ h.
+        simulate_arms as' to way Must k k' block p scope later env top under d w
+        (arms_block l a cells stack lay items begins s calls_n n f q pf j m outer d0 u as' to way Must k k' block p scope later env top under d w b h))
+        b.emits)
     simulate fail to way Must k k' block p scope later env top under d w b =
         fail_simulated l a cells stack lay items begins s calls_n n f q pf j m outer d0 u to way Must k k' block p scope later env top under d w b
 
@@ -82,9 +89,21 @@ module _ (l : Program) (a : Assignment) (cells stack : ℕ) (lay : Layout) (item
         last_arm l a cells stack lay items begins s calls_n n f q pf j m outer d0 u c to way Must k k' block p scope later env top under d w
         (simulate c to way Must k k' block p scope later env top under d w b)
     simulate_arms (arm ts c as') to way Must k k' block p scope later env top under d w b =
-        arm_simulated l a cells stack lay items begins s calls_n n f q pf j m outer d0 u ts c as' to way Must k k' block p scope later env top under d w b
-        (λ d' b'. simulate c to (further way) Must (suc k) b.emits.0 b.emits.1 (p + length (tests_items l a k ts)) scope later env top under d' w b')
-        (λ d' b'. simulate_arms as' to way Must b.emits.0 k' b.emits.3.0 (p + length (tests_items l a k ts ++ (b.emits.1 ++ Label k ∷ []))) scope later env top under d' w b')
+        let h = b.emits in
+        arm_simulated l a cells stack lay items begins s calls_n n f q pf j m outer d0 u ts c as' to way Must k k' block p scope later env top under d w b h
+        (λ d' b'. simulate c to (further way) Must (suc k) h.0 h.1 (p + length (tests_items l a k ts)) scope later env top under d' w b')
+        (λ d' b'. simulate_arms as' to way Must h.0 k' h.3.0 (p + length (tests_items l a k ts ++ (h.1 ++ Label k ∷ []))) scope later env top under d' w b')
+
+    pub simulate_last : (as' : Arms) (to : List Spot) (way : Way) (Must : ℕ → Word → Type 0) (k k' : ℕ) (block : List Item) (p : ℕ) (scope later : List ℕ) (env : Env) (top : ℕ) (under : Option ℕ) (d : Data) (w : World)
+        → Block l a cells stack lay items begins f q pf.slots j m outer d0 u n (choose as') to way Must k k' block p scope later env top under d w
+        → EmitsLast l a cells stack (words_at a f) (slots_of (place_of a) (variables q)) to way as' k k' block
+        → ArmsSimulates l a cells stack lay items begins s calls_n n f q pf j m outer d0 u as' to way Must p env top under d w
+    simulate_last (otherwise c) to way Must k k' block p scope later env top under d w b h = absurd h
+    simulate_last (arm ts c as') to way Must k k' block p scope later env top under d w b h =
+        let test = match_items k (source l a h.0.left) h.0.right in
+        turned_arm l a cells stack lay items begins s calls_n n f q pf j m outer d0 u ts h.0 c as' to way Must k k' block p scope later env top under d w h.1 b (h.2, h.3, h.4, h.5)
+        (λ d' b'. simulate c to way Must h.2 k' h.5.0 (p + length (test ++ (h.3 ++ Label k ∷ []))) scope later env top under d' w b')
+        (λ d' b'. simulate_arms as' to (further way) Must (suc k) h.2 h.3 (p + length test) scope later env top under d' w b')
 
 module _ (l : Program) (a : Assignment) (cells stack : ℕ) (lay : Layout) (items : List Item) (begins : List ℕ) (s : Setting l a cells stack lay items begins) where
   -- calls with so many units

@@ -11,7 +11,7 @@ use Rattle.parallel_move.specs.declared.Move.{Move}
 use Rattle.parallel_move.specs.Moves.{counted, ends}
 use Rattle.rv32_select.specs.declared.source.Source.{Source}
 use Rattle.rv32_select.specs.declared.source.Source.TheVariants.{At, Number}
-use Rattle.rv32_select.specs.Emit.{is_short, number_to, add_to, copy, reach, load_slot, store_slot, move_to, moves_code, keep, held, hold, number_into, spot_moves, number_moves, set_code, operation, is_immediate, immediate, operands_held, operate_on, is_free, operate_in_order, target, prim_code, load_code, save_code, is_offset, go_on, next_offset, cells_code, aside, back, call_code, put_code, byte_given, get_code, parameters_code, leave_code, save_moves, restore_moves, globals_code}
+use Rattle.rv32_select.specs.Emit.{is_short, number_to, add_to, copy, reach, load_slot, store_slot, move_to, moves_code, keep, held, hold, number_into, spot_moves, number_moves, set_code, operation, is_immediate, immediate, operands_held, operate_on, is_free, operate_in_order, target, prim_code, load_code, save_code, is_offset, go_on, next_offset, cells_code, cells_below, aside, back, call_code, put_code, byte_given, get_code, parameters_code, leave_code, save_moves, restore_moves, globals_code}
 
 -- neither a branch nor a jump, nor AUIPC
 abbrev pub IsStraight : Instr → Type 0
@@ -198,6 +198,13 @@ cells_piece step off (s ∷ ss) =
     (piece_cons (3 + (2 + 6 * length ss)) _ _ tt
     (piece_append 3 (2 + 6 * length ss) (keep 6 s) _ (keep_piece 6 s)
     (piece_append 2 (6 * length ss) (go_on step off) _ (go_on_piece step off) rest)))
+
+pub below_piece : (step : ℕ) (ss : List Spot) → Piece (4 * length ss) (cells_below step ss)
+below_piece step [] = piece_nil 0
+below_piece step (s ∷ ss) =
+    piece_more (suc (3 + 4 * length ss)) (4 * length (s ∷ ss)) _ (omega arith)
+    (piece_cons (3 + 4 * length ss) _ _ tt
+    (piece_append 3 (4 * length ss) (keep 6 s) _ (keep_piece 6 s) (below_piece step ss)))
 
 aside_piece : Piece 4 aside
 aside_piece = record { straight = (tt, (tt, (tt, (tt, tt)))); few = omega arith }

@@ -18,7 +18,7 @@ use Rattle.low_code.specs.Tree.{Program}
 use Rattle.low_code.specs.Values.{World}
 use Rattle.register_alloc.specs.Assignment.{Assignment}
 use Rattle.rv32_items.specs.Placed.{Rises}
-use Rattle.rv32_select.specs.Emit.{plain, add_to, room_items, exit_with}
+use Rattle.rv32_select.specs.Emit.{plain, add_to, room_items, raise_items, exit_with}
 use Rattle.rv32_select.proofs.Courses.{Stands, front, back, Goes, Exits, one_ended}
 use Rattle.rv32_select.proofs.Straight.{Data, with_reg, Good, does_on, does_imm, at}
 use Rattle.rv32_select.proofs.JumpStretches.{with_regs, passes, branches, goes_on}
@@ -160,4 +160,32 @@ module _ (l : Program) (a : Assignment) (cells stack : ℕ) (lay : Layout) (item
             let step = branches (bases stack) lay items n stop.place (1 + length l.procs) 4 5 Ltu to w.input calls s2.0 stop.found off in
             let ran' = ran_on lay items begins ran (quiet lay items begins w w step refl refl refl refl refl) in
             ends_on lay items begins ran' (stop.ends (with_regs to (lay.far n to.regs)) calls w (good_far items lay (bases stack) s.rises n to add.does.good));
+      }
+
+  -- x3 goes on by so many bytes
+  pub record Raised (bytes start : ℕ) (d : Data) (calls : List ℕ) (w : World) : Type 0 where
+    pub good : Good lay.code (bases stack) (with_reg d 3 (d.regs 3 + bytes))
+    pub enough : d.regs 3 + bytes ≤ d.regs 4 → Ran lay items begins (at (bases stack) lay items start d) calls w (at (bases stack) lay items (suc (suc start)) (with_reg d 3 (d.regs 3 + bytes))) calls w
+    pub full : d.regs 4 < d.regs 3 + bytes → Ends lay items begins (at (bases stack) lay items start d) calls w w 4
+
+  pub raised : (bytes start : ℕ) (d : Data) (calls : List ℕ) (w : World) → Stands items start (raise_items bytes (1 + length l.procs)) → Good lay.code (bases stack) d → d.regs 3 + bytes < 2 ^ 32 → Raised bytes start d calls w
+  raised bytes start d calls w stands g small =
+      let total : plus (d.regs 3) bytes ≡ d.regs 3 + bytes = omega arith in
+      let to = with_reg d 3 (d.regs 3 + bytes) in
+      let does = does_imm lay.code (bases stack) Addi 3 3 (pos bytes) (d.regs 3 + bytes) d g total small in
+      let one : start + 1 ≡ suc start = omega arith in
+      let first = plain_ran l a cells stack lay items begins (OpImm Addi 3 3 (pos bytes) ∷ []) start d to calls w g does (stands.0, tt) in
+      let ran = subst (λ x. Ran lay items begins (at (bases stack) lay items start d) calls w (at (bases stack) lay items x to) calls w) one first in
+      record {
+        good = does.good;
+        enough = λ le.
+            let on : nat_lt (d.regs 4) (d.regs 3 + bytes) ≡ false = grind (arith, nat_tests) in
+            let step = goes_on (bases stack) lay items (suc start) (1 + length l.procs) 4 3 Ltu to w.input calls stands.1.0 on in
+            ran_on lay items begins ran (quiet lay items begins w w step refl refl refl refl refl);
+        full = λ lt.
+            let off : nat_lt (d.regs 4) (d.regs 3 + bytes) ≡ true = grind (arith, nat_tests) in
+            let stop = heap_full_stop in
+            let step = branches (bases stack) lay items (suc start) stop.place (1 + length l.procs) 4 3 Ltu to w.input calls stands.1.0 stop.found off in
+            let ran' = ran_on lay items begins ran (quiet lay items begins w w step refl refl refl refl refl) in
+            ends_on lay items begins ran' (stop.ends (with_regs to (lay.far (suc start) to.regs)) calls w (good_far items lay (bases stack) s.rises (suc start) to does.good));
       }

@@ -1,15 +1,10 @@
 -- Taking cells.
-use Rattle.std.proofs.Common.{◌≡◌, ℕ, suc, ◌+◌, ◌*◌, ◌^◌, ◌<◌, ◌≤◌, List, [], ◌∷◌, ◌++◌, map, length, get_or, replicate, Bool, true, false, Some, None, inl, inr, refl, sym, ap, ◌∙◌, subst, arith, length-append}
-use Rattle.std.specs.Prelude.{Option, pos, nat_eq, nat_lt}
+use Rattle.std.proofs.Common.{◌≡◌, ℕ, suc, ◌+◌, ◌*◌, ◌^◌, ◌<◌, ◌≤◌, List, [], ◌∷◌, ◌++◌, map, length, replicate, Bool, true, false, Some, None, inl, inr, refl, sym, ap, ◌∙◌, subst, arith, length-append}
+use Rattle.std.specs.Prelude.{Option, nat_eq, nat_lt}
 use Rattle.std.proofs.lemmas.Bool.Decides.{nat_tests}
 use Rattle.std.proofs.lemmas.List.{length-replicate}
 use Rattle.std.proofs.Math.Nat.{mul-le-mul_left}
-use Rattle.rv32_isa.specs.declared.instr.Instr.{Instr}
-use Rattle.rv32_isa.specs.declared.instr.Instr.TheVariants.{OpImm}
-use Rattle.rv32_isa.specs.declared.instr.ImmKind.TheVariants.{Addi}
-use Rattle.rv32_machine.specs.Arithmetic.{plus}
 use Rattle.parallel_move.specs.declared.Spot.{Spot}
-use Rattle.parallel_move.specs.declared.Spot.TheVariants.{Reg, Slot, Scratch}
 use Rattle.parallel_move.specs.Moves.{Values}
 use Rattle.low_code.specs.Tree.{Code, take, Procedure, Program}
 use Rattle.low_code.specs.Formed.{variables}
@@ -20,22 +15,19 @@ use Rattle.register_alloc.specs.Assignment.{Assignment, place_of, words_at}
 use Rattle.rv32_items.specs.declared.Item.{Item}
 use Rattle.rv32_items.specs.Course.{Layout}
 use Rattle.rv32_select.specs.declared.source.Way.{Way}
-use Rattle.rv32_select.specs.Emit.{plain, room_items, cells_code}
+use Rattle.rv32_select.specs.Emit.{take_items}
 use Rattle.rv32_select.specs.IsSelected.{heap_base}
-use Rattle.rv32_select.proofs.Courses.{Stands, stays}
-use Rattle.rv32_select.proofs.Straight.{Data, with_reg, does_on, does_imm, at}
-use Rattle.rv32_select.proofs.FrameViews.{spots, in_frame}
-use Rattle.rv32_select.proofs.OperandsRead.{IsPlace}
-use Rattle.rv32_select.proofs.Gathering.{AllPlaces}
-use Rattle.rv32_select.proofs.TakenCells.{AllAt, celled}
-use Rattle.rv32_select.proofs.Relation.{bases, AllHold, HoldsCells, HoldsWorld, Ran, ran_on, quiet, Does', does_after, Given}
+use Rattle.rv32_select.proofs.Courses.{stays}
+use Rattle.rv32_select.proofs.Straight.{Data, at}
+use Rattle.rv32_select.proofs.FrameViews.{spots}
+use Rattle.rv32_select.proofs.TakenCells.{AllAt}
+use Rattle.rv32_select.proofs.RoomTaken.{Takes, takes}
+use Rattle.rv32_select.proofs.Relation.{bases, AllHold, HoldsCells, HoldsWorld, ran_on, quiet, Does', does_after, Given}
 use Rattle.rv32_select.proofs.CellWords.{cells_taken}
 use Rattle.rv32_select.proofs.PlaceFacts.{IsOwn, AllOwn, ProcedureFine, Setting}
 use Rattle.rv32_select.proofs.BlockFacts.{room, Block, Simulates, Changed, or_true, own_places, apart_different, stood_bound, still_scoped}
-use Rattle.rv32_select.proofs.OneBound.{Cut, cut, ready_at, plain_ran}
-use Rattle.rv32_select.proofs.Stops.{Tested, tested}
+use Rattle.rv32_select.proofs.OneBound.{Cut, cut, ready_at}
 use Rattle.seq.specs.Lists.{is_among}
-use Rattle.rv32_machine.proofs.Registers.{set_there}
 use Rattle.seq.proofs.Counted.{among_right}
 use Rattle.rv32_select.proofs.ProcedureEntry.{places_many}
 
@@ -53,12 +45,6 @@ scope_owned l a f saved (x ∷ xs) scope own owned y h = elim (or_true (nat_eq y
   | inr e ↦ scope_owned l a f saved xs scope own.1 owned y e
 ]
 
--- the parts of a take's items
-take_parts : (items : List Item) (p : ℕ) (first second : List Item) (block rest : List Item) → block ≡ (first ++ second) ++ rest → Stands items p block → Cut items p first second (first ++ second) × Cut items p (first ++ second) rest block
-take_parts items p first second block rest e h =
-    let whole = cut items p (first ++ second) rest block e h in
-    (cut items p first second (first ++ second) refl whole.first, whole)
-
 module _ (l : Program) (a : Assignment) (cells stack : ℕ) (lay : Layout) (items : List Item) (begins : List ℕ) (s : Setting l a cells stack lay items begins) (calls_n : Calls) (n : ℕ)
     (f : ℕ) (q : Procedure) (pf : ProcedureFine l a f q) (j m : ℕ) (outer : List ℕ) (d0 : Data) (u : ℕ) where
   pub take_simulated : (xs : List ℕ) (c : Code) (to : List Spot) (way : Way) (Must : ℕ → Word → Type 0) (k k' : ℕ) (block : List Item) (p : ℕ) (scope later : List ℕ) (env : Env) (top : ℕ) (under : Option ℕ) (d : Data) (w : World)
@@ -72,20 +58,11 @@ module _ (l : Program) (a : Assignment) (cells stack : ℕ) (lay : Layout) (item
       h : HoldsWorld l a cells stack lay d w
       h = b.stood.world
 
-      bytes : ℕ
-      bytes = 4 * l.width * length (map (place_of a) xs)
-
       size_is : length (map (place_of a) xs) ≡ length xs
       size_is = places_many (place_of a) xs
 
       product : 4 * l.width * length (map (place_of a) xs) ≡ 4 * l.width * length xs
       product = ap (λ y. 4 * l.width * y) size_is
-
-      first : List Item
-      first = room_items (4 * l.width * length (map (place_of a) xs)) (1 + length l.procs)
-
-      code_is : List Instr
-      code_is = cells_code (4 * l.width) 0 (map (place_of a) xs) ++ OpImm Addi 3 5 (pos 0) ∷ []
 
       -- the heap ends below 2 ^ 31
       ends_low : heap_base + 4 * l.width * cells < 2 ^ 31
@@ -95,72 +72,61 @@ module _ (l : Program) (a : Assignment) (cells stack : ℕ) (lay : Layout) (item
           let same : 4 * l.width * cells ≡ 4 * (l.width * cells) = omega arith in
           omega arith
 
-      test : Tested l a cells stack lay items begins s (4 * l.width * length (map (place_of a) xs)) p d (m ∷ outer) w
-      test =
-          let parts = take_parts items p (room_items (4 * l.width * length (map (place_of a) xs)) (1 + length l.procs)) (plain (cells_code (4 * l.width) 0 (map (place_of a) xs) ++ OpImm Addi 3 5 (pos 0) ∷ [])) block b.emits.0 b.emits.1 b.stands in
+      own : AllOwn l a f (slots_of (place_of a) (variables q)) (map (place_of a) xs)
+      own = b.fine.1.0.1
+
+      parts : Cut items p (take_items (4 * l.width) (1 + length l.procs) (map (place_of a) xs)) b.emits.0 block
+      parts = cut items p (take_items (4 * l.width) (1 + length l.procs) (map (place_of a) xs)) b.emits.0 block b.emits.1 b.stands
+
+      taking : Takes l a cells stack lay items begins s j pf.slots (m ∷ outer) w (4 * l.width) (map (place_of a) xs) (take_items (4 * l.width) (1 + length l.procs) (map (place_of a) xs)) p d
+      taking =
           let low = ends_low in
           let next = h.next in
           let few = b.fine.0 in
+          let wide = s.width_some in
           let most : 4 * l.width * length w.cells ≤ 4 * l.width * cells = mul-le-mul_left (4 * l.width) h.room in
           let same = product in
-          tested l a cells stack lay items begins s (4 * l.width * length (map (place_of a) xs)) p d (m ∷ outer) w parts.0.first h.good (omega arith) (omega arith)
+          takes l a cells stack lay items begins s j pf.slots (m ∷ outer) w (4 * l.width) (map (place_of a) xs) p d (omega arith) (omega arith) parts.first h.good b.stood.frame
+          (own_places l a lay stack f j pf.slots (slots_of (place_of a) (variables q)) (map (place_of a) xs) pf.enough own) (apart_different l a scope xs c later b.fine.1.0.0) (omega arith)
 
       with_room : length w.cells + length xs ≤ cells → (env' : Env) → with_vars xs (cell_places (length w.cells) xs) env ≡ Some env' →
           Does' lay items begins (Given l a cells stack lay items f j pf.slots d0 m outer to way Must) (at (bases stack) lay items p d) (m ∷ outer) w (code l (words_at a) (room l a cells stack lay items begins) calls_n env' top under c (with_cells (replicate (length xs) (empty_cell l (words_at a))) w))
       with_room fits env' bind =
-          let t = test in
-          let ss = map (place_of a) xs in
-          let is = cells_code (4 * l.width) 0 ss ++ OpImm Addi 3 5 (pos 0) ∷ [] in
-          let parts = take_parts items p (room_items (4 * l.width * length (map (place_of a) xs)) (1 + length l.procs)) (plain is) block b.emits.0 b.emits.1 b.stands in
-          let low = ends_low in
           let same = product in
           let w' = with_cells (replicate (length xs) (empty_cell l (words_at a))) w in
           let most : 4 * l.width * (length w.cells + length xs) ≤ 4 * l.width * cells = mul-le-mul_left (4 * l.width) fits in
           let total : 4 * l.width * (length w.cells + length xs) ≡ 4 * l.width * length w.cells + 4 * l.width * length xs = omega arith in
           let next = h.next in
           let end = h.end in
-          let enough = t.enough (omega arith) in
-          let keeps = t.keeps j pf.slots in
-          let frame1 = in_frame lay.code (bases stack) j pf.slots b.stood.frame keeps in
-          let from : t.to.regs 3 + 0 ≡ heap_base + 4 * l.width * length w.cells = let three = keeps.next in omega arith in
-          let saved_le = pf.enough in
-          let own = b.fine.1.0.1 in
-          let made = celled lay.code (bases stack) j pf.slots (4 * l.width) 0 ss t.to (heap_base + 4 * l.width * length w.cells) t.good frame1 (own_places l a lay stack f j pf.slots (slots_of (place_of a) (variables q)) ss saved_le own) (apart_different l a scope xs c later b.fine.1.0.0) from (omega arith) in
-          let five : made.to.regs 5 ≡ heap_base + 4 * l.width * (length w.cells + length xs) = made.five ∙ t.five ∙ omega arith in
-          let sum : plus (made.to.regs 5) 0 ≡ heap_base + 4 * l.width * (length w.cells + length xs) = omega arith in
-          let last = does_imm lay.code (bases stack) Addi 3 5 (pos 0) (heap_base + 4 * l.width * (length w.cells + length xs)) made.to made.does.good sum (omega arith) in
-          let d' = with_reg made.to 3 (heap_base + 4 * l.width * (length w.cells + length xs)) in
-          let does = does_on lay.code (bases stack) made.does last in
-          let ran = plain_ran l a cells stack lay items begins is (p + length (room_items (4 * l.width * length (map (place_of a) xs)) (1 + length l.procs))) t.to d' (m ∷ outer) w t.good does parts.0.more in
+          let made = taking.enough (omega arith) in
           let len : length w'.cells ≡ length w.cells + length xs = length-append w.cells (replicate (length xs) (empty_cell l (words_at a))) ∙ ap (λ y. length w.cells + y) (length-replicate (length xs) (empty_cell l (words_at a))) in
-          let world : HoldsWorld l a cells stack lay d' w' = record {
-            good = does.good;
-            cells_are = subst (λ y. HoldsCells l.width y w'.cells) (sym (made.heap ∙ keeps.heap)) (cells_taken l.width d.heap w.cells (length xs) h.cells_are);
-            next = ap (λ y. heap_base + 4 * l.width * y) (sym len);
-            end = made.end ∙ keeps.end ∙ end;
+          let behind : made.to.regs 3 ≡ heap_base + 4 * l.width * (length w.cells + length xs) = made.next ∙ omega arith in
+          let world : HoldsWorld l a cells stack lay made.to w' = record {
+            good = made.good;
+            cells_are = subst (λ y. HoldsCells l.width y w'.cells) (sym made.heap) (cells_taken l.width d.heap w.cells (length xs) h.cells_are);
+            next = behind ∙ ap (λ y. heap_base + 4 * l.width * y) (sym len);
+            end = made.end ∙ end;
             room = omega arith;
             globals = let g = h.globals in omega arith;
             input = h.input;
-            heap_words = ap length (made.heap ∙ keeps.heap) ∙ h.heap_words;
-            stack_words = ap (λ y. 4 * y) (made.words ∙ keeps.words) ∙ h.stack_words;
+            heap_words = ap length made.heap ∙ h.heap_words;
+            stack_words = ap (λ y. 4 * y) made.words ∙ h.stack_words;
           } in
-          let ch : Changed l stack j pf.slots lay ss (cell_places (length w.cells) xs) d d' = record {
-            held = at_are_words l.width (place_of a) xs (length w.cells) (spots lay.code (bases stack) j pf.slots d') (at_three made.to (heap_base + 4 * l.width * (length w.cells + length xs)) ss (heap_base + 4 * l.width * length w.cells) (own_places l a lay stack f j pf.slots (slots_of (place_of a) (variables q)) ss saved_le own) made.each);
-            others = λ y o ne. unseen_three made.to (heap_base + 4 * l.width * (length w.cells + length xs)) y o ∙ made.others y o ne ∙ seen t y o;
-            sp = made.sp ∙ keeps.frame;
-            words = made.words ∙ keeps.words;
-            outside = λ y o. made.outside y o ∙ keeps.outside y o;
+          let ch : Changed l stack j pf.slots lay (map (place_of a) xs) (cell_places (length w.cells) xs) d made.to = record {
+            held = at_are_words l.width (place_of a) xs (length w.cells) (spots lay.code (bases stack) j pf.slots made.to) (subst (λ y. AllAt (4 * l.width) (map (place_of a) xs) y (spots lay.code (bases stack) j pf.slots made.to)) next made.each);
+            others = made.others;
+            sp = made.sp;
+            words = made.words;
+            outside = made.outside;
           } in
-          let stood = stood_bound l a cells stack lay f j pf.slots (slots_of (place_of a) (variables q)) d0 (lay.address m) (take xs c) c xs (cell_places (length w.cells) xs) scope later env env' Must d d' w w' saved_le b.stood world ch bind b.fine.1.0 (λ y e. e) b.scoped b.must b.owned in
-          let behind : p + length (room_items (4 * l.width * length (map (place_of a) xs)) (1 + length l.procs)) + length (plain is) ≡ p + length (room_items (4 * l.width * length (map (place_of a) xs)) (1 + length l.procs) ++ plain is) = sym parts.0.end in
-          let whole = ran_on lay items begins enough (subst (λ y. Ran lay items begins (at (bases stack) lay items (p + length (room_items (4 * l.width * length (map (place_of a) xs)) (1 + length l.procs))) t.to) (m ∷ outer) w (at (bases stack) lay items y d') (m ∷ outer) w) behind ran) in
-          let p' = p + length (room_items (4 * l.width * length (map (place_of a) xs)) (1 + length l.procs) ++ plain is) in
-          let taken = quiet lay items begins w w' (stays lay items w.input (at (bases stack) lay items p' d') (m ∷ outer)) refl refl refl refl refl in
-          does_after lay items begins (Given l a cells stack lay items f j pf.slots d0 m outer to way Must) (code l (words_at a) (room l a cells stack lay items begins) calls_n env' top under c w') (ran_on lay items begins whole taken)
-          (more env' b.emits.0 p' d' w' (record {
+          let stood = stood_bound l a cells stack lay f j pf.slots (slots_of (place_of a) (variables q)) d0 (lay.address m) (take xs c) c xs (cell_places (length w.cells) xs) scope later env env' Must d made.to w w' pf.enough b.stood world ch bind b.fine.1.0 (λ y e. e) b.scoped b.must b.owned in
+          let p' = p + length (take_items (4 * l.width) (1 + length l.procs) (map (place_of a) xs)) in
+          let taken = quiet lay items begins w w' (stays lay items w.input (at (bases stack) lay items p' made.to) (m ∷ outer)) refl refl refl refl refl in
+          does_after lay items begins (Given l a cells stack lay items f j pf.slots d0 m outer to way Must) (code l (words_at a) (room l a cells stack lay items begins) calls_n env' top under c w') (ran_on lay items begins made.ran taken)
+          (more env' b.emits.0 p' made.to w' (record {
             emits = b.emits.2;
-            stands = parts.1.more;
-            ready = ready_at l a cells stack lay items begins way (p + length block) (p' + length b.emits.0) parts.1.end b.ready;
+            stands = parts.more;
+            ready = ready_at l a cells stack lay items begins way (p + length block) (p' + length b.emits.0) parts.end b.ready;
             above = b.above;
             fine = b.fine.1.1;
             scoped = still_scoped xs (cell_places (length w.cells) xs) scope env env' bind b.scoped;
@@ -175,20 +141,6 @@ module _ (l : Program) (a : Assignment) (cells stack : ℕ) (lay : Layout) (item
             top_is = b.top_is;
             under_is = b.under_is;
           }))
-        where
-          unseen_three : (e : Data) (x : ℕ) (y : Spot) → IsPlace lay.code (bases stack) j pf.slots y → spots lay.code (bases stack) j pf.slots (with_reg e 3 x) y ≡ spots lay.code (bases stack) j pf.slots e y
-          unseen_three e x (Reg r) o = let lo = o.0.0 in set_there e.regs 3 x r (omega arith)
-          unseen_three e x (Slot i) o = refl
-          unseen_three e x Scratch o = absurd (o.1 refl)
-
-          at_three : (e : Data) (x : ℕ) (ss : List Spot) (from : ℕ) → AllPlaces lay.code (bases stack) j pf.slots ss → AllAt (4 * l.width) ss from (spots lay.code (bases stack) j pf.slots e) → AllAt (4 * l.width) ss from (spots lay.code (bases stack) j pf.slots (with_reg e 3 x))
-          at_three e x [] from o z = tt
-          at_three e x (y ∷ ss) from o z = (unseen_three e x y o.0 ∙ z.0, at_three e x ss (from + 4 * l.width) o.1 z.1)
-
-          seen : Tested l a cells stack lay items begins s (4 * l.width * length (map (place_of a) xs)) p d (m ∷ outer) w → (y : Spot) → IsPlace lay.code (bases stack) j pf.slots y → spots lay.code (bases stack) j pf.slots test.to y ≡ spots lay.code (bases stack) j pf.slots d y
-          seen t (Reg r) o = test.eights r o.0.0
-          seen t (Slot i) o = ap (λ y. get_or y (j + (1 + i)) 0) test.stack'
-          seen t Scratch o = absurd (o.1 refl)
 
       by_vars : length w.cells + length xs ≤ cells → (r : Option Env) → with_vars xs (cell_places (length w.cells) xs) env ≡ r →
           Does' lay items begins (Given l a cells stack lay items f j pf.slots d0 m outer to way Must) (at (bases stack) lay items p d) (m ∷ outer) w (need r w (λ env'. code l (words_at a) (room l a cells stack lay items begins) calls_n env' top under c (with_cells (replicate (length xs) (empty_cell l (words_at a))) w)))
@@ -210,4 +162,4 @@ module _ (l : Program) (a : Assignment) (cells stack : ℕ) (lay : Layout) (item
           let more_cells : 4 * l.width * suc cells ≤ 4 * l.width * (length w.cells + length xs) = mul-le-mul_left (4 * l.width) (let y : suc cells ≤ length w.cells + length xs = omega arith in y) in
           let one_more : 4 * l.width * suc cells ≡ 4 * l.width * cells + 4 * l.width = omega arith in
           let total : 4 * l.width * (length w.cells + length xs) ≡ 4 * l.width * length w.cells + 4 * l.width * length xs = omega arith in
-          test.full (omega arith)
+          taking.full (omega arith)

@@ -16,7 +16,8 @@ use Rattle.parallel_move.specs.declared.Spot.TheVariants.{Reg, Slot, Scratch}
 use Rattle.parallel_move.specs.declared.Move.{Move}
 use Rattle.rv32_select.specs.declared.source.Source.{Source}
 use Rattle.rv32_select.specs.declared.source.Source.TheVariants.{At, Number}
-use Rattle.rv32_items.specs.declared.Cond.TheVariants.{Ltu, Ne}
+use Rattle.rv32_items.specs.declared.Cond.{Cond}
+use Rattle.rv32_items.specs.declared.Cond.TheVariants.{Eq, Ne, Ltu}
 use Rattle.rv32_items.specs.declared.Item.{Item}
 use Rattle.rv32_items.specs.declared.Item.TheVariants.{Label, Plain, Branch}
 use Rattle.rv32_machine.specs.Arithmetic.{negated}
@@ -239,10 +240,31 @@ cells_code step off (s ∷ ss) =
     OpImm Addi (target 6 s) 3 (pos off)
     ∷ (keep 6 s ++ (go_on step off ++ cells_code step (next_offset step off) ss))
 
-abbrev pub take_items : (step heap_full : ℕ) → List Spot → List Item
-take_items step heap_full ss =
+abbrev pub far_cells : (step heap_full : ℕ) → List Spot → List Item
+far_cells step heap_full ss =
     room_items (step * length ss) heap_full
     ++ plain (cells_code step 0 ss ++ OpImm Addi 3 5 (pos 0) ∷ [])
+
+-- x3 goes on by so many bytes, and where the heap ends before it the heap is full
+abbrev pub raise_items : (bytes heap_full : ℕ) → List Item
+raise_items bytes heap_full = Plain (OpImm Addi 3 3 (pos bytes)) ∷ Branch Ltu 4 3 heap_full ∷ []
+
+-- places get the addresses of the cells that end at x3
+abbrev pub cells_below : (step : ℕ) → List Spot → List Instr
+cells_below step [] = []
+cells_below step (s ∷ ss) =
+    OpImm Addi (target 6 s) 3 (lower (negated (step * suc (length ss))))
+    ∷ (keep 6 s ++ cells_below step ss)
+
+abbrev pub near_cells : (step heap_full : ℕ) → List Spot → List Item
+near_cells step heap_full ss =
+    raise_items (step * length ss) heap_full ++ plain (cells_below step ss)
+
+-- x3 goes first where one number takes it past all cells
+abbrev pub take_items : (step heap_full : ℕ) → List Spot → List Item
+take_items step heap_full ss =
+    if is_offset (step * length ss) then near_cells step heap_full ss
+    else far_cells step heap_full ss
 
 -- ---- calls to the machine
 
@@ -332,11 +354,18 @@ restore_moves first (r ∷ rs) =
 
 -- ---- choices
 
--- a word that isn't this number goes on to the label
-abbrev pub test_items : (next : ℕ) → (word : Source) → ℕ → List Item
-test_items next word n =
+-- a word that compares so with this number goes on to the label
+abbrev pub compare_items : Cond → (next : ℕ) → (word : Source) → ℕ → List Item
+compare_items cond next word n =
     plain (hold 5 word ++ hold 6 (Number n))
-    ++ Branch Ne (held 5 word) (held 6 (Number n)) next ∷ []
+    ++ Branch cond (held 5 word) (held 6 (Number n)) next ∷ []
+
+-- one that isn't the number, and one that is it
+abbrev pub test_items : (next : ℕ) → (word : Source) → ℕ → List Item
+test_items next word n = compare_items Ne next word n
+
+abbrev pub match_items : (next : ℕ) → (word : Source) → ℕ → List Item
+match_items next word n = compare_items Eq next word n
 
 -- ---- start-up and stops
 

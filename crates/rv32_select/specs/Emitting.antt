@@ -11,7 +11,7 @@ use Rattle.rv32_items.specs.declared.Item.TheVariants.{Jump}
 use Rattle.rv32_select.specs.declared.source.Source.{Source}
 use Rattle.rv32_select.specs.declared.source.Way.{Way}
 use Rattle.rv32_select.specs.Emit.{plain, moves_code, spot_moves, number_moves, leave_code}
-use Rattle.rv32_select.specs.IsSelected.{IsOrder, sources, places, argument_spots_of, result_spots_of, moves_between, call_items, Emits, EmitsArms, EmitsProcedure}
+use Rattle.rv32_select.specs.IsSelected.{IsOrder, sources, places, argument_spots_of, result_spots_of, moves_between, call_items, Emits, EmitsArms, EmitsLast, EmitsProcedure}
 use Rattle.rv32_select.specs.Writable.{Placed, ArmsPlaced}
 
 -- moves in some order
@@ -59,6 +59,12 @@ module _ (l : Program) (a : Assignment) (cells stack words saved : ℕ) where
     pub items : List Item
     pub is : new ≡ old ++ items
     pub emits : EmitsArms l a cells stack words saved to way c n m items
+
+  pub record EmittedLast (to : List Spot) (way : Way) (c : Arms) (old : List Item)
+      (n : ℕ) (new : List Item) (m : ℕ) : Type 0 where
+    pub items : List Item
+    pub is : new ≡ old ++ items
+    pub emits : EmitsLast l a cells stack words saved to way c n m items
 
   -- a statement, or several, before any block
   pub record Before (before : Code → Code) (old : List Item) (n : ℕ) (new : List Item) (m : ℕ)

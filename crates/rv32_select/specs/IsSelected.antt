@@ -1,6 +1,6 @@
 -- The items that stand for low code, statement by statement, where moves may be done in any order
 -- that does them at once.
-use Rattle.std.specs.Prelude.{◌≡◌, ℕ, suc, ◌+◌, ◌-◌, ◌*◌, ◌%◌, ◌^◌, ◌≤◌, List, [], ◌∷◌, ◌++◌, map, length, Option, Some, None, slice_get}
+use Rattle.std.specs.Prelude.{◌≡◌, ℕ, suc, ◌+◌, ◌-◌, ◌*◌, ◌%◌, ◌^◌, ◌≤◌, Bool, true, false, if◌then◌else◌, List, [], ◌∷◌, ◌++◌, map, length, Option, Some, None, slice_get}
 use Rattle.parallel_move.specs.declared.Spot.{Spot}
 use Rattle.parallel_move.specs.declared.Move.{Move}
 use Rattle.parallel_move.specs.Moves.{DoesAtOnce, ends, StaysAmong}
@@ -17,7 +17,7 @@ use Rattle.rv32_select.specs.declared.source.Source.{Source}
 use Rattle.rv32_select.specs.declared.source.Source.TheVariants.{At, Number}
 use Rattle.rv32_select.specs.declared.source.Way.{Way}
 use Rattle.rv32_select.specs.declared.source.Way.TheVariants.{Returns, Follows, Jumps}
-use Rattle.rv32_select.specs.Emit.{plain, moves_code, spot_moves, number_moves, set_code, prim_code, load_code, save_code, take_items, put_code, get_code, exit_with, argument_spots, result_spots, entry_items, leave_code, return_items, save_moves, restore_moves, test_items, start_items, stop_items}
+use Rattle.rv32_select.specs.Emit.{plain, moves_code, spot_moves, number_moves, set_code, prim_code, load_code, save_code, take_items, put_code, get_code, exit_with, argument_spots, result_spots, entry_items, leave_code, return_items, save_moves, restore_moves, test_items, match_items, start_items, stop_items}
 
 -- the heap's first address, and the end of the frames
 abbrev pub heap_base : ℕ
@@ -52,6 +52,42 @@ abbrev pub way_out : (words : ℕ) → Way → List Item
 way_out words Returns = return_items words
 way_out words (Follows label) = []
 way_out words (Jumps label) = Jump 0 label ∷ []
+
+-- a block that likely runs rarely: it calls a procedure, or has no alternative
+abbrev pub is_rare : Code → Bool
+is_rare (set x b c) = is_rare c
+is_rare (prim f x b d c) = is_rare c
+is_rare (load x b k c) = is_rare c
+is_rare (save b k d c) = is_rare c
+is_rare (take xs c) = is_rare c
+is_rare (put b c) = is_rare c
+is_rare (get x c) = is_rare c
+is_rare (call f site as' xs c) = true
+is_rare (join xs b c) = is_rare c
+is_rare (give as') = false
+is_rare (tail f site as') = false
+is_rare (choose as') = false
+is_rare fail = true
+
+-- where a choice goes on at a label, the first alternative needs no jump there if it stands behind
+-- the others, and the last one has it: that is done where the last one alone is rare
+abbrev pub waits : Way → (first last : Code) → Bool
+waits Returns c d = false
+waits (Follows label) c d = if is_rare c then false else is_rare d
+waits (Jumps label) c d = if is_rare c then false else is_rare d
+
+abbrev pub last_of : Arms → Code
+last_of (otherwise c) = c
+last_of (arm ts c as') = last_of as'
+
+abbrev pub has_one : List LowTest → Bool
+has_one [] = false
+has_one (t ∷ []) = true
+has_one (t ∷ (u ∷ ts)) = false
+
+abbrev pub stands_last : Way → Arms → Bool
+stands_last way (otherwise c) = false
+stands_last way (arm ts c as') = if has_one ts then waits way c (last_of as') else false
 
 -- the bytes of a cell, and the heap's end
 abbrev pub step : Program → ℕ
@@ -165,7 +201,10 @@ module _ (l : Program) (a : Assignment) (cells stack : ℕ) where
           × (items ≡ plain (moves_code steps
           ++ (number_moves (argument_spots_of l a f) (sources l a as') ++ leave_code words))
           ++ Jump 0 f ∷ [])
-      Emits to way (choose as') n m items = EmitsArms to way as' n m items
+      Emits to way (choose as') n m items = elim (stands_last way as') [
+        | true ↦ EmitsLast to way as' n m items
+        | false ↦ EmitsArms to way as' n m items
+      ]
       Emits to way fail n m items = (m ≡ n) × (items ≡ Jump 0 (no_alternative l) ∷ [])
 
       pub EmitsArms : (to : List Spot) → Way → Arms → (n m : ℕ) → List Item → Type 0
@@ -173,6 +212,15 @@ module _ (l : Program) (a : Assignment) (cells stack : ℕ) where
       EmitsArms to way (arm ts c as') n m items =
           (k : ℕ) × (block : List Item) × Emits to (further way) c (suc n) k block
           × Then (tests_items l a n ts ++ (block ++ Label n ∷ [])) (EmitsArms to way as' k m) items
+
+      -- the first arm, with its one test, behind the others
+      pub EmitsLast : (to : List Spot) → Way → Arms → (n m : ℕ) → List Item → Type 0
+      EmitsLast to way (otherwise c) n m items = ⊥
+      EmitsLast to way (arm ts c as') n m items =
+          (t : LowTest) × (ts ≡ t ∷ [])
+          × (k : ℕ) × (others : List Item) × EmitsArms to (further way) as' (suc n) k others
+          × Then (match_items n (source l a t.left) t.right ++ (others ++ Label n ∷ []))
+          (Emits to way c k m) items
 
   -- procedure f: its entry, and its block
   pub record EmitsProcedure (f : ℕ) (q : Procedure) (n m : ℕ) (items : List Item) : Type 0 where

@@ -1,14 +1,14 @@
 // Statements, arms and blocks.
 #![tactic(auto, using(low_code::proofs::TreeOf::tree_of, crate::proofs::Plain::plain_append, crate::proofs::Emitted::emitted), unfolding(crate::specs::Emit::plain))]
 
-ghost use Rattle.std.specs.Prelude.{◌≡◌, ◌++◌, [], ◌∷◌, ◌<◌, ◌+◌, ◌*◌, ◌≤◌, suc, length, map, slice_get, Some, OnOk, IfOk, true};
-ghost use Rattle.low_code.specs.Tree.{Code as Block, join, all_before, arms_before, before_of, end_of, code_of, arm_of, program_of};
+ghost use Rattle.std.specs.Prelude.{◌≡◌, ◌++◌, [], ◌∷◌, ◌<◌, ◌+◌, ◌*◌, ◌≤◌, suc, length, map, slice_get, Some, OnOk, IfOk, true, false, if◌then◌else◌};
+ghost use Rattle.low_code.specs.Tree.{Code as Block, join, choose, all_before, arms_before, before_of, end_of, code_of, arm_of, program_of};
 ghost use Rattle.register_alloc.specs.Assignment.{place_of};
 ghost use Rattle.rv32_select.specs.Emit.{plain, leave_code, take_items};
-ghost use Rattle.rv32_select.specs.IsSelected.{further as further_way, way_out as way_out_items, sources as sources_of, tests_items, argument_spots_of, result_spots_of, moves_between as moves_across, heap_end as end_of_heap, heap_full as heap_full_label, no_alternative as no_alternative_label};
+ghost use Rattle.rv32_select.specs.IsSelected.{further as further_way, way_out as way_out_items, sources as sources_of, tests_items, is_rare as is_rare_code, waits as waits_there, has_one, argument_spots_of, result_spots_of, moves_between as moves_across, heap_end as end_of_heap, heap_full as heap_full_label, no_alternative as no_alternative_label};
 ghost use Rattle.rv32_select.specs.Ranges.{AreTargets};
 ghost use Rattle.rv32_select.specs.Writable.{Writable, CanWrite, FrameFits, Placed, ArmsPlaced, ArmPlaced, HavePlaces, OperandsPlaced, TestsPlaced, TargetsPlaced, CallPlaced};
-ghost use Rattle.rv32_select.specs.Emitting.{Moved, Sent, Called, TailCalled, Emitted, EmittedArms, Before, ArmsBefore, one_arm};
+ghost use Rattle.rv32_select.specs.Emitting.{Moved, Sent, Called, TailCalled, Emitted, EmittedArms, EmittedLast, Before, ArmsBefore, one_arm};
 
 use crate::code::Code;
 use crate::context::{Context, Frame, HEAP_BASE, result_spots};
@@ -35,6 +35,70 @@ fn further(way: Way) -> Way
         Way::Follows(label) => Way::Jumps(label),
         Way::Jumps(label) => Way::Jumps(label),
     }
+}
+
+/// Whether a statement calls a procedure.
+fn calls(stmt: &LowStmt) -> bool
+    ensures { (c : Block) → is_rare_code (before_of stmt.now c)
+        ≡ (if result then true else is_rare_code c) }
+{
+    match stmt {
+        LowStmt::Set(_, _) => false,
+        LowStmt::Prim(_, _, _, _) => false,
+        LowStmt::Load(_, _, _) => false,
+        LowStmt::Save(_, _, _) => false,
+        LowStmt::Take(_) => false,
+        LowStmt::Put(_) => false,
+        LowStmt::Get(_) => false,
+        LowStmt::Call(_, _, _, _) => true,
+        LowStmt::Join(_, _) => false,
+    }
+}
+
+/// Whether an end has no alternative.
+fn fails(end: &LowEnd) -> bool
+    ensures { result ≡ is_rare_code (end_of end.now) }
+{
+    match end {
+        LowEnd::Give(_) => false,
+        LowEnd::Tail(_, _, _) => false,
+        LowEnd::Choose(_, _) => false,
+        LowEnd::Fail => true,
+    }
+}
+
+/// Whether a block likely runs rarely: it calls a procedure, or has no alternative.
+fn is_rare(block: &LowBlock) -> bool
+    ensures { result ≡ is_rare_code (code_of block.now) }
+{
+    for stmt in block.stmts.as_slice() {
+        if calls(stmt) {
+            return true;
+        }
+    }
+    fails(&block.last)
+}
+
+/// Whether the first alternative is to stand behind the others, of which this is the last.
+fn waits(way: Way, first: &LowBlock, last: &LowBlock) -> bool
+    ensures { result ≡ waits_there way (code_of first.now) (code_of last.now) }
+{
+    match way {
+        Way::Returns => false,
+        Way::Follows(_) => { if is_rare(first) { false } else { is_rare(last) } }
+        Way::Jumps(_) => { if is_rare(first) { false } else { is_rare(last) } }
+    }
+}
+
+/// Whether it has one test, too.
+fn stands_last(way: Way, first: &LowArm, last: &LowBlock) -> bool
+    ensures { result ≡ (if has_one first.now.tests
+        then waits_there way (code_of first.now.block) (code_of last.now) else false) }
+{
+    if first.tests.len() == 1 {
+        return waits(way, &first.block, last);
+    }
+    false
 }
 
 impl Selection {
@@ -328,8 +392,9 @@ impl<'a> Context<'a> {
         out.code.put(Item::Label(label))
     }
 
+    /// Arms, one after another.
     #[cycle(blocks)]
-    fn choose(
+    fn arms(
         &self,
         frame: Frame,
         out: &mut Selection,
@@ -353,6 +418,78 @@ impl<'a> Context<'a> {
             self.arm(frame, out, to, way, arm)?;
         }
         self.block(frame, out, to, way, otherwise)
+    }
+
+    /// Arms, of which the first has one test and stands behind the others.
+    #[cycle(blocks)]
+    fn first_last(
+        &self,
+        frame: Frame,
+        out: &mut Selection,
+        to: &[Spot],
+        way: Way,
+        first: &LowArm,
+        test: LowTest,
+        arms: &[LowArm],
+        otherwise: &LowBlock,
+    ) -> Result<(), AllocError>
+        requires writable { CanWrite (program_of self.now.low.now) self.now.places.now
+            self.now.cells }
+        requires frame { FrameFits frame.words frame.saved }
+        requires targets { AreTargets to.now }
+        requires test { first.now.tests ≡ test ∷ [] }
+        requires placed { ArmsPlaced (program_of self.now.low.now) self.now.places.now
+            (arms_before (map arm_of (first.now ∷ arms.now)) (code_of otherwise.now)) }
+        ensures { OnOk result (EmittedLast (program_of self.now.low.now) self.now.places.now
+            self.now.cells self.now.stack frame.words frame.saved to.now way
+            (arms_before (map arm_of (first.now ∷ arms.now)) (code_of otherwise.now)) out.old.code
+            out.old.next out.new.code out.new.next) }
+    {
+        let label = out.fresh()?;
+        out.code
+            .match_to(label, self.source(test.left), test.right)?;
+        self.arms(frame, out, to, further(way), arms, otherwise)?;
+        out.code.put(Item::Label(label))?;
+        self.block(frame, out, to, way, &first.block)?;
+        Ok(())
+    }
+
+    #[cycle(blocks)]
+    fn choose(
+        &self,
+        frame: Frame,
+        out: &mut Selection,
+        to: &[Spot],
+        way: Way,
+        arms: &[LowArm],
+        otherwise: &LowBlock,
+    ) -> Result<(), AllocError>
+        requires writable { CanWrite (program_of self.now.low.now) self.now.places.now
+            self.now.cells }
+        requires frame { FrameFits frame.words frame.saved }
+        requires targets { AreTargets to.now }
+        requires placed { ArmsPlaced (program_of self.now.low.now) self.now.places.now
+            (arms_before (map arm_of arms.now) (code_of otherwise.now)) }
+        ensures { OnOk result (Emitted (program_of self.now.low.now) self.now.places.now
+            self.now.cells self.now.stack frame.words frame.saved to.now way
+            (choose (arms_before (map arm_of arms.now) (code_of otherwise.now))) out.old.code
+            out.old.next out.new.code out.new.next) }
+    {
+        match arms.split_first() {
+            None => {
+                self.arms(frame, out, to, way, arms, otherwise)?;
+                Ok(())
+            }
+            Some((first, others)) => {
+                if stands_last(way, first, otherwise) {
+                    let test = first.tests.as_slice()[0];
+                    self.first_last(frame, out, to, way, first, test, others, otherwise)?;
+                    return Ok(());
+                }
+                self.arms(frame, out, to, way, arms, otherwise)?;
+                Ok(())
+            }
+        }
     }
 
     #[cycle(blocks)]

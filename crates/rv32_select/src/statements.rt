@@ -2,7 +2,7 @@
 #![tactic(auto, using(crate::proofs::Plain::plain_append), unfolding(crate::specs::Emit::plain))]
 
 ghost use Rattle.std.specs.Prelude.{◌≡◌, ◌++◌, [], ◌∷◌, ◌<◌, ◌*◌, ◌≤◌, length, OnOk, IfOk, true};
-ghost use Rattle.rv32_select.specs.Emit.{plain, set_code, operation as operation_code, is_immediate as immediate_number, immediate as immediate_code, operands_held as held_code, operate_on as on_code, is_free as is_free_order, operate_in_order as in_order_code, prim_code, load_code, save_code, word_offset as offset_of_word, room_items, next_offset as offset_behind, go_on as go_on_code, cells_code, take_items, aside as aside_code, back as back_code, call_code, byte_given as byte_given_code, put_code, get_code, exit_with as exit_items, test_items};
+ghost use Rattle.rv32_select.specs.Emit.{plain, set_code, operation as operation_code, is_immediate as immediate_number, immediate as immediate_code, operands_held as held_code, operate_on as on_code, is_free as is_free_order, operate_in_order as in_order_code, prim_code, load_code, save_code, word_offset as offset_of_word, room_items, next_offset as offset_behind, go_on as go_on_code, cells_code, far_cells as far_cells_items, raise_items, cells_below as below_code, take_items, aside as aside_code, back as back_code, call_code, byte_given as byte_given_code, put_code, get_code, exit_with as exit_items, compare_items, test_items, match_items};
 ghost use Rattle.rv32_select.specs.Ranges.{in_range, AllInRange, IsSource};
 
 use crate::code::{Code, add_immediate, held, is_short, lower, negated, target};
@@ -249,6 +249,45 @@ impl Code {
         Ok(())
     }
 
+    /// Cells of many bytes are counted from where x3 stands before them.
+    fn far_cells(&mut self, step: u32, heap_full: u32, places: &[Spot]) -> Result<(), AllocError>
+        requires { (step < 2048) × (step * length places.now < 4294967296) × AllInRange places.now }
+        ensures { OnOk result (self.new ≡ self.old ++ far_cells_items step heap_full places.now) }
+    {
+        self.room((step as usize * places.len()) as u32, heap_full)?;
+        self.cells(step, places)?;
+        self.instr(add_immediate(Reg(3), Reg(5), Imm12(0)))
+    }
+
+    /// x3 goes on by so many bytes, and where the heap ends before it the heap is full.
+    fn raise(&mut self, bytes: u32, heap_full: u32) -> Result<(), AllocError>
+        requires { bytes < 2048 }
+        ensures { OnOk result (self.new ≡ self.old ++ raise_items bytes heap_full) }
+    {
+        self.instr(add_immediate(Reg(3), Reg(3), Imm12(bytes as i32)))?;
+        self.put(Item::Branch {
+            cond: Cond::Ltu,
+            left: Reg(4),
+            right: Reg(3),
+            label: heap_full,
+        })
+    }
+
+    /// The places get the addresses of the cells that end at x3, the first so many bytes below it.
+    fn cells_below(&mut self, step: u32, bytes: u32, places: &[Spot]) -> Result<(), AllocError>
+        requires { (bytes ≡ step * length places.now) × AllInRange places.now }
+        ensures { OnOk result (self.new ≡ self.old ++ plain (below_code step places.now)) }
+    {
+        let mut below = bytes;
+        for place in places {
+            let t = target(Reg(6), *place);
+            self.instr(add_immediate(t, Reg(3), lower(negated(below) as u64)))?;
+            self.keep(Reg(6), *place)?;
+            below -= step;
+        }
+        Ok(())
+    }
+
     pub(crate) fn take(
         &mut self,
         step: u32,
@@ -258,9 +297,12 @@ impl Code {
         requires { (step < 2048) × (step * length places.now < 4294967296) × AllInRange places.now }
         ensures { OnOk result (self.new ≡ self.old ++ take_items step heap_full places.now) }
     {
-        self.room((step as usize * places.len()) as u32, heap_full)?;
-        self.cells(step, places)?;
-        self.instr(add_immediate(Reg(3), Reg(5), Imm12(0)))
+        let bytes = (step as usize * places.len()) as u32;
+        if bytes < 2048 {
+            self.raise(bytes, heap_full)?;
+            return self.cells_below(step, bytes, places);
+        }
+        self.far_cells(step, heap_full, places)
     }
 
     /// The registers of a call of the machine wait in x4 to x7.
@@ -344,18 +386,34 @@ impl Code {
         self.instr(Instr::Ecall)
     }
 
+    /// A word that compares so with this number goes on to the label.
+    fn compare(&mut self, cond: Cond, next: u32, word: Source, n: u32) -> Result<(), AllocError>
+        requires { IsSource word }
+        ensures { OnOk result (self.new ≡ self.old ++ compare_items cond next word n) }
+    {
+        self.hold(Reg(5), word)?;
+        self.hold(Reg(6), Source::Number(n))?;
+        self.put(Item::Branch {
+            cond,
+            left: held(Reg(5), word),
+            right: held(Reg(6), Source::Number(n)),
+            label: next,
+        })
+    }
+
     /// A word that isn't this number goes on to the label.
     pub(crate) fn test(&mut self, next: u32, word: Source, n: u32) -> Result<(), AllocError>
         requires { IsSource word }
         ensures { OnOk result (self.new ≡ self.old ++ test_items next word n) }
     {
-        self.hold(Reg(5), word)?;
-        self.hold(Reg(6), Source::Number(n))?;
-        self.put(Item::Branch {
-            cond: Cond::Ne,
-            left: held(Reg(5), word),
-            right: held(Reg(6), Source::Number(n)),
-            label: next,
-        })
+        self.compare(Cond::Ne, next, word, n)
+    }
+
+    /// A word that is this number goes on to the label.
+    pub(crate) fn match_to(&mut self, next: u32, word: Source, n: u32) -> Result<(), AllocError>
+        requires { IsSource word }
+        ensures { OnOk result (self.new ≡ self.old ++ match_items next word n) }
+    {
+        self.compare(Cond::Eq, next, word, n)
     }
 }

@@ -1,7 +1,7 @@
 -- The programs are formed and small.
 use Rattle.std.proofs.Common.{◌≡◌, [], ◌∷◌, refl, arith, sym, subst}
 use Rattle.low_code.specs.Tree.{Program}
-use Rattle.select_rows.specs.Rows.{IsRow, program, echo, stuck, takes, nests, sums}
+use Rattle.select_rows.specs.Rows.{IsRow, program, echo, stuck, takes, nests, mark, other, sums}
 
 pub echo_row : IsRow (program (echo ∷ []))
 echo_row = record {
@@ -73,6 +73,25 @@ nests_row = record {
   few = ((omega arith, omega arith, omega arith), tt);
   width = refl;
   tests = (tt, tt);
+  size = omega arith;
+  calls = omega arith;
+  procedures = omega arith;
+  globals = omega arith;
+}
+
+pub marks_row : IsRow (program (mark ∷ other ∷ []))
+marks_row = record {
+  formed = record {
+    variables_once = (refl, (refl, (refl, tt)));
+    sites_once = (refl, (refl, tt));
+    scoped = (((refl, tt), tt, (((refl, tt), (tt, tt), (tt, (refl, tt))), (refl, tt))), ((tt, tt), tt));
+    calls_in_range = ((omega arith, (omega arith, tt)), (tt, tt));
+    starts = refl;
+    literals = record { procedures = ((((tt, omega arith), tt), tt, ((((tt, omega arith), tt), (omega arith, tt), (tt, (tt, tt))), (tt, tt))), ((omega arith, tt), tt)); tags = tt };
+  };
+  few = ((omega arith, omega arith, omega arith), ((omega arith, omega arith, omega arith), tt));
+  width = refl;
+  tests = ((omega arith, tt, ((omega arith, tt, tt), tt)), (tt, tt));
   size = omega arith;
   calls = omega arith;
   procedures = omega arith;

@@ -52,6 +52,16 @@ takes = procedure [] 0 (put (Num 97) (take (0 ∷ []) (tail 0 0 [])))
 abbrev pub nests : Procedure
 nests = procedure [] 0 (put (Num 98) (call 0 0 [] [] (give [])))
 
+-- writes A for each a of its input, and for each other byte what a call gives
+abbrev pub mark : Procedure
+mark = procedure [] 0
+    (get 0 (where_is 0 4294967295 (give [])
+    (join (1 ∷ []) (where_is 0 97 (give (Num 65 ∷ [])) (call 1 0 [] (2 ∷ []) (give (Var 2 ∷ []))))
+    (put (Var 1) (tail 0 1 [])))))
+
+abbrev pub other : Procedure
+other = procedure [] 1 (give (Num 63 ∷ []))
+
 -- makes a list of the numbers from 10 to 1 behind a list, adds them up, writes the sum, and a mark
 -- where it is 55
 abbrev pub main : Procedure

@@ -3,10 +3,11 @@
 
 ghost use Rattle.std.specs.Prelude.{◌≡◌, ◌∷◌, [], IfOk};
 ghost use Rattle.low_code.specs.Tree.{procedure_of, program_of};
-ghost use Rattle.select_rows.specs.Rows.{echo as echo_tree, stuck as stuck_tree, takes as takes_tree, nests as nests_tree, program as program_tree};
+ghost use Rattle.select_rows.specs.Rows.{echo as echo_tree, stuck as stuck_tree, takes as takes_tree, nests as nests_tree, mark as mark_tree, other as other_tree, program as program_tree};
 
-use crate::build::{block, call, give, procedure, program, tail, take, where_is};
-use low_code::{Low, LowEnd, LowStmt, Operand};
+use crate::build::{block, call, give, join, procedure, program, tail, take, where_is};
+use low_code::{Low, LowEnd, LowProc, LowStmt, Operand};
+use seq::Seq;
 use std::alloc::{AllocError, Global};
 
 /// Writes its input.
@@ -53,4 +54,45 @@ pub fn nests(alloc: Global) -> Result<Low, AllocError>
     ]?;
     let body = block(stmts, give(alloc, &[])?);
     program(alloc, procedure(alloc, &[], 0, body)?)
+}
+
+/// Writes A for each a of its input, and for each other byte what a call gives.
+fn mark(alloc: Global) -> Result<LowProc, AllocError>
+    ensures { IfOk result (λ q. procedure_of q ≡ mark_tree) }
+{
+    let is_a = block(Vec::new(alloc), give(alloc, &[Operand::Num(65)])?);
+    let is_other = block(
+        vec![in alloc; call(alloc, 1, 0, &[], &[2])?]?,
+        give(alloc, &[Operand::Var(2)])?,
+    );
+    let which = block(Vec::new(alloc), where_is(alloc, 0, 97, is_a, is_other)?);
+    let more = block(
+        vec![in alloc; join(alloc, &[1], which)?, LowStmt::Put(Operand::Var(1))]?,
+        tail(alloc, 0, 1, &[])?,
+    );
+    let ends = block(Vec::new(alloc), give(alloc, &[])?);
+    let last = where_is(alloc, 0, 4294967295, ends, more)?;
+    procedure(alloc, &[], 0, block(vec![in alloc; LowStmt::Get(0)]?, last))
+}
+
+/// Gives a question mark.
+fn other(alloc: Global) -> Result<LowProc, AllocError>
+    ensures { IfOk result (λ q. procedure_of q ≡ other_tree) }
+{
+    let body = block(Vec::new(alloc), give(alloc, &[Operand::Num(63)])?);
+    procedure(alloc, &[], 1, body)
+}
+
+/// Marks the bytes of its input.
+pub fn marks(alloc: Global) -> Result<Low, AllocError>
+    ensures { IfOk result (λ low. program_of low ≡ program_tree (mark_tree ∷ other_tree ∷ [])) }
+{
+    let procs = vec![in alloc; mark(alloc)?, other(alloc)?]?;
+    Ok(Low {
+        procs: Seq::from_vec(procs),
+        start: 0,
+        argument: None,
+        globals: Seq::new(alloc),
+        width: 3,
+    })
 }

@@ -5,7 +5,7 @@ ghost use Rattle.low_code.specs.Tree.{program_of};
 ghost use Rattle.select_rows.specs.Rows.{IsRow};
 
 use crate::image::start;
-use crate::programs::{echo, nests, stuck, takes};
+use crate::programs::{echo, marks, nests, stuck, takes};
 use crate::sums::sums;
 use grin_io::{MemSink, MemSource};
 use low_code::Low;
@@ -75,6 +75,13 @@ fn five_cells_are_taken(rt: HostRuntime) -> Result<(), Fail> {
 fn frames_of_1024_bytes(rt: HostRuntime) -> Result<(), Fail> {
     let low = nests(rt.alloc())?;
     exits(&rt, rt.alloc(), &low, SMALL, b"", 5, &[b'b'; 256])
+}
+
+// The call's alternative comes first in the items, the other one falls into what follows.
+#[test]
+fn bytes_are_marked(rt: HostRuntime) -> Result<(), Fail> {
+    let low = marks(rt.alloc())?;
+    exits(&rt, rt.alloc(), &low, SMALL, b"abba", 0, b"A??A")
 }
 
 #[test]

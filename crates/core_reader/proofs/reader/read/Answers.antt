@@ -1,5 +1,6 @@
 use Rattle.std.proofs.Common.{◌≡◌, ◌≤◌, [], length, map, sym, subst, Err, Ok, arith}
 use Rattle.std.proofs.lemmas.Result.{err_from_is_err_and}
+use Rattle.core_reader.specs.declared.dialect.Dialect.TheVariants.{Core}
 use Rattle.core_reader.specs.Tree.{Program, data_of, function}
 use Rattle.core_reader.specs.Programs.{IsText}
 use Rattle.core_reader.specs.Different.{AreDifferent}
@@ -7,7 +8,7 @@ use Rattle.core_reader.specs.Readable.{IsReadable}
 use Rattle.core_reader.specs.Lexed.{texts_of}
 use Rattle.core_reader.specs.Parsed.{ReadsProgram}
 use Rattle.core_reader.proofs.Readability.{different_from}
-use Rattle.core_reader.proofs.Answers.{found, refused, too_long, program_of}
+use Rattle.core_reader.proofs.Answers.{found, found_readable, refused, too_long, program_of}
 use Rattle.core_reader.proofs.reader.read.Goals as goal
 
 pub returns-then-text-gt-MOST_BYTES-clause-refused : goal.returns-then-text-gt-MOST_BYTES-clause-refused
@@ -25,7 +26,7 @@ returns-in_err-declarations-clause-refused c =
 pub copied-requires : goal.copied-requires
 copied-requires c =
     let l = c.in_ok-lexed.ensures in
-    subst AreDifferent (sym l.named) (different_from [] l.pieces tt)
+    subst AreDifferent (sym l.named) (different_from Core [] l.pieces tt)
 
 pub returns-clause-found : goal.returns-clause-found
 returns-clause-found c =
@@ -55,7 +56,6 @@ returns-clause-readable c =
     let names = texts_of c.in_ok-lexed.lexed.names.keys in
     let decls = c.in_ok-declarations.declarations in
     let parsed : ReadsProgram lexemes (Ok decls) = subst (λ w. ReadsProgram w (Ok decls)) c.as_slice.ensures.value c.in_ok-declarations.ensures in
-    let f = found c.args.text.now lexemes names decls short c.in_ok-lexed.ensures parsed in
     let p : Program = record { names = c.in_ok-copied.field-0; constructors = map data_of c.from_vec.result; functions = map function c.from_vec-2.result } in
     let same : program_of names decls ≡ p = λ i. record { names = sym c.in_ok-copied.ensures i; constructors = map data_of (sym c.from_vec.ensures i); functions = map function (sym c.from_vec-2.ensures i) } in
-    subst IsReadable same f.readable
+    subst IsReadable same (found_readable c.args.text.now lexemes names decls short c.in_ok-lexed.ensures parsed)

@@ -1,9 +1,6 @@
-use Rattle.std.proofs.Common.{◌≡◌, take}
+use Rattle.std.proofs.Common.{take}
 use Rattle.fetch_passes.proofs.Splits.{ProcsSoFar}
 use Rattle.fetch_passes.proofs.pass.split_procs.Given as goal
 
 abbrev pub invariant-loop-proc : goal.invariant-loop-proc
-invariant-loop-proc l = record {
-  same : l.splitting.tags.now ≡ l.initial.splitting.tags.now;
-  some : ProcsSoFar l.initial.splitting.tags.now l.initial.fresh.next l.fresh.next (take l.proc-index l.procs) l.made;
-}
+invariant-loop-proc l = ProcsSoFar l.tags l.initial.fresh.next l.fresh.next (take l.proc-index l.procs) l.made

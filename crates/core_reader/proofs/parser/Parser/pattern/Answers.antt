@@ -8,6 +8,8 @@ use Rattle.core_reader.specs.Tree.{NoTerms}
 use Rattle.core_reader.specs.Machine.{AltNames, AltStart, AltArrow, AltBody, InBody, Apply, run, front}
 use Rattle.core_reader.specs.declared.syntax.Pattern.TheVariants as pattern
 use Rattle.core_reader.specs.declared.token.Token.TheVariants as word
+use Rattle.core_reader.proofs.ReadingOf.{memory_fails}
+use Rattle.core_reader.proofs.Complete.{alt_names}
 use Rattle.core_reader.proofs.Taking.{takes, halts, refuses, fails_from, no_arrow, no_arrow_names, no_pattern}
 use Rattle.core_reader.proofs.parser.Parser.pattern.Goals as goal
 
@@ -54,7 +56,7 @@ returns-in_err-names-in-Con-clause-reads c = λ k e xs.
     let n = c.in-Con.name in
     let p = c.peek-next.result.at in
     let named = takes at_most_200 (AltStart k e xs) (AltNames k e xs n p []) ts c.peek-next.result (word.Con n) ts1 c.peek-next.ensures c.in-Con.is c.advance-in-Con.ensures.rest refl in
-    rw (q.1, q.2) (fails_from c.in_err-names-in-Con.field-0.0 _ _ named (c.in_err-names-in-Con.ensures.reads (AltNames k e xs n p) (λ names m at. refl)))
+    rw (q.1, q.2) (fails_from c.in_err-names-in-Con.field-0.0 _ _ named (memory_fails c.in_err-names-in-Con.field-0.0 _ c.in_err-names-in-Con.ensures.reads))
 
 pub returns-in_err-take-in-Con-clause-reads : goal.returns-in_err-take-in-Con-clause-reads
 returns-in_err-take-in-Con-clause-reads c = λ k e xs.
@@ -65,7 +67,7 @@ returns-in_err-take-in-Con-clause-reads c = λ k e xs.
     let p = c.peek-next.result.at in
     let named = takes at_most_200 (AltStart k e xs) (AltNames k e xs n p []) ts c.peek-next.result (word.Con n) ts1 c.peek-next.ensures c.in-Con.is c.advance-in-Con.ensures.rest refl in
     let ts2 = c.names.new.self.rest.now in
-    rw (q.1, q.2) (fails_from c.in_err-take-in-Con.field-0.0 _ _ (named ∙ c.in_ok-names-in-Con.ensures.reads (AltNames k e xs n p) (λ names m at. refl))
+    rw (q.1, q.2) (fails_from c.in_err-take-in-Con.field-0.0 _ _ (named ∙ alt_names at_most_200 k e xs n p c.in_ok-names-in-Con.names.items ts1 c.names.new.self.rest.now c.in_ok-names-in-Con.ensures.reads)
     (refuses at_most_200 (AltNames k e xs n p c.in_ok-names-in-Con.names.items) ts2 c.in_err-take-in-Con.field-0.0 c.in_err-take-in-Con.ensures.takes.1 (no_arrow_names at_most_200 k e xs n p _ (front ts2).at (front ts2).token c.in_ok-names-in-Con.ensures.whole c.in_err-take-in-Con.ensures.takes.0)))
 
 pub returns-in_ok-take-in-Con-clause-reads : goal.returns-in_ok-take-in-Con-clause-reads
@@ -76,7 +78,7 @@ returns-in_ok-take-in-Con-clause-reads c = λ k e xs.
     let p = c.peek-next.result.at in
     let named = takes at_most_200 (AltStart k e xs) (AltNames k e xs n p []) ts c.peek-next.result (word.Con n) ts1 c.peek-next.ensures c.in-Con.is c.advance-in-Con.ensures.rest refl in
     let ts2 = c.names.new.self.rest.now in
-    named ∙ c.in_ok-names-in-Con.ensures.reads (AltNames k e xs n p) (λ names m at. refl)
+    named ∙ alt_names at_most_200 k e xs n p c.in_ok-names-in-Con.names.items ts1 c.names.new.self.rest.now c.in_ok-names-in-Con.ensures.reads
     ∙ takes at_most_200 (AltNames k e xs n p c.in_ok-names-in-Con.names.items) (Apply (InBody (AltBody k e xs (pattern.Con (record { name = n; at = p }) c.in_ok-names-in-Con.names.items))) NoTerms) ts2 (front ts2) word.Arrow c.take-in-Con.new.self.rest.now refl c.in_ok-take-in-Con.ensures.takes.0 c.in_ok-take-in-Con.ensures.takes.1 refl
     ∙ ap (λ w. run at_most_200 (Apply (InBody (AltBody k e xs (pattern.Con (record { name = n; at = p }) w))) NoTerms) c.take-in-Con.new.self.rest.now) (sym c.from_vec.ensures)
 

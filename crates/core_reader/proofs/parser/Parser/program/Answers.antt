@@ -1,9 +1,11 @@
 use Rattle.std.proofs.Common.{map, ◌++◌, ◌∷◌, [], ◌∙◌, ap, sym}
 use Rattle.seq.proofs.Lists.{map_push}
 use Rattle.core_reader.specs.Grammar.{at_most_200}
-use Rattle.core_reader.specs.Machine.{data_decl, function_decl, Top, front}
+use Rattle.core_reader.specs.Machine.{front}
+use Rattle.core_reader.specs.Declaring.{data_decl, function_decl, top}
 use Rattle.core_reader.specs.Tree as tree
-use Rattle.core_reader.proofs.Taking.{constructors_last, refuses, no_decl, fails_from, finishes, constructors_same, functions_last, functions_same}
+use Rattle.core_reader.proofs.Taking.{fails_from}
+use Rattle.core_reader.proofs.Declaring.{constructors_last, refuses, no_decl, finishes, constructors_same, functions_last, functions_same}
 use Rattle.core_reader.proofs.parser.Parser.program.Goals as goal
 
 pub loop-constructors-preserved-in_ok-push-in-Data : goal.loop-constructors-preserved-in_ok-push-in-Data
@@ -23,13 +25,13 @@ loop-constructors-preserved-in_ok-push-in-Data c =
 pub returns-in-End : goal.returns-in-End
 returns-in-End c =
     let i = c.loop-constructors.invariant.reads in
-    (i.0, i.1, i.2, i.3 ∙ finishes at_most_200 i.0 c.loop-constructors.self.rest.now c.peek-next.result c.peek-next.ensures c.in-End.is)
+    (i.0, i.1, i.2, i.3 ∙ finishes i.0 c.loop-constructors.self.rest.now c.peek-next.result c.peek-next.ensures c.in-End.is)
 
 pub returns-in_default : goal.returns-in_default
 returns-in_default c =
     let i = c.loop-constructors.invariant.reads in
     let ts = c.loop-constructors.self.rest.now in
-    fails_from c.refusal.result _ _ i.3 (refuses at_most_200 (Top i.0) ts c.refusal.result c.refusal.ensures
+    fails_from c.refusal.result _ _ i.3 (refuses (top i.0) ts c.refusal.result c.refusal.ensures
     (no_decl at_most_200 i.0 (front ts).at (front ts).token (λ e. c.in_default.not-Data (ap (λ y. y.token) c.peek-next.ensures ∙ e)) (λ n e. c.in_default.not-Name n (ap (λ y. y.token) c.peek-next.ensures ∙ e)) (λ e. c.in_default.not-End (ap (λ y. y.token) c.peek-next.ensures ∙ e))))
 
 pub loop-constructors-preserved : goal.loop-constructors-preserved

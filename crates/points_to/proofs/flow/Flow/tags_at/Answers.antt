@@ -3,18 +3,18 @@ use Rattle.flow_system.specs.declared.fact.Place.TheVariants.{Site}
 use Rattle.flow_system.specs.declared.fact.Part.TheVariants.{Tags as tags}
 use Rattle.flow_system.specs.declared.fact.Element.TheVariants.{Tag}
 use Rattle.points_to.specs.declared.wanted.Wanted.TheVariants.{NodeTags}
-use Rattle.points_to.specs.Known.{held}
+use Rattle.points_to.specs.Found.{known}
 use Rattle.points_to.specs.Wanted.{Lists}
 use Rattle.points_to.proofs.Read.{node_tags}
 use Rattle.points_to.proofs.Solved.{known_at, at_known}
 use Rattle.points_to.proofs.flow.Flow.tags_at.Goals as goal
 
 pub returns-clause-ascending : goal.returns-clause-ascending
-returns-clause-ascending c = (subst (Lists NodeTags (held c.args.self.now.facts (Site c.args.site.0))) (sym c.tag_entry.ensures) (c.args.self.now.at_sites c.args.site.0)).ascending
+returns-clause-ascending c = (subst (Lists NodeTags (known c.args.self.now (Site c.args.site.0))) (sym c.tag_entry.ensures) (c.args.self.now.at_sites c.args.site.0)).ascending
 
 pub returns-clause-exact : goal.returns-clause-exact
 returns-clause-exact c = λ n.
-    let H = held c.args.self.now.facts in
+    let H = known c.args.self.now in
     let q = Site c.args.site.0 in
     let l : Lists NodeTags (H q) (map (λ x. x.0) c.tag_entry.result.now) = subst (Lists NodeTags (H q)) (sym c.tag_entry.ensures) (c.args.self.now.at_sites c.args.site.0) in
     let r = node_tags (H q) (map (λ x. x.0) c.tag_entry.result.now) l n in

@@ -1,4 +1,5 @@
 use Rattle.std.proofs.Common.{map, slice_get, sym, subst}
+use Rattle.points_to.specs.Found.{known}
 use Rattle.points_to.specs.Wanted.{numbers_by}
 use Rattle.points_to.specs.Met.{tags_of_sites, Ascends}
 use Rattle.points_to.proofs.TagsInCells.{tags_met}
@@ -11,4 +12,4 @@ pub returns-clause-ascending : goal.returns-clause-ascending
 returns-clause-ascending c = (met c).ascending
 
 pub returns-clause-exact : goal.returns-clause-exact
-returns-clause-exact c = let f = c.args.self.now in tags_met f.facts f.site_tags f.var_sites f.at_sites f.cells_of_vars c.args.var.0 (map (λ t. t.0) c.tag_entry.result.now) (met c)
+returns-clause-exact c = let f = c.args.self.now in tags_met (known f) f.site_tags f.var_sites f.at_sites f.cells_of_vars c.args.var.0 (map (λ t. t.0) c.tag_entry.result.now) (met c)

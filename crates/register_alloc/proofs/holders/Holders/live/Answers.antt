@@ -1,6 +1,6 @@
 use Rattle.std.proofs.Common.{ℕ, List, rules}
 use Rattle.std.proofs.lemmas.Result.{IfOk-weaker}
-use Rattle.register_alloc.specs.Uses.{AreUses}
+use Rattle.variable_uses.specs.Uses.{AreUses}
 use Rattle.register_alloc.specs.Holders.{AreStillUsed}
 use Rattle.register_alloc.proofs.Pairs.{pairs_also}
 use Rattle.register_alloc.proofs.holders.Holders.live.Goals as goal

@@ -1,8 +1,11 @@
-use Rattle.std.proofs.Common.{arith}
-use Rattle.low_code.specs.Tree.{program_of}
+use Rattle.std.proofs.Common.{◌≡◌, ◌∷◌, ◌++◌, ◌∙◌, map, sym, ap, subst, arith}
+use Rattle.low_code.specs.Tree.{program_of, code_of, arm_of, arms_before}
+use Rattle.rv32_select.specs.Emit.{match_items}
+use Rattle.rv32_select.specs.Writable.{ArmsPlaced}
+use Rattle.seq.specs.Lists.{sum_of}
 use Rattle.rv32_select.proofs.Sending.{targets_of}
-use Rattle.rv32_select.proofs.Emitted.{arm_placed, arm_at_placed, stmt_placed, last_placed, otherwise_placed, called_there, chosen_placed, joined_placed, block_made, join_done}
-use Rattle.rv32_select.proofs.Weight.{stmt_lighter, last_lighter, join_lighter, choice_lighter, arm_lighter, arm_block_lighter}
+use Rattle.rv32_select.proofs.Emitted.{arm_placed, arm_at_placed, first_last_placed, first_last_made, arm_added, single, both_true, last_chosen, order_chosen, stmt_placed, last_placed, otherwise_placed, called_there, chosen_placed, joined_placed, block_made, join_done}
+use Rattle.rv32_select.proofs.Weight.{stmt_lighter, last_lighter, join_lighter, choice_lighter, arm_lighter, arm_block_lighter, first_lighter, arm_weight, block_weight}
 use Rattle.rv32_select.proofs.context.Context.+blocks.Goals as goal
 
 pub arm-block-requires : goal.arm-block-requires
@@ -20,13 +23,26 @@ block-end-requires t c =
     let w = last_lighter c.args.block.now in
     (omega (arith, w), (c.requires.writable, (c.requires.frame, (c.requires.targets, last_placed _ _ _ _ _ _ c.args.block.now _ _ _ _ _ _ c.as_slice-stmt-items.ensures c.loop-stmt-test.false c.loop-stmt.invariant c.requires.placed))))
 
-pub choose-block-requires : goal.choose-block-requires
-choose-block-requires t c = (omega arith, (c.requires.writable, (c.requires.frame, (c.requires.targets, otherwise_placed _ _ _ _ _ _ _ _ _ _ _ _ _ _ _ c.loop-arm-test.false c.loop-arm.invariant c.requires.placed))))
+pub arms-block-requires : goal.arms-block-requires
+arms-block-requires t c = (omega arith, (c.requires.writable, (c.requires.frame, (c.requires.targets, otherwise_placed _ _ _ _ _ _ _ _ _ _ _ _ _ _ _ c.loop-arm-test.false c.loop-arm.invariant c.requires.placed))))
 
-pub choose-arm-requires : goal.choose-arm-requires
-choose-arm-requires t c =
+pub arms-arm-requires : goal.arms-arm-requires
+arms-arm-requires t c =
     let w = arm_lighter c.args.arms.now c.loop-arm.arm-index c.arm-item.result c.loop-arm-test.true c.arm-item.is in
     (omega (arith, w), (c.requires.writable, (c.requires.frame, (c.requires.targets, arm_at_placed _ _ _ _ _ _ _ _ _ _ _ _ _ _ _ c.arm-item.result c.loop-arm-test.true c.arm-item.is c.loop-arm.invariant c.requires.placed))))
+
+pub first_last-source-requires : goal.first_last-source-requires
+first_last-source-requires t c = (c.requires.writable.0, (first_last_placed (program_of c.args.self.now.low.now) c.args.self.now.places.now c.args.first.now c.args.test c.args.arms.now (code_of c.args.otherwise.now) c.requires.test c.requires.placed).0)
+
+pub first_last-arms-requires : goal.first_last-arms-requires
+first_last-arms-requires t c =
+    let w = first_lighter c.args.first.now c.args.arms.now (block_weight c.args.otherwise.now) in
+    (omega (arith, w.0), (c.requires.writable, (c.requires.frame, (c.requires.targets, (first_last_placed (program_of c.args.self.now.low.now) c.args.self.now.places.now c.args.first.now c.args.test c.args.arms.now (code_of c.args.otherwise.now) c.requires.test c.requires.placed).1.0))))
+
+pub first_last-block-requires : goal.first_last-block-requires
+first_last-block-requires t c =
+    let w = first_lighter c.args.first.now c.args.arms.now (block_weight c.args.otherwise.now) in
+    (omega (arith, w.1), (c.requires.writable, (c.requires.frame, (c.requires.targets, (first_last_placed (program_of c.args.self.now.low.now) c.args.self.now.places.now c.args.first.now c.args.test c.args.arms.now (code_of c.args.otherwise.now) c.requires.test c.requires.placed).1.1))))
 
 pub join-block-requires : goal.join-block-requires
 join-block-requires t c = (omega arith, (c.requires.writable, (c.requires.frame, (targets_of (program_of c.args.self.now.low.now) c.args.self.now.places.now _ _ _ c.as_slice.ensures.value c.in_ok-spots.ensures c.requires.variables, c.requires.placed))))
@@ -50,3 +66,26 @@ block-returns t c = block_made _ _ _ _ _ _ c.args.block.now _ _ _ _ _ _ _ _ _ _ 
 pub stmt-returns-in-Join : goal.stmt-returns-in-Join
 stmt-returns-in-Join t c =
     join_done (program_of c.args.self.now.low.now) c.args.self.now.places.now c.args.self.now.cells c.args.self.now.stack c.args.frame.words c.args.frame.saved c.args.stmt.now _ _ _ _ _ _ _ _ c.join.result c.in-Join.is c.as_slice-in-Join.ensures c.deref.ensures c.join.ensures
+
+pub arms-loop-arm-preserved : goal.arms-loop-arm-preserved
+arms-loop-arm-preserved t c = arm_added _ _ _ _ _ _ _ _ _ c.args.arms.now c.loop-arm.arm-index c.arm-item.result _ _ _ _ _ _ c.loop-arm-test.true c.arm-item.is c.loop-arm.invariant c.in_ok-arm.ensures
+
+pub first_last-returns : goal.first_last-returns
+first_last-returns t c =
+    first_last_made (program_of c.args.self.now.low.now) c.args.self.now.places.now c.args.self.now.cells c.args.self.now.stack c.args.frame.words c.args.frame.saved c.args.to.now c.args.way c.further.result c.args.first.now c.args.test c.args.arms.now (code_of c.args.otherwise.now) _ _ _ _ _ _ _ _ _ _ c.requires.test c.in_ok-label.ensures.0 c.in_ok-label.ensures.1 c.further.ensures
+    (c.in_ok-match_to.ensures ∙ (λ i. c.in_ok-label.ensures.2 i ++ match_items c.in_ok-label.label (c.source.ensures.0 i) c.args.test.right)) c.in_ok-arms.ensures c.in_ok-put.ensures c.in_ok-block.ensures
+
+pub choose-first_last-requires : goal.choose-first_last-requires
+choose-first_last-requires t c =
+    let all : c.args.arms.now ≡ c.in-Some.first.now ∷ c.in-Some.others.now = c.in-Some.ensures.cases.0 in
+    let one = single c.in-Some.first.now.tests c.as_slice.result.now _ c.as_slice.ensures (both_true _ _ (sym c.stands_last.ensures ∙ c.if-stands_last.true)) in
+    let w = ap (λ ts. sum_of (map arm_weight ts)) all in
+    (omega (arith, w), (c.requires.writable, (c.requires.frame, (c.requires.targets, (one, subst (λ ts. ArmsPlaced (program_of c.args.self.now.low.now) c.args.self.now.places.now (arms_before (map arm_of ts) (code_of c.args.otherwise.now))) all c.requires.placed)))))
+
+pub choose-returns-then-stands_last : goal.choose-returns-then-stands_last
+choose-returns-then-stands_last t c =
+    last_chosen (program_of c.args.self.now.low.now) c.args.self.now.places.now c.args.self.now.cells c.args.self.now.stack c.args.frame.words c.args.frame.saved c.args.to.now c.args.way c.args.arms.now c.in-Some.others.now c.in-Some.first.now (code_of c.args.otherwise.now) c.stands_last.result _ _ _ _ c.in-Some.ensures.cases.0 c.stands_last.ensures c.if-stands_last.true c.in_ok-first_last-in-Some.ensures
+
+pub choose-returns-in_ok-arms-in-Some : goal.choose-returns-in_ok-arms-in-Some
+choose-returns-in_ok-arms-in-Some t c =
+    order_chosen (program_of c.args.self.now.low.now) c.args.self.now.places.now c.args.self.now.cells c.args.self.now.stack c.args.frame.words c.args.frame.saved c.args.to.now c.args.way c.args.arms.now c.in-Some.others.now c.in-Some.first.now (code_of c.args.otherwise.now) c.stands_last.result _ _ _ _ c.in-Some.ensures.cases.0 c.stands_last.ensures c.if-stands_last.false c.in_ok-arms-in-Some.ensures

@@ -1,4 +1,4 @@
-use Rattle.std.proofs.Common.{◌+◌, drop, map}
+use Rattle.std.proofs.Common.{◌+◌, ◌∷◌, drop, map}
 use Rattle.low_code.specs.Tree.{program_of, before_of, arm_of, all_before, arms_before}
 use Rattle.rv32_select.proofs.Emitted.{Towards, TowardsArms}
 use Rattle.rv32_select.proofs.Weight.{stmt_weight, end_weight, arm_weight, block_weight}
@@ -8,8 +8,8 @@ use Rattle.seq.specs.Lists.{sum_of}
 abbrev pub invariant-block-loop-stmt : goal.invariant-block-loop-stmt
 invariant-block-loop-stmt l = Towards (program_of l.self.low.now) l.self.places.now l.self.cells l.self.stack l.frame.words l.frame.saved (all_before (map before_of l.stmt-items)) (all_before (map before_of (drop l.stmt-index l.stmt-items))) l.initial.out.code l.initial.out.next l.out.code l.out.next
 
-abbrev pub invariant-choose-loop-arm : goal.invariant-choose-loop-arm
-invariant-choose-loop-arm l = TowardsArms (program_of l.self.low.now) l.self.places.now l.self.cells l.self.stack l.frame.words l.frame.saved l.to l.way (arms_before (map arm_of l.arms)) (arms_before (map arm_of (drop l.arm-index l.arms))) l.initial.out.code l.initial.out.next l.out.code l.out.next
+abbrev pub invariant-arms-loop-arm : goal.invariant-arms-loop-arm
+invariant-arms-loop-arm l = TowardsArms (program_of l.self.low.now) l.self.places.now l.self.cells l.self.stack l.frame.words l.frame.saved l.to l.way (arms_before (map arm_of l.arms)) (arms_before (map arm_of (drop l.arm-index l.arms))) l.initial.out.code l.initial.out.next l.out.code l.out.next
 
 abbrev pub decreases-block : goal.decreases-block
 decreases-block l = block_weight l.block.now
@@ -24,7 +24,13 @@ abbrev pub decreases-end : goal.decreases-end
 decreases-end l = end_weight l.end.now
 
 abbrev pub decreases-choose : goal.decreases-choose
-decreases-choose l = 1 + (sum_of (map arm_weight l.arms.now) + block_weight l.otherwise.now)
+decreases-choose l = 2 + (sum_of (map arm_weight l.arms.now) + block_weight l.otherwise.now)
+
+abbrev pub decreases-first_last : goal.decreases-first_last
+decreases-first_last l = 1 + (sum_of (map arm_weight (l.first.now ∷ l.arms.now)) + block_weight l.otherwise.now)
+
+abbrev pub decreases-arms : goal.decreases-arms
+decreases-arms l = 1 + (sum_of (map arm_weight l.arms.now) + block_weight l.otherwise.now)
 
 abbrev pub decreases-arm : goal.decreases-arm
 decreases-arm l = arm_weight l.arm.now

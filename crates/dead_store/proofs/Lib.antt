@@ -1,0 +1,17 @@
+pub mod Renaming
+pub mod Heaps
+pub mod Related
+pub mod Growing
+pub mod OneStores
+pub mod Fine
+pub mod Likeness
+pub mod Unique
+pub mod Same
+pub mod Shape
+pub mod Well
+pub mod PassContract
+pub mod Walked
+pub mod Collected
+pub mod Numbers
+pub mod Rewriting
+pub mod SiteSets

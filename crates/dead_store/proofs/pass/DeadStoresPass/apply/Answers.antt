@@ -1,0 +1,8 @@
+use Rattle.dead_store.proofs.PassContract.{is_stored, is_kept}
+use Rattle.dead_store.proofs.pass.DeadStoresPass.apply.Goals as goal
+
+pub returns-clause-shape : goal.returns-clause-shape
+returns-clause-shape c = is_stored _ _ c.requires.0 c.requires.1 c.in_ok-h.ensures
+
+pub returns-clause-meaning : goal.returns-clause-meaning
+returns-clause-meaning c = is_kept _ _ c.requires.0 c.requires.1 c.in_ok-h.ensures

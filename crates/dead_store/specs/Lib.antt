@@ -1,0 +1,6 @@
+pub mod Reads
+pub mod Staying
+pub mod Without
+pub mod Kept
+pub mod Holding
+pub mod Stored

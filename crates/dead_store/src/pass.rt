@@ -1,0 +1,70 @@
+// The pass.
+#![tactic(auto)]
+
+ghost use Rattle.std.specs.Prelude.{◌≡◌, ℕ, map, IfOk};
+ghost use Rattle.grin_syntax.specs.Tree.{procedure_of, program_of};
+ghost use Rattle.grin_meaning.specs.Ready.{IsFetchedByWords};
+ghost use Rattle.pass_ground.specs.Vectors.{OfVectors};
+ghost use Rattle.dead_store.specs.Holding.{holds};
+ghost use Rattle.dead_store.specs.Stored.{ByLeast, Stored};
+ghost use Rattle.dead_store.specs.Without.{without, without_procs};
+
+use crate::blocks::Leaving;
+use crate::left::variables_gone;
+use crate::sites::staying_sites;
+use grin_meaning::Pass;
+use grin_syntax::{Grin, Proc};
+use least_flow::least;
+use seq::Seq;
+use std::alloc::{AllocError, Global};
+use std::collections::BTreeSet;
+
+/// A cell that no fetch and no update of the program reaches, by the least solution of the
+/// program's own flow system, is not made; the number 0 stands wherever its variable stood, and a
+/// group that loses all its cells leaves its block. Global cells stay.
+pub struct DeadStores;
+
+impl Pass for DeadStores {
+    ghost takes = { λ g. OfVectors (program_of g) × IsFetchedByWords (program_of g) };
+
+    ghost gives = { λ g h. Stored (program_of g) (program_of h) };
+
+    fn apply(&self, alloc: Global, g: Grin) -> Result<Grin, AllocError> {
+        let h = without_dead_stores(alloc, g)?;
+        Ok(h)
+    }
+}
+
+/// What the pass makes of any program, whatever its runs do.
+pub fn without_dead_stores(alloc: Global, g: Grin) -> Result<Grin, AllocError>
+    ensures { IfOk result (λ h. ByLeast (program_of g) (program_of h)) }
+{
+    let flow = least(alloc, &g)?;
+    let sites = staying_sites(alloc, &g, &flow)?;
+    let h = with_cells_of(alloc, g, &sites)?;
+    Ok(h)
+}
+
+// The program with the cells of these sites alone.
+fn with_cells_of(alloc: Global, g: Grin, sites: &BTreeSet<u32>) -> Result<Grin, AllocError>
+    ensures { IfOk result (λ h. program_of h ≡ without (holds sites.now.keys) (program_of g)) }
+{
+    let gone = variables_gone(alloc, sites, g.procs.as_slice())?;
+    let leaving = Leaving { sites, gone: &gone };
+    let procs = with_bodies(alloc, &leaving, g.procs)?;
+    Ok(Grin { procs, ..g })
+}
+
+// The procedures with what stays of their bodies.
+fn with_bodies(alloc: Global, leaving: &Leaving, procs: Seq<Proc>) -> Result<Seq<Proc>, AllocError>
+    ensures { IfOk result (λ made. map procedure_of made
+        ≡ without_procs (holds leaving.now.sites.now.keys) (holds leaving.now.gone.now.keys)
+        (map procedure_of procs)) }
+{
+    let mut made = Seq::new(alloc);
+    for proc in procs.into_vec() {
+        let body = leaving.block(alloc, proc.body)?;
+        made.push(Proc { body, ..proc })?;
+    }
+    Ok(made)
+}

@@ -1,0 +1,194 @@
+// Steps from what is known to more. A step that does not follow from what is known does nothing.
+
+ghost use Rattle.std.specs.Prelude.{◌≡◌, ◌<◌, ℕ, List, length, IfOk, OnOk};
+ghost use Rattle.std.specs.List.{flat_map};
+ghost use Rattle.flow_system.specs.declared.fact.Element.{Element as Element'};
+ghost use Rattle.flow_system.specs.Inclusions.{Inclusion as Inclusion'};
+ghost use Rattle.flow_system.specs.Shown.{tables_of, inclusions_of, inclusion_of, sink_of};
+ghost use Rattle.flow_system.specs.Tables.{Tables};
+ghost use Rattle.points_to.specs.Bits.{block_words};
+ghost use Rattle.points_to.specs.Copies.{IsReached};
+ghost use Rattle.points_to.specs.Held.{In};
+ghost use Rattle.points_to.specs.Kept.{is_plain, is_elsewhere};
+
+use crate::bits::Bits;
+use crate::copies::{Copies, fresh};
+use crate::kept::Kept;
+use crate::rounds::satisfy as satisfy_plain;
+use crate::runs::WordRuns;
+use flow_system::fact::Place;
+use flow_system::inclusion::{FlowSystem, Inclusion, Sink, Source};
+use seq::Seq;
+use std::alloc::{AllocError, Global};
+
+/// A step: what an inclusion asks for that has nothing to do with cells; the value of an inclusion
+/// at a site; the word of the value with a number, at a site, for a fetch; the same for all that
+/// its variable will hold, by a tag; what is new at a variable; what is new at a fetch.
+#[derive(Clone, Copy)]
+pub enum Step {
+    Ask(u32),
+    Store(u32, u32),
+    Give(u32, u32, u32),
+    Link(u32, u32, u32, u32),
+    Pass(u32),
+    Deliver(u32),
+}
+
+/// What is known, and what of it was passed on and delivered.
+#[derive(Drop)]
+pub struct State {
+    pub kept: Kept,
+    pub copies: Copies,
+    passed: Vec<Bits>,
+    delivered: Vec<Bits>,
+    // What was new in the last step at a variable or a fetch.
+    pub newest: WordRuns,
+}
+
+// Makes empty sets up to the one with this number.
+fn grow(alloc: Global, sets: &mut Vec<Bits>, n: u32) -> Result<(), AllocError>
+    ensures { OnOk result (n < length sets.new.items) }
+{
+    'growing: while sets.len() <= n as usize {
+        sets.push(Bits::new(alloc))?;
+    }
+    Ok(())
+}
+
+// The words of blocks that are not in the set with a number, which gets them.
+fn taken(
+    alloc: Global,
+    blocks: &[(u32, u64)],
+    sets: &mut Vec<Bits>,
+    n: u32,
+) -> Result<WordRuns, AllocError>
+    ensures { IfOk result (λ words. (u : Element') → In u words
+        → In u (flat_map block_words blocks.now)) }
+{
+    grow(alloc, sets, n)?;
+    taken_from(alloc, blocks, &mut sets[n as usize])
+}
+
+fn taken_from(alloc: Global, blocks: &[(u32, u64)], set: &mut Bits) -> Result<WordRuns, AllocError>
+    ensures { IfOk result (λ words. (u : Element') → In u words
+        → In u (flat_map block_words blocks.now)) }
+{
+    let new = fresh(alloc, blocks, set)?;
+    new.put_into(set, 0)?;
+    Ok(new)
+}
+
+impl State {
+    /// Nothing is known.
+    pub fn new(alloc: Global) -> State
+        ensures { (p : Tables) → (cs : List Inclusion') → IsReached p cs result }
+    {
+        State {
+            kept: Kept::new(alloc),
+            copies: Copies::new(alloc),
+            passed: Vec::new(alloc),
+            delivered: Vec::new(alloc),
+            newest: WordRuns::new(alloc),
+        }
+    }
+
+    /// What is known in the end.
+    pub fn into_kept(self) -> Kept
+        ensures { result ≡ self.kept }
+    {
+        let State { kept, .. } = self;
+        kept
+    }
+
+    fn ask(&mut self, alloc: Global, system: &FlowSystem, n: u32) -> Result<bool, AllocError>
+        ensures { OnOk result (IsReached (tables_of system.now) (inclusions_of system.now) self.old
+            → IsReached (tables_of system.now) (inclusions_of system.now) self.new) }
+    {
+        match system.inclusions.get(n as usize) {
+            None => Ok(false),
+            Some(inclusion) => {
+                if is_plain(inclusion) {
+                    return satisfy_plain(alloc, system, &mut self.kept.facts, inclusion);
+                }
+                Ok(false)
+            }
+        }
+    }
+
+    fn pass(&mut self, alloc: Global, x: u32) -> Result<bool, AllocError>
+        ensures { OnOk result ((p : Tables) → (cs : List Inclusion')
+            → IsReached p cs self.old → IsReached p cs self.new) }
+    {
+        self.newest = taken(alloc, self.kept.facts.word_blocks(x), &mut self.passed, x)?;
+        self.copies.pass(x, self.newest.blocks())?;
+        Ok(!self.newest.blocks().is_empty())
+    }
+
+    fn deliver(&mut self, alloc: Global, g: u32) -> Result<bool, AllocError>
+        ensures { OnOk result ((p : Tables) → (cs : List Inclusion')
+            → IsReached p cs self.old → IsReached p cs self.new) }
+    {
+        self.newest = taken(alloc, self.copies.words(g), &mut self.delivered, g)?;
+        self.copies
+            .deliver(alloc, &mut self.kept.facts, g, self.newest.blocks())?;
+        Ok(!self.newest.blocks().is_empty())
+    }
+
+    /// Takes a step. Says whether something may be new.
+    pub fn take(
+        &mut self,
+        alloc: Global,
+        system: &FlowSystem,
+        step: Step,
+    ) -> Result<bool, AllocError>
+        ensures { OnOk result (IsReached (tables_of system.now) (inclusions_of system.now) self.old
+            → IsReached (tables_of system.now) (inclusions_of system.now) self.new) }
+    {
+        match step {
+            Step::Ask(n) => self.ask(alloc, system, n),
+            Step::Store(n, site) => self.kept.store(alloc, system, n, site),
+            Step::Give(g, site, n) => {
+                self.copies.give(alloc, system, &self.kept, g, site, n)?;
+                Ok(true)
+            }
+            Step::Link(g, site, n, t) => {
+                self.copies.link(alloc, system, &self.kept, g, site, n, t)
+            }
+            Step::Pass(x) => self.pass(alloc, x),
+            Step::Deliver(g) => self.deliver(alloc, g),
+        }
+    }
+}
+
+/// Whether an inclusion reads no cells, and puts nothing into cells.
+pub fn is_plain(inclusion: &Inclusion) -> bool
+    ensures { result ≡ is_plain (inclusion_of inclusion.now) }
+{
+    match inclusion {
+        Inclusion::Flows(source, sink) => match source {
+            Source::Value(_) => is_elsewhere(sink),
+            Source::ACell(_) => is_elsewhere(sink),
+            Source::ANumber => is_elsewhere(sink),
+            Source::Result(_) => is_elsewhere(sink),
+            Source::NodesAt(_) => false,
+            Source::WordAt(_, _) => false,
+            Source::EvaluatedAt(_) => false,
+            Source::Extended(_, _) => false,
+            Source::FieldsOf(_, _) => is_elsewhere(sink),
+        },
+        Inclusion::Forces(_) => false,
+        Inclusion::Applies(_, _, _) => false,
+    }
+}
+
+/// Whether a sink is no cell.
+pub fn is_elsewhere(sink: &Sink) -> bool
+    ensures { result ≡ is_elsewhere (sink_of sink.now) }
+{
+    match sink {
+        Sink::To(_) => true,
+        Sink::Result(_) => true,
+        Sink::Site(_) => false,
+        Sink::CellsAt(_) => false,
+    }
+}

@@ -1,0 +1,458 @@
+// The least solution of a system that reads cells by words alone. What reaches a cell is kept as
+// values, not as the nodes that they stand for. Copies are followed first; rounds over all
+// inclusions then add what is still missing.
+
+ghost use Rattle.std.specs.Prelude.{◌≡◌, ◌≤◌, ◌⊎◌, ℕ, ◌++◌, ◌∷◌, [], ◌||◌, ◌&&◌, Some, None, true, false, slice_get, IsTrue, OnOk, IfOk};
+ghost use Rattle.std.specs.Option.{option_copied};
+ghost use Rattle.std.specs.List.{flat_map};
+ghost use Rattle.flow_system.specs.Inclusions.{value, word_at, flows, to, into_site, into_result, cells_at};
+ghost use Rattle.flow_system.specs.Shown.{tables_of, inclusions_of, source_of, sink_of, inclusion_of};
+ghost use Rattle.flow_system.specs.Solution.{IsLeast};
+ghost use Rattle.points_to.specs.Bits.{block_numbers};
+ghost use Rattle.points_to.specs.Held.{In, in_part};
+ghost use Rattle.points_to.specs.Kept.{is_elsewhere, is_of_words, reads_no_cell, is_plain, flow_by_words, is_by_words, AllByWords, noted, noted_of, met_by, MetSound, MetExact, IsSound, solution, Steps, MetAtEnd, AllMet};
+ghost use Rattle.points_to.specs.Known.{held};
+ghost use Rattle.points_to.specs.Rows.{numbers_in, words_in, SameMembers, GetsAll};
+ghost use Rattle.points_to.specs.Stored.{stored_at, cell_stored, values_in, StoresAll};
+ghost use Rattle.points_to.specs.ValueWords.{words_of_values};
+
+use crate::ask::asked;
+use crate::bits::Bits;
+use crate::fast::copied;
+use crate::give::elements;
+use crate::kept::Kept;
+use crate::rounds::{add_all, either, satisfy as satisfy_plain};
+use crate::runs::{FactRuns, ItemRuns, WordRuns};
+use crate::stored::Stored;
+use crate::stored_tags::words_of_values;
+use flow_system::fact::{Element, Part};
+use flow_system::inclusion::{FlowSystem, Inclusion, Sink, Source};
+use grin_syntax::program::{Val, Word};
+use seq::Seq;
+use std::alloc::{AllocError, Global};
+
+// Whether a sink is no cell.
+fn is_elsewhere(sink: &Sink) -> bool
+    ensures { result ≡ is_elsewhere (sink_of sink.now) }
+{
+    match sink {
+        Sink::To(_) => true,
+        Sink::Result(_) => true,
+        Sink::Site(_) => false,
+        Sink::CellsAt(_) => false,
+    }
+}
+
+// Whether a value has no node variable.
+fn is_of_words(v: &Val) -> bool
+    ensures { result ≡ is_of_words v.now }
+{
+    match v {
+        Val::NodeVar(_) => false,
+        Val::Node(_, _) => true,
+        Val::Vector(_) => true,
+        Val::One(_) => true,
+    }
+}
+
+fn flow_by_words(source: &Source, sink: &Sink) -> bool
+    ensures { result ≡ flow_by_words (source_of source.now) (sink_of sink.now) }
+{
+    match source {
+        Source::Value(v) => either(is_elsewhere(sink), is_of_words(v)),
+        Source::ACell(_) => is_elsewhere(sink),
+        Source::ANumber => is_elsewhere(sink),
+        Source::Result(_) => is_elsewhere(sink),
+        Source::NodesAt(_) => false,
+        Source::WordAt(_, _) => is_elsewhere(sink),
+        Source::EvaluatedAt(_) => false,
+        Source::Extended(_, _) => false,
+        Source::FieldsOf(_, _) => is_elsewhere(sink),
+    }
+}
+
+// Whether an inclusion reads cells by words, if at all, and puts values alone into cells.
+fn is_by_words(inclusion: &Inclusion) -> bool
+    ensures { result ≡ is_by_words (inclusion_of inclusion.now) }
+{
+    match inclusion {
+        Inclusion::Flows(source, sink) => flow_by_words(source, sink),
+        Inclusion::Forces(_) => false,
+        Inclusion::Applies(_, _, _) => false,
+    }
+}
+
+/// Whether a system reads cells by words alone.
+pub fn reads_by_words(system: &FlowSystem) -> bool
+    ensures { IsTrue result → AllByWords (inclusions_of system.now) }
+{
+    for inclusion in system.inclusions.as_slice() {
+        if !is_by_words(inclusion) {
+            return false;
+        }
+    }
+    true
+}
+
+/// The values in the cells of variables, as far as they were noted.
+#[derive(Drop)]
+pub struct Met {
+    by_var: Vec<Option<Bits>>,
+}
+
+impl Met {
+    fn new(alloc: Global) -> Met
+        ensures { (x : ℕ) → noted (slice_get result.by_var.items x) ≡ None }
+    {
+        Met {
+            by_var: Vec::new(alloc),
+        }
+    }
+
+    // The noted values of a variable.
+    fn at(&self, x: u32) -> Option<&Bits>
+        ensures { option_copied result ≡ noted (slice_get self.now.by_var.items x) }
+    {
+        match self.by_var.get(x as usize) {
+            Some(Some(numbers)) => Some(numbers),
+            Some(None) => None,
+            None => None,
+        }
+    }
+
+    // The noted values of a word.
+    fn of_word(&self, w: Word) -> Option<&Bits>
+        ensures { option_copied result ≡ noted_of self.now w }
+    {
+        match w {
+            Word::Lit(_) => None,
+            Word::Var(x) => self.at(x.0),
+            Word::Global(_) => None,
+            Word::TagWord(_) => None,
+        }
+    }
+
+    // Notes the values of a variable.
+    fn put(&mut self, x: u32, numbers: Bits) -> Result<(), AllocError>
+        ensures { OnOk result ((y : ℕ) → (noted (slice_get self.new.by_var.items y)
+            ≡ noted (slice_get self.old.by_var.items y))
+            ⊎ ((y ≡ x) × (noted (slice_get self.new.by_var.items y) ≡ Some numbers))) }
+    {
+        'growing: while self.by_var.len() <= x as usize {
+            self.by_var.push(None)?;
+        }
+        self.by_var[x as usize] = Some(numbers);
+        Ok(())
+    }
+
+    fn note(
+        &mut self,
+        alloc: Global,
+        system: &FlowSystem,
+        kept: &Kept,
+        inclusion: &Inclusion,
+    ) -> Result<(), AllocError>
+        ensures { OnOk result (MetExact (tables_of system.now) kept.now self.old
+            → MetExact (tables_of system.now) kept.now self.new) }
+    {
+        match inclusion {
+            Inclusion::Flows(Source::WordAt(Word::Var(x), _), _) => match self.at(x.0) {
+                Some(_) => Ok(()),
+                None => {
+                    let numbers = kept.met(alloc, system, Word::Var(*x))?;
+                    self.put(x.0, numbers)
+                }
+            },
+            _ => Ok(()),
+        }
+    }
+}
+
+fn met_of(alloc: Global, system: &FlowSystem, kept: &Kept) -> Result<Met, AllocError>
+    ensures { IfOk result (MetExact (tables_of system.now) kept.now) }
+{
+    let mut met = Met::new(alloc);
+    for inclusion in system.inclusions.as_slice() {
+        met.note(alloc, system, kept, inclusion)?;
+    }
+    Ok(met)
+}
+
+fn store_at(alloc: Global, stored: &mut Stored, n: u32, cell: Element) -> Result<bool, AllocError>
+    ensures stores { OnOk result (StoresAll (stored_at stored.old) (stored_at stored.new)
+        (cell ∷ []) n) }
+    ensures still { IfOk result (λ added. added ≡ false → stored.new ≡ stored.old) }
+{
+    match cell {
+        Element::Cell(s) => stored.add(alloc, s, n),
+        Element::Tag(_) => Ok(false),
+        Element::Number => Ok(false),
+    }
+}
+
+fn store_all(
+    alloc: Global,
+    stored: &mut Stored,
+    n: u32,
+    cells: &[Element],
+) -> Result<bool, AllocError>
+    ensures stores { OnOk result (StoresAll (stored_at stored.old) (stored_at stored.new)
+        cells.now n) }
+    ensures still { IfOk result (λ added. added ≡ false → stored.new ≡ stored.old) }
+{
+    let mut added = false;
+    for cell in cells {
+        added = either(added, store_at(alloc, stored, n, *cell)?);
+    }
+    Ok(added)
+}
+
+// Stores the value of an inclusion in the cells of a word.
+fn update(
+    alloc: Global,
+    system: &FlowSystem,
+    kept: &mut Kept,
+    n: u32,
+    inclusion: &Inclusion,
+    v: &Val,
+    w: Word,
+) -> Result<bool, AllocError>
+    requires number { slice_get (inclusions_of system.now) n ≡ Some (inclusion_of inclusion.now) }
+    requires is { inclusion_of inclusion.now ≡ flows (value v.now) (cells_at w) }
+    requires of_words { is_of_words v.now ≡ true }
+    ensures steps { IfOk result (Steps (tables_of system.now) (inclusions_of system.now) kept.old
+        kept.new) }
+    ensures met { IfOk result (MetAtEnd (tables_of system.now) (inclusions_of system.now) kept.old
+        (inclusion_of inclusion.now)) }
+{
+    let mut cells = Seq::new(alloc);
+    elements(alloc, system, &kept.facts, w, &mut cells)?;
+    store_all(alloc, &mut kept.stored, n, cells.as_slice())
+}
+
+// Stores the value of an inclusion in the cells of a site.
+fn store(
+    alloc: Global,
+    system: &FlowSystem,
+    kept: &mut Kept,
+    n: u32,
+    inclusion: &Inclusion,
+    v: &Val,
+    s: u32,
+) -> Result<bool, AllocError>
+    requires number { slice_get (inclusions_of system.now) n ≡ Some (inclusion_of inclusion.now) }
+    requires is { inclusion_of inclusion.now ≡ flows (value v.now) (into_site s) }
+    requires of_words { is_of_words v.now ≡ true }
+    ensures steps { IfOk result (Steps (tables_of system.now) (inclusions_of system.now) kept.old
+        kept.new) }
+    ensures met { IfOk result (MetAtEnd (tables_of system.now) (inclusions_of system.now) kept.old
+        (inclusion_of inclusion.now)) }
+{
+    store_at(alloc, &mut kept.stored, n, Element::Cell(s))
+}
+
+// Word i of the values with these numbers.
+fn words_met(
+    alloc: Global,
+    system: &FlowSystem,
+    kept: &Kept,
+    numbers: &Bits,
+    i: u32,
+) -> Result<ItemRuns, AllocError>
+    ensures { IfOk result (λ X. SameMembers X (in_part (Part.Word 0)
+        (words_of_values (tables_of system.now) (values_in (inclusions_of system.now))
+        (held kept.now.facts) i (numbers_in numbers.now)))) }
+{
+    let mut words = WordRuns::new(alloc);
+    let values = numbers.blocks.as_slice();
+    words_of_values(alloc, system, &kept.facts, values, i, &mut words)?;
+    let mut found = Bits::new(alloc);
+    words.put_into(&mut found, 0)?;
+    let mut items = ItemRuns::new(alloc);
+    for block in found.blocks.as_slice() {
+        items.push_block(Part::Word(0), *block)?;
+    }
+    Ok(items)
+}
+
+// Word i of the values with these numbers, at a sink.
+fn fetch_met(
+    alloc: Global,
+    system: &FlowSystem,
+    kept: &mut Kept,
+    n: u32,
+    inclusion: &Inclusion,
+    w: Word,
+    i: u32,
+    sink: &Sink,
+    numbers: &Bits,
+) -> Result<bool, AllocError>
+    requires number { slice_get (inclusions_of system.now) n ≡ Some (inclusion_of inclusion.now) }
+    requires is { inclusion_of inclusion.now ≡ flows (word_at w i) (sink_of sink.now) }
+    requires elsewhere { is_elsewhere (sink_of sink.now) ≡ true }
+    requires sound { (m : ℕ) → In m (numbers_in numbers.now)
+        → In m (met_by (tables_of system.now) kept.old w) }
+    ensures steps { IfOk result (Steps (tables_of system.now) (inclusions_of system.now) kept.old
+        kept.new) }
+    ensures met { IfOk result (λ added. SameMembers (numbers_in numbers.now)
+        (met_by (tables_of system.now) kept.old w)
+        → MetAtEnd (tables_of system.now) (inclusions_of system.now) kept.old
+        (inclusion_of inclusion.now) added) }
+{
+    let items = words_met(alloc, system, kept, numbers, i)?;
+    let mut facts = FactRuns::new(alloc);
+    asked(
+        alloc,
+        system,
+        &kept.facts,
+        Some(1),
+        &items,
+        sink,
+        &mut facts,
+    )?;
+    add_all(alloc, &mut kept.facts, &facts)
+}
+
+// Word i of the nodes at the cells of a word flows to a sink.
+fn fetch(
+    alloc: Global,
+    system: &FlowSystem,
+    kept: &mut Kept,
+    met: &Met,
+    n: u32,
+    inclusion: &Inclusion,
+    w: Word,
+    i: u32,
+    sink: &Sink,
+) -> Result<bool, AllocError>
+    requires number { slice_get (inclusions_of system.now) n ≡ Some (inclusion_of inclusion.now) }
+    requires is { inclusion_of inclusion.now ≡ flows (word_at w i) (sink_of sink.now) }
+    requires elsewhere { is_elsewhere (sink_of sink.now) ≡ true }
+    requires sound { MetSound (tables_of system.now) kept.old met.now }
+    ensures steps { IfOk result (Steps (tables_of system.now) (inclusions_of system.now) kept.old
+        kept.new) }
+    ensures met { IfOk result (λ added. MetExact (tables_of system.now) kept.old met.now
+        → MetAtEnd (tables_of system.now) (inclusions_of system.now) kept.old
+        (inclusion_of inclusion.now) added) }
+{
+    match met.of_word(w) {
+        Some(numbers) => { fetch_met(alloc, system, kept, n, inclusion, w, i, sink, numbers) }
+        None => {
+            let numbers = kept.met(alloc, system, w)?;
+            fetch_met(alloc, system, kept, n, inclusion, w, i, sink, &numbers)
+        }
+    }
+}
+
+// Satisfies the inclusion that a value flows to a sink.
+fn satisfy_value(
+    alloc: Global,
+    system: &FlowSystem,
+    kept: &mut Kept,
+    n: u32,
+    inclusion: &Inclusion,
+    v: &Val,
+    sink: &Sink,
+) -> Result<bool, AllocError>
+    requires number { slice_get (inclusions_of system.now) n ≡ Some (inclusion_of inclusion.now) }
+    requires is { inclusion_of inclusion.now ≡ flows (value v.now) (sink_of sink.now) }
+    requires by_words { is_by_words (inclusion_of inclusion.now) ≡ true }
+    ensures steps { IfOk result (Steps (tables_of system.now) (inclusions_of system.now) kept.old
+        kept.new) }
+    ensures met { IfOk result (MetAtEnd (tables_of system.now) (inclusions_of system.now) kept.old
+        (inclusion_of inclusion.now)) }
+{
+    match sink {
+        Sink::To(_) => plain(alloc, system, kept, n, inclusion),
+        Sink::Result(_) => plain(alloc, system, kept, n, inclusion),
+        Sink::Site(s) => store(alloc, system, kept, n, inclusion, v, s.0),
+        Sink::CellsAt(w) => update(alloc, system, kept, n, inclusion, v, *w),
+    }
+}
+
+// Satisfies an inclusion that has nothing to do with cells.
+fn plain(
+    alloc: Global,
+    system: &FlowSystem,
+    kept: &mut Kept,
+    n: u32,
+    inclusion: &Inclusion,
+) -> Result<bool, AllocError>
+    requires number { slice_get (inclusions_of system.now) n ≡ Some (inclusion_of inclusion.now) }
+    requires plain { is_plain (inclusion_of inclusion.now) ≡ true }
+    ensures steps { IfOk result (Steps (tables_of system.now) (inclusions_of system.now) kept.old
+        kept.new) }
+    ensures met { IfOk result (MetAtEnd (tables_of system.now) (inclusions_of system.now) kept.old
+        (inclusion_of inclusion.now)) }
+{
+    satisfy_plain(alloc, system, &mut kept.facts, inclusion)
+}
+
+fn satisfy(
+    alloc: Global,
+    system: &FlowSystem,
+    kept: &mut Kept,
+    met: &Met,
+    n: u32,
+    inclusion: &Inclusion,
+) -> Result<bool, AllocError>
+    requires number { slice_get (inclusions_of system.now) n ≡ Some (inclusion_of inclusion.now) }
+    requires by_words { is_by_words (inclusion_of inclusion.now) ≡ true }
+    requires sound { MetSound (tables_of system.now) kept.old met.now }
+    ensures steps { IfOk result (Steps (tables_of system.now) (inclusions_of system.now) kept.old
+        kept.new) }
+    ensures met { IfOk result (λ added. MetExact (tables_of system.now) kept.old met.now
+        → MetAtEnd (tables_of system.now) (inclusions_of system.now) kept.old
+        (inclusion_of inclusion.now) added) }
+{
+    match inclusion {
+        Inclusion::Flows(source, sink) => match source {
+            Source::Value(v) => satisfy_value(alloc, system, kept, n, inclusion, v, sink),
+            Source::ACell(_) => plain(alloc, system, kept, n, inclusion),
+            Source::ANumber => plain(alloc, system, kept, n, inclusion),
+            Source::Result(_) => plain(alloc, system, kept, n, inclusion),
+            Source::NodesAt(_) => plain(alloc, system, kept, n, inclusion),
+            Source::WordAt(w, i) => { fetch(alloc, system, kept, met, n, inclusion, *w, *i, sink) }
+            Source::EvaluatedAt(_) => plain(alloc, system, kept, n, inclusion),
+            Source::Extended(_, _) => plain(alloc, system, kept, n, inclusion),
+            Source::FieldsOf(_, _) => plain(alloc, system, kept, n, inclusion),
+        },
+        Inclusion::Forces(_) => plain(alloc, system, kept, n, inclusion),
+        Inclusion::Applies(_, _, _) => plain(alloc, system, kept, n, inclusion),
+    }
+}
+
+// One round of all inclusions. Says whether something may be new; where nothing is, nothing is
+// wanting.
+fn round(alloc: Global, system: &FlowSystem, kept: &mut Kept) -> Result<bool, AllocError>
+    requires { AllByWords (inclusions_of system.now) }
+    ensures sound { OnOk result (IsSound (tables_of system.now) (inclusions_of system.now) kept.old
+        → IsSound (tables_of system.now) (inclusions_of system.now) kept.new) }
+    ensures done { IfOk result (λ added. IsSound (tables_of system.now) (inclusions_of system.now)
+        kept.old → added ≡ false
+        → AllMet (tables_of system.now) (inclusions_of system.now) kept.new) }
+{
+    let met = met_of(alloc, system, kept)?;
+    let mut added = false;
+    let mut n: u32 = 0;
+    for inclusion in system.inclusions.as_slice() {
+        added = either(added, satisfy(alloc, system, kept, &met, n, inclusion)?);
+        n = n.checked_add(1).ok_or(AllocError)?;
+    }
+    Ok(added)
+}
+
+/// What is known at the end: no inclusion asks for more.
+pub fn least_kept(alloc: Global, system: &FlowSystem) -> Result<Kept, AllocError>
+    requires { AllByWords (inclusions_of system.now) }
+    ensures { IfOk result (λ k. IsLeast (tables_of system.now) (inclusions_of system.now)
+        (solution (tables_of system.now) (inclusions_of system.now) k)) }
+{
+    let mut kept = copied(alloc, system)?;
+    'rounds: for _ in 0..u64::MAX {
+        if !round(alloc, system, &mut kept)? {
+            return Ok(kept);
+        }
+    }
+    Err(AllocError)
+}
