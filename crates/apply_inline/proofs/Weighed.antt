@@ -13,7 +13,7 @@ use Rattle.grin_syntax.specs.Binders.{shape_vars}
 use Rattle.grin_syntax.specs.Formed.{AllOf}
 use Rattle.grin_meaning.specs.Slim.{val_weight, target_weight, cells_weight, act_weight, code_weight, arms_weight, procs_weight, act_calls, code_calls, arms_calls, procs_calls, node_words, end_words, inner_words, code_words, arms_words, procedure_words}
 use Rattle.apply_inline.specs.Size.{shape_size, val_size, target_size, cells_size, act_size, code_size, arms_size, procedure_size, total, largest, largest_procedure}
-use Rattle.apply_inline.specs.Small.{SlimBesideItsSize}
+use Rattle.apply_inline.specs.Small.{IsLinearInSize}
 
 -- a value weighs at most 14 more than 48 times its size
 val_light : (v : V.Val) → val_weight v ≤ 14 + 48 * val_size v
@@ -151,7 +151,7 @@ procs_words_few : (most : ℕ) (qs : List Procedure) → largest procedure_size 
 procs_words_few most [] le = tt
 procs_words_few most (q ∷ qs) le = (omega (arith, code_words_few q.body), procs_words_few most qs (omega arith))
 
-pub slim : SlimBesideItsSize
+pub slim : IsLinearInSize
 slim g = record {
   light = procs_light g.procs;
   few_calls = procs_calls_few g.procs;

@@ -3,5 +3,5 @@ use Rattle.grin_syntax.specs.Tree.{Program}
 use Rattle.grin_meaning.specs.Slim.{Slim}
 use Rattle.apply_inline.specs.Size.{size, largest_procedure}
 
-abbrev pub SlimBesideItsSize : Type 0
-SlimBesideItsSize = (g : Program) → Slim (size g) (largest_procedure g) g
+abbrev pub IsLinearInSize : Type 0
+IsLinearInSize = (g : Program) → Slim (size g) (largest_procedure g) g

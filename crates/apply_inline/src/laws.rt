@@ -1,7 +1,7 @@
 // Laws on inlined programs.
 
 ghost use Rattle.apply_inline.specs.Law.{ApplyInliningKeeps, InliningKeeps};
-ghost use Rattle.apply_inline.specs.Small.{SlimBesideItsSize};
+ghost use Rattle.apply_inline.specs.Small.{IsLinearInSize};
 
 /// Inlining of both by a solution of the program's flow system keeps what the program does.
 pub fn inlining_keeps()
@@ -15,5 +15,5 @@ pub fn apply_inlining_keeps()
 
 /// Each program is small for the back end beside its own size.
 pub fn programs_are_slim()
-    ensures { SlimBesideItsSize }
+    ensures { IsLinearInSize }
 {}

@@ -8,4 +8,5 @@ mod Gathering
 mod Forms
 mod Table
 mod Said
+mod Links
 mod Order

@@ -1,11 +1,14 @@
 -- Parts are gathered in any order.
-use Rattle.std.proofs.Common.{◌≡◌, ℕ, List, [], ◌∷◌, ◌++◌, Option, Some, None, refl, sym, ap, ◌∙◌}
+use Rattle.std.proofs.Common.{◌≡◌, ℕ, Bool, true, false, codes, List, [], ◌∷◌, ◌++◌, Option, Some, None, refl, sym, ap, ◌∙◌}
 use Rattle.std.specs.Option.{option_map, option_and_then}
+use Rattle.std.specs.Str.{bytes_eq}
 use Rattle.command_line.specs.Parts.{Part, Setting, Operand}
+use Rattle.command_line.specs.Commands.{command_from}
 use Rattle.command_line.specs.Laws.{OrderIsFree}
 use Rattle.command_line.specs.Walk.{Entry, Said, nothing_said, with_value, with_part, gathered, chosen}
 use Rattle.command_line.proofs.Entries.{exchange}
 use Rattle.command_line.proofs.Table.{chosen_from}
+use Rattle.command_line.proofs.Links.{not_alone, not_alone_later}
 use Rattle.command_line.proofs.Gathering.{said_by}
 
 -- with one part and then another
@@ -60,5 +63,11 @@ gathered_exchanged (part ∷ front) s a b back = elim (with_part s part) as (λ 
 ]
 
 pub order_is_free : OrderIsFree
-order_is_free name front a b back =
-    sym (chosen_from name (front ++ (a ∷ b ∷ back))) ∙ (ap (option_and_then (chosen name)) (gathered_exchanged front nothing_said a b back) ∙ chosen_from name (front ++ (b ∷ a ∷ back)))
+order_is_free name front option value part back = by_name (bytes_eq name (codes "link")) refl where
+  by_name : (link : Bool) → bytes_eq name (codes "link") ≡ link
+      → command_from name (front ++ (Setting option value ∷ part ∷ back)) ≡ command_from name (front ++ (part ∷ Setting option value ∷ back))
+  by_name true is = rw (is, not_alone front option value (part ∷ back), not_alone_later front part option value back) refl
+  by_name false other =
+      rw other
+      (sym (chosen_from name (front ++ (Setting option value ∷ part ∷ back)))
+      ∙ (ap (option_and_then (chosen name)) (gathered_exchanged front nothing_said (Setting option value) part back) ∙ chosen_from name (front ++ (part ∷ Setting option value ∷ back))))

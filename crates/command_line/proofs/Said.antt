@@ -61,7 +61,7 @@ read_if_said (TwoWords {words = words} name value some is plain rest) =
 read_if_said (Operands words) = refl
 
 -- what a text is, by the word that it is
-data IsWord : List ℕ → Word → Type 0 where
+pub data IsWord : List ℕ → Word → Type 0 where
   ItsOperand : (text : List ℕ) → is_operand text ≡ true → IsWord text (Plain text)
   ItsOption : (name value : List ℕ) → IsName name → IsWord (codes "--" ++ (name ++ (codes "=" ++ value))) (Joined name value)
   ItsName : (name : List ℕ) → name ≢ [] → IsName name → IsWord (codes "--" ++ name) (Named name)
@@ -104,7 +104,7 @@ dashed_is b c bs true true is is' =
 dashed_is b c bs true false is is' = rw (is, is') (ItsNothing (b ∷ c ∷ bs))
 dashed_is b c bs false second is is' = rw is (ItsOperand (b ∷ c ∷ bs) (rw is refl))
 
-word_is : (text : List ℕ) → IsWord text (word_of text)
+pub word_is : (text : List ℕ) → IsWord text (word_of text)
 word_is [] = ItsOperand [] refl
 word_is (b ∷ []) = ItsOperand (b ∷ []) refl
 word_is (b ∷ c ∷ bs) = dashed_is b c bs (is_dash b) (is_dash c) refl refl

@@ -7,7 +7,7 @@ use Rattle.std.specs.Str.{bytes_eq}
 use Rattle.std.proofs.lemmas.Slice.Eq.{bytes_eq-Decides}
 use Rattle.std.proofs.lemmas.Bool.Decides.{nat_tests}
 use Rattle.command_line.specs.Parts.{Part, Setting, Operand}
-use Rattle.command_line.specs.Commands.{CommandLine, Form, operands, values, takes_only, run_form, check_form, list_form, build_form, exec_form, gen_form, asked, command_from}
+use Rattle.command_line.specs.Commands.{CommandLine, Form, operands, values, takes_only, run_form, check_form, list_form, build_form, exec_form, gen_form, by_name, asked}
 use Rattle.command_line.specs.Walk.{Said, nothing_said, option_names, value_of, sets_only, gathered, asked_said, chosen}
 use Rattle.command_line.proofs.Entries.{unset_value, unset_sets}
 use Rattle.command_line.proofs.Gathering.{Grown, Refused, TwoOperands, TwoValues, OneUnknown, gathers, and_false}
@@ -73,9 +73,9 @@ refused_asks form strict parts (TwoValues option two) = by_option (list_any (byt
       (strict.once (λ (name : List ℕ). values name parts) option (operands parts) own twice)
   by_option false other = rw (stranger form.options option other parts (omega (arith, twice))) refl
 
-pub chosen_from : (name : List ℕ) (parts : List Part) → option_and_then (chosen name) (gathered nothing_said parts) ≡ command_from name parts
+pub chosen_from : (name : List ℕ) (parts : List Part) → option_and_then (chosen name) (gathered nothing_said parts) ≡ by_name (asked parts) name
 chosen_from name parts = by_result (gathered nothing_said parts) (gathers parts nothing_said) where
-  by_result : (o : Option Said) → MatchOption o (Refused nothing_said parts) (Grown nothing_said parts) → option_and_then (chosen name) o ≡ command_from name parts
+  by_result : (o : Option Said) → MatchOption o (Refused nothing_said parts) (Grown nothing_said parts) → option_and_then (chosen name) o ≡ by_name (asked parts) name
   by_result None refused =
       rw (
         ← refused_asks run_form run_strict parts refused,
@@ -89,6 +89,6 @@ chosen_from name parts = by_result (gathered nothing_said parts) (gathers parts 
       rw (grown_asks run_form parts s has, grown_asks check_form parts s has, grown_asks list_form parts s has, grown_asks build_form parts s has, grown_asks exec_form parts s has, grown_asks gen_form parts s has) refl
 
 -- The command of what is gathered is that of the parts.
-pub chosen_from_parts : (name : List ℕ) (parts : Option (List Part)) → option_and_then (chosen name) (option_and_then (gathered nothing_said) parts) ≡ option_and_then (command_from name) parts
+pub chosen_from_parts : (name : List ℕ) (parts : Option (List Part)) → option_and_then (chosen name) (option_and_then (gathered nothing_said) parts) ≡ option_and_then (λ parts. by_name (asked parts) name) parts
 chosen_from_parts name (Some parts) = chosen_from name parts
 chosen_from_parts name None = refl

@@ -1,5 +1,5 @@
 -- The commands, and the one that the words of a command line stand for.
-use Rattle.std.specs.Prelude.{ℕ, ◌&&◌, ◌==◌, Bool, true, List, [], ◌∷◌, length, codes, Option, Some, None, if◌then◌else◌}
+use Rattle.std.specs.Prelude.{ℕ, ◌&&◌, ◌==◌, Bool, true, List, [], ◌∷◌, ◌++◌, length, map, codes, string_bytes, nat_le, Option, Some, None, if◌then◌else◌}
 use Rattle.std.specs.List.{list_any}
 use Rattle.std.specs.Option.{option_map, option_and_then}
 use Rattle.std.specs.Str.{bytes_eq}
@@ -7,8 +7,9 @@ use Rattle.command_line.specs.Numbers.{number_within}
 use Rattle.command_line.specs.Parts.{Part, Setting, Operand, parts_of}
 use Rattle.command_line.specs.declared.command.Listing.{Listing}
 use Rattle.command_line.specs.declared.command.Listing.TheVariants.{Read, Translate, Eval, Apply, Vectorise, Simplify, Fetch, Copy, Update, Unbox, Raise, Dead, Code}
+use Rattle.command_line.specs.declared.files.Files.{Files}
 use Rattle.command_line.specs.declared.command.Command.{Command}
-use Rattle.command_line.specs.declared.command.Command.TheVariants.{Run, Check, List as Listed, Build, Exec, Gen}
+use Rattle.command_line.specs.declared.command.Command.TheVariants.{Run, Check, List as Listed, Build, Exec, Gen, Link}
 
 -- what a command line asks for
 pub data CommandLine : Type 0 where
@@ -18,6 +19,11 @@ pub data CommandLine : Type 0 where
   BuildFile : (file : List ℕ) → (cells stack : ℕ) → CommandLine
   ExecImage : (image : List ℕ) → (steps : ℕ) → CommandLine
   GenRun : (seed size : ℕ) → CommandLine
+  LinkFiles : (files : List (List ℕ)) → CommandLine
+
+-- the names of files, in their order
+abbrev pub names_of : Files → List (List ℕ)
+names_of f = map string_bytes f.plain.now ++ map string_bytes f.rest.now
 
 -- what a command asks for
 abbrev pub asked_by : Command → CommandLine
@@ -27,6 +33,7 @@ asked_by (Listed file after) = ListFile file.now after
 asked_by (Build file cells stack) = BuildFile file.now cells stack
 asked_by (Exec image steps) = ExecImage image.now steps
 asked_by (Gen seed size) = GenRun seed size
+asked_by (Link files) = LinkFiles (names_of files)
 
 -- the passes that a listing can follow
 abbrev pub listing_of : List ℕ → Option Listing
@@ -65,6 +72,10 @@ takes_only options [] = true
 takes_only options (Setting name value ∷ parts) =
     list_any (bytes_eq name) options && takes_only options parts
 takes_only options (Operand text ∷ parts) = takes_only options parts
+
+-- the operands of parts that have no option
+abbrev pub operands_alone : List Part → Option (List (List ℕ))
+operands_alone parts = if takes_only [] parts then Some (operands parts) else None
 
 -- the one item of a list that has exactly one
 abbrev pub only : {T : Type 0} → List T → Option T
@@ -163,7 +174,17 @@ gen_form = record {
       (option_and_then (λ seed. option_map (GenRun seed) (size_of given)) (seed_of given));
 }
 
--- what a function says of the form that has this name, if there is one
+-- `link FILE..`, with 1 to 64 files
+abbrev pub link_form : Form
+link_form = record {
+  options = [];
+  asks =
+      λ given files.
+      if nat_le 1 (length files) && nat_le (length files) 64 then Some (LinkFiles files) else None;
+}
+
+-- what a function says of the form that has this name, if there is one that takes no more than one
+-- operand
 abbrev pub by_name : (ask : Form → Option CommandLine) → (name : List ℕ) → Option CommandLine
 by_name ask name =
     if bytes_eq name (codes "run") then ask run_form
@@ -182,7 +203,8 @@ asked parts form =
 
 -- the command of this name with these parts
 abbrev pub command_from : (name : List ℕ) → List Part → Option CommandLine
-command_from name parts = by_name (asked parts) name
+command_from name parts =
+    if bytes_eq name (codes "link") then asked parts link_form else by_name (asked parts) name
 
 -- a word without a byte
 abbrev pub is_empty : List ℕ → Bool

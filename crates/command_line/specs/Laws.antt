@@ -1,6 +1,6 @@
 -- What the definitions say by themselves.
 use Rattle.std.specs.Prelude.{◌≡◌, ℕ, ◌↔◌, List, ◌∷◌, ◌++◌, Some}
-use Rattle.command_line.specs.Parts.{Part, parts_of}
+use Rattle.command_line.specs.Parts.{Part, Setting, parts_of}
 use Rattle.command_line.specs.Grammar.{Says}
 use Rattle.command_line.specs.Commands.{command_from}
 
@@ -9,8 +9,9 @@ abbrev pub PartsAreSaid : Type 0
 PartsAreSaid =
     (words : List (List ℕ)) (parts : List Part) → (parts_of words ≡ Some parts) ↔ Says words parts
 
--- Neighbours may change places, so options and operands may stand in any order.
+-- An option and its neighbour may change places, so options stand anywhere among the operands.
 abbrev pub OrderIsFree : Type 0
 OrderIsFree =
-    (name : List ℕ) (front : List Part) (a b : Part) (back : List Part)
-    → command_from name (front ++ (a ∷ b ∷ back)) ≡ command_from name (front ++ (b ∷ a ∷ back))
+    (name : List ℕ) (front : List Part) (option value : List ℕ) (part : Part) (back : List Part)
+    → command_from name (front ++ (Setting option value ∷ part ∷ back))
+    ≡ command_from name (front ++ (part ∷ Setting option value ∷ back))

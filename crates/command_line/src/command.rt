@@ -2,11 +2,12 @@
 
 ghost use Rattle.std.specs.Prelude.{◌≡◌, map, string_bytes};
 ghost use Rattle.std.specs.Option.{option_map, option_and_then};
-ghost use Rattle.command_line.specs.Commands.{asked_by, command_from, listing_of, run_form, check_form, list_form, build_form, exec_form, gen_form};
+ghost use Rattle.command_line.specs.Commands.{asked_by, asked, command_from, listing_of, run_form, check_form, list_form, build_form, exec_form, gen_form, link_form};
 ghost use Rattle.command_line.specs.Parts.{parts_of};
 ghost use Rattle.command_line.specs.Walk.{said, asked_said, chosen};
 
 use crate::arguments::Arguments;
+use crate::files::Files;
 use crate::number::{CELLS, STACK, STEPS, seed_within, size_within};
 
 /// The pass after which a program is listed.
@@ -79,7 +80,14 @@ pub enum Command<'a> {
         seed: u32,
         size: u32,
     },
+    /// `link FILE..`: write the one text that 1 to 64 files of modules are together.
+    Link {
+        files: Files<'a>,
+    },
 }
+
+/// The most files that are linked.
+const MOST_FILES: usize = 64;
 
 impl Listing {
     /// The pass that a word of `--after` names.
@@ -111,6 +119,9 @@ impl<'a> Command<'a> {
         ensures { option_map asked_by result
             ≡ option_and_then (command_from name.now) (parts_of (map string_bytes words.now)) }
     {
+        if name == "link" {
+            return Command::link(words);
+        }
         let arguments = Arguments::read(words)?;
         Command::from_arguments(name, arguments)
     }
@@ -258,5 +269,22 @@ impl<'a> Command<'a> {
             seed: seed_within(seed)?,
             size: size_within(size)?,
         })
+    }
+
+    /// `link` with the words after it.
+    fn link(words: &'a [String]) -> Option<Command<'a>>
+        ensures { option_map asked_by result
+            ≡ option_and_then (λ parts. asked parts link_form)
+            (parts_of (map string_bytes words.now)) }
+    {
+        let files = Files::read(words)?;
+        if files.plain.len() > MOST_FILES || files.rest.len() > MOST_FILES {
+            return None;
+        }
+        let count = files.plain.len() + files.rest.len();
+        if count == 0 || count > MOST_FILES {
+            return None;
+        }
+        Some(Command::Link { files })
     }
 }

@@ -8,8 +8,8 @@ pub fn parts_are_said()
     ensures { PartsAreSaid }
 {}
 
-/// Options and operands stand in any order: two neighbours that change places leave the command as
-/// it is.
+/// Options stand anywhere among the operands: an option that changes places with its neighbour
+/// leaves the command as it is.
 pub fn order_is_free()
     ensures { OrderIsFree }
 {}

@@ -3,10 +3,12 @@
 
 mod arguments;
 mod command;
+mod files;
 pub mod laws;
 mod line;
 mod number;
 mod word;
 
 pub use command::{Command, Listing};
+pub use files::Files;
 pub use line::Line;

@@ -1,5 +1,6 @@
 pub mod Numbers
 pub mod Heap
+pub mod Forcing
 pub mod ByNeed
 pub mod Evaluation
 pub mod Printing

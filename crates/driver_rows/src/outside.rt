@@ -124,12 +124,22 @@ impl<'a> Outside<'a> {
             name: String::from_str(alloc, "a")?,
             bytes: Vec::from_slice(alloc, self.file)?,
         })?;
+        self.run_over(alloc, &line, files)
+    }
+
+    /// Runs a command line over these files.
+    pub(crate) fn run_over(
+        &self,
+        alloc: Global,
+        line: &Line,
+        files: Vec<MemFile>,
+    ) -> Result<Ended, AllocError> {
         let mut shelf = MemShelf::new(files, self.failing_calls(alloc, Object::Shelf)?);
         let bytes = Vec::from_slice(alloc, self.input)?;
         let mut input = MemSource::new(bytes, self.failing_calls(alloc, Object::Input)?);
         let mut out = MemSink::new(alloc, CAPACITY, self.failing_calls(alloc, Object::Out)?)?;
         let mut err = MemSink::new(alloc, 64, self.failing_calls(alloc, Object::Err)?)?;
-        let status = status_of(alloc, &line, &mut shelf, &mut input, &mut out, &mut err);
+        let status = status_of(alloc, line, &mut shelf, &mut input, &mut out, &mut err);
         Ok(Ended { status, out, err })
     }
 }

@@ -18,7 +18,7 @@ use Rattle.grin_compile.specs.declared.compilation.Compiled.{Compiled}
 use Rattle.grin_compile.specs.Compilation.{later, IsCompilation}
 use Rattle.grin_compile.specs.Limits.{HeapOver, FramesOver, heap_bytes, whole_words, InRange}
 use Rattle.grin_compile.specs.Made.{Made}
-use Rattle.grin_compile.specs.Parts.{HasStages, made_of, AreSizes, HasLayers}
+use Rattle.grin_compile.specs.Parts.{HasStages, lowered_stage, AreSizes, HasLayers}
 use Rattle.grin_compile.specs.Stages.{passes, AreStages}
 use Rattle.grin_compile.proofs.Frames.{few_frame_words}
 use Rattle.grin_compile.proofs.FromLayers.{image, never_missing}
@@ -39,7 +39,7 @@ sizes_of cells stack r = record {
 pub small_heap : (width cells : ℕ) → width ≤ 14 → cells ≤ 8000000 → 4 * width * cells ≤ 448000000
 small_heap width cells few cells_few = omega (arith, more_times (4 * width) 56 cells (omega (arith, few)), cells_few)
 
-pub narrow_cells : (p : core.Program) (s : Stages) (m : Layers) (cells stack : ℕ) → HasStages p s → HasLayers (made_of s) cells stack m
+pub narrow_cells : (p : core.Program) (s : Stages) (m : Layers) (cells stack : ℕ) → HasStages p s → HasLayers (lowered_stage s) cells stack m
     → (low.program_of m.low).width ≤ 14
 narrow_cells p s m cells stack stages layers = omega (arith, layers.made.lowers.width, stages.lowerable.ready.few_fields)
 
@@ -52,11 +52,11 @@ fits_layout code width cells stack some few narrow sizes = record {
 }
 
 module _ (does : ValidTranslationDoesAs) (p : core.Program) (valid : IsValid p) (cells stack : ℕ) (c : Compiled) (stages : HasStages p c.stages)
-    (layers : HasLayers (made_of c.stages) cells stack (record { low = c.low; places = c.places; code = c.code }))
+    (layers : HasLayers (lowered_stage c.stages) cells stack (record { low = c.low; places = c.places; code = c.code }))
     (is_file : c.image.items ≡ file_of c.code.items (4 * (low.program_of c.low).width * cells) stack)
     (loads : Loads c.image.items (program c.code.items (4 * (low.program_of c.low).width * cells) stack)) where
   abbrev g : grin.Program
-  g = made_of c.stages
+  g = lowered_stage c.stages
 
   abbrev l : low.Program
   l = low.program_of c.low

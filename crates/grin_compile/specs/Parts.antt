@@ -23,8 +23,8 @@ use Rattle.grin_compile.specs.Passed.{later_after, programs_of}
 use Rattle.grin_compile.specs.Stages.{passes, AreStages, IsLastSlim}
 
 -- the program of which code is made
-abbrev pub made_of : Stages → grin.Program
-made_of s = later_after s.later s.last
+abbrev pub lowered_stage : Stages → grin.Program
+lowered_stage s = later_after s.later s.last
 
 -- the programs of all stages, in their order
 abbrev pub all_programs : Stages → List grin.Program
@@ -40,9 +40,9 @@ pub record HasStages (p : core.Program) (s : Stages) : Type 0 where
   pub applied : program_of s.applied ≡ inlined solution (tr p)
   pub fits : inlined_size solution (tr p) ≤ 131072
   pub later : AreStages p passes (inlined solution (tr p)) (programs_of s.later)
-  pub last : IsLastSlim p solution (programs_of s.later) (made_of s)
+  pub last : IsLastSlim p solution (programs_of s.later) (lowered_stage s)
   pub formed : AllOf Formed (all_programs s)
-  pub lowerable : IsLowerable (made_of s)
+  pub lowerable : IsLowerable (lowered_stage s)
 
 -- the cells and the bytes of stack, in whole words
 pub record AreSizes (cells stack : ℕ) : Type 0 where

@@ -17,7 +17,7 @@ use elf32::write;
 use grin_opt::PassName;
 use grin_stages::CompileRefusal;
 use grin_syntax::Grin;
-use grin_translate::valid_translation_does_as;
+use grin_translate::translation_refines;
 use low_code::Low;
 use register_alloc::Places;
 use std::alloc::Global;
@@ -96,10 +96,10 @@ pub fn compile(alloc: Global, p: &Checked, options: Options) -> Result<Compiled,
     ensures refused { IfErr result (IsLarge (program p.now)) }
 {
     // A law: the translation does what the program means.
-    valid_translation_does_as();
+    translation_refines();
     let stack = options.stack / 4 * 4;
     let stages = all_stages(alloc, p)?;
-    let layers = layers_below(alloc, stages.made_of(), options.cells, stack)?;
+    let layers = layers_below(alloc, stages.lowered_stage(), options.cells, stack)?;
     let heap = 4 * layers.low.width * options.cells;
     let image = write(alloc, layers.code.as_slice(), heap, stack)?;
     Ok(Compiled {

@@ -3,7 +3,7 @@
 ghost use Rattle.grin_compile.specs.Layers.{LayersCompose, LayersKeepPace, LowCodeIsCarried, MadeFromLayers, SelectionCarries};
 ghost use Rattle.grin_translate.specs.Same.{ValidTranslationDoesAs};
 
-use grin_translate::valid_translation_does_as;
+use grin_translate::translation_refines;
 
 /// What was selected carries low code that is never missing.
 pub fn selection_carries()
@@ -30,5 +30,5 @@ pub fn layers_keep_pace()
 pub fn made_from_layers()
     ensures { MadeFromLayers }
 {
-    valid_translation_does_as();
+    translation_refines();
 }

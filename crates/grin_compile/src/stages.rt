@@ -5,7 +5,7 @@ ghost use Rattle.arity_check.specs.Accepted.{IsValid};
 ghost use Rattle.arity_check.specs.Program.{program};
 ghost use Rattle.grin_syntax.specs.Tree.{program_of};
 ghost use Rattle.grin_stages.specs.Stage.{Fits, IsLarge};
-ghost use Rattle.grin_compile.specs.Parts.{HasStages, made_of};
+ghost use Rattle.grin_compile.specs.Parts.{HasStages, lowered_stage};
 
 use crate::later::{Later, later_stages};
 use arity_check::normal::Checked;
@@ -29,8 +29,8 @@ pub struct Stages {
 
 impl Stages {
     /// The program of which code is made.
-    pub(crate) fn made_of(&self) -> &Grin
-        ensures { program_of result.now ≡ made_of self.now }
+    pub(crate) fn lowered_stage(&self) -> &Grin
+        ensures { program_of result.now ≡ lowered_stage self.now }
     {
         self.later.after(self.last)
     }

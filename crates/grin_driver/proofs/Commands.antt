@@ -1,7 +1,7 @@
 -- What a command line gives where nothing failed, and what it leaves where memory is wanting.
 use Rattle.std.proofs.Common.{◌≡◌, ℕ, List, Option, Some, None, refl}
 use mathlib.Core.Logic.{◌⊎◌, inl, inr}
-use Rattle.command_line.specs.Commands.{CommandLine, RunFile, CheckFile, ListFile, BuildFile, ExecImage, GenRun}
+use Rattle.command_line.specs.Commands.{CommandLine, RunFile, CheckFile, ListFile, BuildFile, ExecImage, GenRun, LinkFiles}
 use Rattle.command_line.specs.declared.command.Listing.{Listing}
 use Rattle.command_line.specs.declared.command.Listing.TheVariants as listing
 use Rattle.generator.specs.Generated.{generated}
@@ -9,14 +9,15 @@ use Rattle.grin_io.specs.Changes.{ShelfChange, SourceChange, SinkChange}
 use Rattle.grin_driver.specs.declared.status.Status.{Status}
 use Rattle.grin_driver.specs.declared.status.Status.TheVariants.{OutOfMemory, ReadFault}
 use Rattle.grin_driver.specs.Reading.{IsUnread}
-use Rattle.grin_driver.specs.Answer.{OfOperand, Answers, most_of_text, most_of_image}
+use Rattle.grin_driver.specs.Answer.{OfOperand, OfOperands, OfFiles, Answers, most_of_text, most_of_image}
 use Rattle.grin_driver.specs.After.{ListsAfter}
 use Rattle.grin_driver.specs.Building.{Builds}
+use Rattle.grin_driver.specs.Linking.{Links}
 use Rattle.grin_driver.specs.Checking.{Checks}
 use Rattle.grin_driver.specs.Execution.{IsUntouched, Execution}
 use Rattle.grin_driver.specs.Outcome.{Outcome}
 use Rattle.grin_driver.specs.Completeness.{OneAccepted, Or, NothingFailed, Gives}
-use Rattle.grin_driver.proofs.Complete.{check_gives, list_gives, build_gives, generation_gives, exec_gives, run_gives}
+use Rattle.grin_driver.proofs.Complete.{check_gives, list_gives, build_gives, generation_gives, exec_gives, run_gives, link_gives}
 
 module _ {F I K : Type 0} (f : ShelfChange F) (i : SourceChange I) (o : SinkChange K) where
   module _ (n : NothingFailed f i o) where
@@ -35,6 +36,16 @@ module _ {F I K : Type 0} (f : ShelfChange F) (i : SourceChange I) (o : SinkChan
       of_answer (inl memory) = inl memory
       of_answer (inr answer) = inr (bytes, taken, answer)
 
+    -- the same of several files
+    of_texts : (most : ℕ) (untouched : Type 0) (files : List (List ℕ)) (outcome : List (List ℕ) → Status → Type 0) (status : Status) (Answer : List (List ℕ) → Type 0)
+        → ((texts : List (List ℕ)) → outcome texts status → (status ≡ OutOfMemory) ⊎ Answer texts)
+        → OfOperands f most untouched files outcome status → (status ≡ OutOfMemory) ⊎ OfFiles f most files Answer
+    of_texts most untouched files outcome status Answer gives (inl h) = inl (unread status h.0)
+    of_texts most untouched files outcome status Answer gives (inr (texts, taken, h)) = of_answer (gives texts h) where
+      of_answer : (status ≡ OutOfMemory) ⊎ Answer texts → (status ≡ OutOfMemory) ⊎ OfFiles f most files Answer
+      of_answer (inl memory) = inl memory
+      of_answer (inr answer) = inr (texts, taken, answer)
+
     pub command_gives : OneAccepted → (command : Option CommandLine) (status : Status) → Answers f i o command status → Gives f command status
     command_gives one None status h = h.0
     command_gives one (Some (RunFile file cells stack steps)) status h =
@@ -48,6 +59,8 @@ module _ {F I K : Type 0} (f : ShelfChange F) (i : SourceChange I) (o : SinkChan
     command_gives one (Some (ExecImage image steps)) status h =
         of_bytes most_of_image (IsUntouched i o) image (λ bytes status. Execution i o bytes steps status) status _ (λ bytes. exec_gives i o n.input n.out bytes steps status) h
     command_gives one (Some (GenRun seed size)) status h = generation_gives o n.out (generated seed size) one status h.0
+    command_gives one (Some (LinkFiles files)) status h =
+        of_texts most_of_text (o.new ≡ o.old) files (λ texts status. Links o texts status) status _ (λ texts. link_gives o n.out texts status) h.0
 
   -- ---- want of memory
 
@@ -79,3 +92,5 @@ module _ {F I K : Type 0} (f : ShelfChange F) (i : SourceChange I) (o : SinkChan
   memory_untouched (Some (ExecImage image steps)) (inl h) = h.1.1
   memory_untouched (Some (ExecImage image steps)) (inr h) = h.2.1
   memory_untouched (Some (GenRun seed size)) h = h.0.1
+  memory_untouched (Some (LinkFiles files)) (inl h, same) = h.1
+  memory_untouched (Some (LinkFiles files)) (inr h, same) = h.2

@@ -10,6 +10,7 @@ use Rattle.arity_check.specs.Normal.{IsNormalForm}
 use Rattle.arity_check.specs.Program.{Program}
 use Rattle.arity_check.specs.Broken.{Broken}
 use Rattle.elf32.specs.Rules.{KeepsBelow}
+use Rattle.core_link.specs.Rules as linking
 use Rattle.grin_io.specs.Changes.{SourceChange, SinkChange}
 use Rattle.grin_io.specs.Causes.{Rose}
 use Rattle.grin_stages.specs.Stage.{Fits, HasExpandedSize}
@@ -27,6 +28,7 @@ use Rattle.grin_driver.specs.Listing.{IsLargeText, IsNotListed, Lists, Prints}
 use Rattle.grin_driver.specs.CodeListing.{ListsCode}
 use Rattle.grin_driver.specs.After.{ListsAfter}
 use Rattle.grin_driver.specs.Building.{Builds}
+use Rattle.grin_driver.specs.Linking.{Links}
 use Rattle.grin_driver.specs.Checking.{Checks}
 use Rattle.grin_driver.specs.Execution.{status_of, Execution}
 use Rattle.grin_driver.specs.Outcome.{IsNotRun, Outcome}
@@ -137,6 +139,16 @@ module _ {K : Type 0} (o : SinkChange K) (well : Rose (o.faults o.old) (o.faults
     generation_gives StepLimit h = inr (λ a. tt)
     generation_gives OutOfMemory h = inl refl
     generation_gives _ h = absurd h.0.1.1
+
+-- ---- the statuses of modules
+
+pub link_gives : {K : Type 0} (o : SinkChange K) → (Rose (o.faults o.old) (o.faults o.new) → ⊥) → (texts : List (List ℕ)) (status : Status) → Links o texts status
+    → (status ≡ OutOfMemory) ⊎ (linking.IsUnbroken texts → status ≡ Done)
+link_gives o well texts Done h = inr (λ u. refl)
+link_gives o well texts WriteFault h = absurd (well h.2.2.rose)
+link_gives o well texts (Refused k number) h = inr (λ u. absurd (u h.0.2.group k h.0.0 h.0.1 h.0.2.broken))
+link_gives o well texts OutOfMemory h = inl refl
+link_gives o well texts _ h = absurd h
 
 -- ---- the statuses of a run
 

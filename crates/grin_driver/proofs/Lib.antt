@@ -1,4 +1,5 @@
 pub mod Files
+pub mod InTurn
 pub mod Texts
 pub mod Fronts
 pub mod Unread
@@ -13,4 +14,5 @@ pub mod Complete
 pub mod Commands
 pub mod Codes
 pub mod Listings
+pub mod Linked
 pub mod Ranges

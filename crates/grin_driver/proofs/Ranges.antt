@@ -1,13 +1,13 @@
 -- What a command line asks for is within the limits.
 use Rattle.std.proofs.Common.{◌≡◌, ℕ, ◌≤◌, Bool, true, false, List, [], ◌∷◌, Option, Some, None, refl, subst, arith}
-use Rattle.std.specs.Prelude.{◌&&◌, if◌then◌else◌, nat_le, codes, IfSome, bytes_eq}
+use Rattle.std.specs.Prelude.{◌&&◌, if◌then◌else◌, nat_le, length, codes, IfSome, bytes_eq}
 use Rattle.std.specs.List.{list_any}
 use Rattle.std.specs.Option.{option_map, option_and_then}
 use Rattle.std.specs.Str.Parse.{digits_value}
 use Rattle.std.proofs.lemmas.Bool.Decides.{nat_tests}
 use Rattle.command_line.specs.Numbers.{is_number}
 use Rattle.command_line.specs.Parts.{Part, parts_of}
-use Rattle.command_line.specs.Commands.{CommandLine, RunFile, ListFile, BuildFile, ExecImage, GenRun, Form, Given, option_number, cells_of, stack_of, steps_of, run_form, check_form, list_form, build_form, exec_form, gen_form, of_operand, without_operand, asked, command_from, command_of, operands, values, takes_only, only, is_empty, seed_of, size_of}
+use Rattle.command_line.specs.Commands.{CommandLine, RunFile, ListFile, BuildFile, ExecImage, GenRun, LinkFiles, Form, Given, option_number, cells_of, stack_of, steps_of, run_form, check_form, list_form, build_form, exec_form, gen_form, link_form, of_operand, without_operand, asked, command_from, command_of, operands, values, takes_only, only, is_empty, seed_of, size_of}
 use Rattle.grin_driver.specs.Answer.{IsWithin}
 
 -- ---- of what may be none
@@ -82,6 +82,9 @@ gens_within given operands = without_any _ operands
     (some_and_then (λ seed. option_map (GenRun seed) (size_of given)) (λ seed. Unit {0}) IsWithin (seed_of given) (some_any (seed_of given)) (λ seed n.
     some_map (GenRun seed) (λ size. Unit {0}) IsWithin (size_of given) (some_any (size_of given)) (λ size m. tt)))
 
+links_within : (given : Given) (operands : List (List ℕ)) → IfSome (link_form.asks given operands) IsWithin
+links_within given operands = some_either IsWithin (nat_le 1 (length operands) && nat_le (length operands) 64) (Some (LinkFiles operands)) None tt tt
+
 -- ---- the command line
 
 asked_within : (parts : List Part) (form : Form) → ((given : Given) (operands : List (List ℕ)) → IfSome (form.asks given operands) IsWithin) → IfSome (asked parts form) IsWithin
@@ -90,12 +93,13 @@ asked_within parts form h =
 
 from_within : (name : List ℕ) (parts : List Part) → IfSome (command_from name parts) IsWithin
 from_within name parts =
-    some_either IsWithin (bytes_eq name (codes "run")) _ _ (asked_within parts run_form runs_within)
+    some_either IsWithin (bytes_eq name (codes "link")) _ _ (asked_within parts link_form links_within)
+    (some_either IsWithin (bytes_eq name (codes "run")) _ _ (asked_within parts run_form runs_within)
     (some_either IsWithin (bytes_eq name (codes "check")) _ _ (asked_within parts check_form checks_within)
     (some_either IsWithin (bytes_eq name (codes "list")) _ _ (asked_within parts list_form lists_within)
     (some_either IsWithin (bytes_eq name (codes "build")) _ _ (asked_within parts build_form builds_within)
     (some_either IsWithin (bytes_eq name (codes "exec")) _ _ (asked_within parts exec_form execs_within)
-    (some_either IsWithin (bytes_eq name (codes "gen")) _ None (asked_within parts gen_form gens_within) tt)))))
+    (some_either IsWithin (bytes_eq name (codes "gen")) _ None (asked_within parts gen_form gens_within) tt))))))
 
 commands_within : (words : List (List ℕ)) → IfSome (command_of words) IsWithin
 commands_within [] = tt

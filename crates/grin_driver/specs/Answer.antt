@@ -1,17 +1,19 @@
 -- What each status says of the words of a command line.
-use Rattle.std.specs.Prelude.{◌≡◌, ◌⊎◌, ℕ, min, List, length, Option, Some, None}
-use Rattle.command_line.specs.Commands.{CommandLine, RunFile, CheckFile, ListFile, BuildFile, ExecImage, GenRun}
+use Rattle.std.specs.Prelude.{◌≡◌, ◌⊎◌, ℕ, min, List, length, map, take, Option, Some, None}
+use Rattle.std.specs.List.{AllZip}
+use Rattle.command_line.specs.Commands.{CommandLine, RunFile, CheckFile, ListFile, BuildFile, ExecImage, GenRun, LinkFiles}
 use Rattle.grin_io.specs.Content.{file_named}
 use Rattle.grin_io.specs.Changes.{Told, ShelfChange, SourceChange, SinkChange}
 use Rattle.grin_driver.specs.declared.status.Status.{Status}
 use Rattle.grin_driver.specs.declared.status.Status.TheVariants.{Usage}
-use Rattle.grin_driver.specs.Reading.{IsUnread, open_behind}
+use Rattle.grin_driver.specs.Reading.{IsUnread, OfEach, open_behind, open_last}
 use Rattle.grin_compile.specs.Limits.{InRange}
 use Rattle.grin_driver.specs.Outcome.{Outcome}
 use Rattle.grin_driver.specs.Checking.{Checks}
 use Rattle.grin_driver.specs.After.{ListsAfter}
 use Rattle.grin_driver.specs.Building.{Builds}
 use Rattle.grin_driver.specs.Execution.{IsUntouched, Execution}
+use Rattle.grin_driver.specs.Linking.{Links}
 use Rattle.generator.specs.Generated.{generated}
 use Rattle.grin_driver.specs.Generating.{Generates}
 
@@ -41,7 +43,29 @@ abbrev pub OfOperand : {F : Type 0} → ShelfChange F → (most : ℕ) → (unto
 OfOperand f most untouched file outcome status =
     (IsUnread f status × untouched) ⊎ OfFile f most file (λ bytes. outcome bytes status)
 
--- this holds of the file that a command names, if it names one
+-- Where the shelf tells its files, these have these texts. Of each in turn as many bytes were taken
+-- as there are, but not more than the most, and the last one is still open.
+abbrev pub AreTaken : {F : Type 0} → ShelfChange F → (most : ℕ) → (files texts : List (List ℕ))
+    → Type 0
+AreTaken f most files texts =
+    AllZip (λ file text. Told (f.content f.old) (λ shelf. file_named file shelf.named ≡ Some text))
+    files texts
+    × Told (f.content f.old) (λ shelf.
+    f.content f.new ≡ Some (open_last shelf files (map (take most) texts)))
+
+-- the texts of files have this outcome
+abbrev pub OfFiles : {F : Type 0} → ShelfChange F → (most : ℕ) → (files : List (List ℕ))
+    → (outcome : List (List ℕ) → Type 0) → Type 0
+OfFiles f most files outcome =
+    (texts : List (List ℕ)) × AreTaken f most files texts × outcome texts
+
+-- The same of a status for files of which one was not read, or for all their texts.
+abbrev pub OfOperands : {F : Type 0} → ShelfChange F → (most : ℕ) → (untouched : Type 0)
+    → (files : List (List ℕ)) → (outcome : List (List ℕ) → Status → Type 0) → Status → Type 0
+OfOperands f most untouched files outcome status =
+    (IsUnread f status × untouched) ⊎ OfFiles f most files (λ texts. outcome texts status)
+
+-- this holds of the files that a command names
 abbrev pub OfNamed : (List ℕ → Type 0) → CommandLine → Type 0
 OfNamed Holds (RunFile file cells stack steps) = Holds file
 OfNamed Holds (CheckFile file) = Holds file
@@ -49,6 +73,7 @@ OfNamed Holds (ListFile file after) = Holds file
 OfNamed Holds (BuildFile file cells stack) = Holds file
 OfNamed Holds (ExecImage image steps) = Holds image
 OfNamed Holds (GenRun seed size) = Unit {0}
+OfNamed Holds (LinkFiles files) = OfEach Holds files
 
 -- what `run` and `build` ask of an image is within the limits
 abbrev pub IsWithin : CommandLine → Type 0
@@ -85,3 +110,6 @@ module _ {F I K : Type 0} (f : ShelfChange F) (i : SourceChange I) (o : SinkChan
       (λ bytes status. Execution i o bytes steps status) status
   Answers (Some (GenRun seed size)) status =
       Generates o (generated seed size) status × (f.new ≡ f.old) × (i.new ≡ i.old)
+  Answers (Some (LinkFiles files)) status =
+      OfOperands f most_of_text (o.new ≡ o.old) files (λ texts status. Links o texts status) status
+      × (i.new ≡ i.old)

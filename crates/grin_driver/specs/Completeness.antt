@@ -4,8 +4,9 @@ use Rattle.std.specs.Prelude.{◌≡◌, ◌⊎◌, ℕ, List, Option, Some, Non
 use Rattle.core_reader.specs.Tree as tree
 use Rattle.core_reader.specs.Text as reader
 use Rattle.arity_check.specs.Program.{Program}
+use Rattle.core_link.specs.Rules as linking
 use Rattle.elf32.specs.Rules.{KeepsBelow}
-use Rattle.command_line.specs.Commands.{CommandLine, RunFile, CheckFile, ListFile, BuildFile, ExecImage, GenRun}
+use Rattle.command_line.specs.Commands.{CommandLine, RunFile, CheckFile, ListFile, BuildFile, ExecImage, GenRun, LinkFiles}
 use Rattle.command_line.specs.declared.command.Listing.{Listing}
 use Rattle.command_line.specs.declared.command.Listing.TheVariants.{Read, Translate}
 use Rattle.generator.specs.Generated.{generated}
@@ -15,7 +16,7 @@ use Rattle.grin_stages.specs.Stage.{Fits}
 use Rattle.grin_driver.specs.declared.status.Status.{Status}
 use Rattle.grin_driver.specs.declared.status.Status.TheVariants.{Done, Refused, Usage, NoAlternative, HeapFull, StackFull, StepLimit, Exited, Trapped, OutOfMemory}
 use Rattle.grin_driver.specs.Text.{IsAccepted}
-use Rattle.grin_driver.specs.Answer.{OfFile, most_of_text, most_of_image}
+use Rattle.grin_driver.specs.Answer.{OfFile, OfFiles, most_of_text, most_of_image}
 
 -- ---- texts
 
@@ -100,3 +101,6 @@ module _ {F : Type 0} (f : ShelfChange F) where
       Or f most_of_image image status (λ bytes. KeepsBelow 49 bytes → IsStop status)
   Gives (Some (GenRun seed size)) status =
       (status ≡ OutOfMemory) ⊎ (IsCompilable (generated seed size) → IsGenerationsEnd status)
+  Gives (Some (LinkFiles files)) status =
+      (status ≡ OutOfMemory)
+      ⊎ OfFiles f most_of_text files (λ texts. linking.IsUnbroken texts → status ≡ Done)

@@ -9,6 +9,7 @@ pub mod Listing
 pub mod CodeListing
 pub mod After
 pub mod Building
+pub mod Linking
 pub mod Generating
 pub mod Execution
 pub mod Answer

@@ -1,5 +1,7 @@
 -- Files as they are read.
-use Rattle.std.specs.Prelude.{◌≡◌, ℕ, ◌<◌, ◌≤◌, Bool, true, false, List, length, take, Option, Some}
+use Rattle.std.specs.Prelude.{◌≡◌, ℕ, ◌<◌, ◌≤◌, Bool, true, false, List, [], ◌∷◌, ◌++◌, length, map, take, Option, Some}
+use Rattle.std.specs.List.{AllZip}
+use Rattle.seq.specs.Lists.{In}
 use Rattle.grin_io.specs.Causes.{Rose}
 use Rattle.grin_io.specs.Content.{Files, file_named}
 use Rattle.grin_io.specs.Changes.{Told, ShelfChange}
@@ -53,3 +55,35 @@ IsUnread f ReadFault =
     Rose (f.faults f.old) (f.faults f.new) × Stay (f.content f.old) (f.content f.new)
 IsUnread f OutOfMemory = Stay (f.content f.old) (f.content f.new)
 IsUnread f _ = ⊥
+
+-- ---- several files
+
+-- this holds of each of the files
+abbrev pub OfEach : (List ℕ → Type 0) → (files : List (List ℕ)) → Type 0
+OfEach Holds files = (file : List ℕ) → In file files → Holds file
+
+-- the files, where each of these was opened in turn: the last one is open behind what was read of
+-- it
+abbrev pub open_last : Files → (files fronts : List (List ℕ)) → Files
+open_last shelf [] fronts = shelf
+open_last shelf (file ∷ files) [] = shelf
+open_last shelf (file ∷ files) (front ∷ fronts) =
+    open_last (open_behind shelf file (length front)) files fronts
+
+-- each of these files has the text beside it
+abbrev pub HaveTexts : Files → (files texts : List (List ℕ)) → Type 0
+HaveTexts shelf files texts =
+    AllZip (λ file text. file_named file shelf.named ≡ Some text) files texts
+
+-- of each of these files all bytes were read, or as many as the most, and no further ones
+pub record AreRead (before now : Option Files) (most : ℕ) (files fronts : List (List ℕ))
+    : Type 0 where
+  pub front : Told before (λ shelf. (texts : List (List ℕ)) × HaveTexts shelf files texts
+      × (fronts ≡ map (take most) texts) × (now ≡ Some (open_last shelf files fronts)))
+  pub short : AllZip (λ file front. length front ≤ most) files fronts
+
+-- what was read of these files stands behind the texts that were there
+abbrev pub AddsFronts : (before now : Option Files) → (most : ℕ)
+    → (files old new : List (List ℕ)) → Type 0
+AddsFronts before now most files old new =
+    (fronts : List (List ℕ)) × AreRead before now most files fronts × (new ≡ old ++ fronts)

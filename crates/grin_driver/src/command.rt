@@ -2,14 +2,17 @@
 
 ghost use Rattle.std.specs.Prelude.{◌≡◌, ◌≤◌, Some, IfSome};
 ghost use Rattle.grin_io.specs.Changes.{of_shelf, of_source, of_sink};
-ghost use Rattle.command_line.specs.Commands.{command_of, asked_by};
+ghost use Rattle.command_line.specs.Commands.{command_of, asked_by, names_of};
+ghost use Rattle.core_link.specs.Laws.{OrderIsFree, StillUnbroken, OneModuleKeeps};
 ghost use Rattle.grin_compile.specs.Limits.{InRange};
 ghost use Rattle.grin_driver.specs.Outcome.{Outcome};
 ghost use Rattle.grin_driver.specs.Checking.{Checks};
 ghost use Rattle.grin_driver.specs.Building.{Builds};
+ghost use Rattle.grin_driver.specs.Linking.{Links};
 ghost use Rattle.grin_driver.specs.After.{ListsAfter};
 ghost use Rattle.grin_driver.specs.Execution.{Execution};
-ghost use Rattle.grin_driver.specs.Answer.{OfOperand, Answers, IsWithin, OfNamed, most_of_text, most_of_image};
+ghost use Rattle.grin_driver.specs.Reading.{OfEach};
+ghost use Rattle.grin_driver.specs.Answer.{OfOperand, OfOperands, Answers, IsWithin, OfNamed, most_of_text, most_of_image};
 ghost use Rattle.grin_driver.specs.Telling.{IsTold};
 ghost use Rattle.grin_driver.specs.Completeness.{NothingFailed, Gives};
 ghost use Rattle.grin_driver.specs.declared.status.Status.TheVariants.{OutOfMemory};
@@ -19,11 +22,13 @@ use crate::check::check_text;
 use crate::exec::exec_image;
 use crate::generate::generate;
 use crate::laws::one_accepted_program;
+use crate::link::link_texts;
 use crate::list::list_after;
-use crate::reading::read_file;
+use crate::reading::{read_file, read_files};
 use crate::run::run_text;
 use crate::status::Status;
-use command_line::{Command, Line, Listing};
+use command_line::{Command, Files, Line, Listing};
+use core_link::laws::{one_module_keeps, order_is_free, still_unbroken};
 use grin_compile::Options;
 use grin_io::{Shelf, Sink, Source};
 use std::alloc::Global;
@@ -149,6 +154,26 @@ fn exec_file<F: Shelf, I: Source, K: Sink>(
     }
 }
 
+/// Links the texts of files, and puts the text of the program that they are together.
+fn link_files<F: Shelf, K: Sink>(
+    alloc: Global,
+    files: &Files<'_>,
+    shelf: &mut F,
+    out: &mut K,
+) -> Status
+    requires { OfEach F.permitted (names_of files.now) }
+    ensures answer { OfOperands (of_shelf F.content F.faults shelf.old shelf.new) most_of_text
+        (out.new ≡ out.old) (names_of files.now) (λ texts status.
+        Links (of_sink K.put_gives K.taken K.faults out.old out.new) texts status) result }
+    ensures later { (F.faults shelf.old ≤ F.faults shelf.new)
+        × (K.faults out.old ≤ K.faults out.new) }
+{
+    match read_files(alloc, shelf, files, MOST_OF_TEXT) {
+        Ok(texts) => link_texts(alloc, &texts, out),
+        Err(status) => status,
+    }
+}
+
 /// Runs a command.
 fn run_command<F: Shelf, I: Source, K: Sink>(
     alloc: Global,
@@ -190,6 +215,7 @@ fn run_command<F: Shelf, I: Source, K: Sink>(
         }
         Command::Exec { image, steps } => exec_file(alloc, image, *steps, shelf, input, out),
         Command::Gen { seed, size } => generate(alloc, *seed, *size, out),
+        Command::Link { files } => link_files(alloc, files, shelf, out),
     }
 }
 
@@ -218,8 +244,9 @@ fn run_line<F: Shelf, I: Source, K: Sink>(
 ///
 /// `run FILE` compiles a text and runs it on the input, `check FILE` puts the line of its program,
 /// `list FILE` lists it, `build FILE` puts its image, and `exec IMAGE` runs an executable on the
-/// input; `gen` runs a generated text and puts its summary. A file is read to its end, or up to the
-/// first byte past the longest one. A fault of `err` changes no status.
+/// input; `gen` runs a generated text and puts its summary, and `link FILE..` puts the text that
+/// modules are together. A file is read to its end, or up to the first byte past the longest one. A
+/// fault of `err` changes no status.
 pub fn grinc_main<F: Shelf, I: Source, K: Sink, E: Sink>(
     alloc: Global,
     line: &Line,
@@ -238,11 +265,16 @@ pub fn grinc_main<F: Shelf, I: Source, K: Sink, E: Sink>(
         (of_sink K.put_gives K.taken K.faults out.old out.new)
         → Gives (of_shelf F.content F.faults shelf.old shelf.new) (command_of line.now) result }
     ensures memory { result ≡ OutOfMemory → out.new ≡ out.old }
+    ensures linking { OrderIsFree × (StillUnbroken × OneModuleKeeps) }
     ensures later { (F.faults shelf.old ≤ F.faults shelf.new)
         × ((I.faults input.old ≤ I.faults input.new) × (K.faults out.old ≤ K.faults out.new)) }
 {
     // A law: each accepted text has one program, so what is accepted isn't refused.
     one_accepted_program();
+    // Laws of what is linked.
+    order_is_free();
+    still_unbroken();
+    one_module_keeps();
     let status = run_line(alloc, line, shelf, input, out);
     status.tell(err);
     status

@@ -1,10 +1,13 @@
 //! Files, read up to a given number of bytes.
 
-ghost use Rattle.std.specs.Prelude.{◌≡◌, ◌<◌, ◌≤◌, true, IfOk, IfErr, length};
+ghost use Rattle.std.specs.Prelude.{◌≡◌, ◌<◌, ◌≤◌, true, IfOk, IfErr, OnOk, length, map, string_bytes};
+ghost use Rattle.command_line.specs.Commands.{names_of};
 ghost use Rattle.grin_io.specs.Changes.{of_shelf};
-ghost use Rattle.grin_driver.specs.Reading.{Reading, ReadsOn, IsRead, IsUnread};
+ghost use Rattle.grin_driver.specs.Reading.{Reading, ReadsOn, IsRead, IsUnread, OfEach, AreRead, AddsFronts};
 
 use crate::status::Status;
+use command_line::Files;
+use core_link::Texts;
 use grin_io::Shelf;
 use std::alloc::Global;
 
@@ -66,4 +69,47 @@ pub(crate) fn read_file<F: Shelf>(
         }
     }
     Ok(bytes)
+}
+
+/// Reads files one after the other, each as `read_file` does, and adds what was read of each behind
+/// the texts.
+fn add_texts<F: Shelf>(
+    alloc: Global,
+    shelf: &mut F,
+    names: &[String],
+    most: usize,
+    texts: &mut Texts,
+) -> Result<(), Status>
+    requires { OfEach F.permitted (map string_bytes names.now) }
+    ensures read { OnOk result (AddsFronts (F.content shelf.old) (F.content shelf.new) most
+        (map string_bytes names.now) texts.old texts.new) }
+    ensures unread { IfErr result (IsUnread (of_shelf F.content F.faults shelf.old shelf.new)) }
+    ensures later { F.faults shelf.old ≤ F.faults shelf.new }
+{
+    for name in names {
+        let text = read_file(alloc, shelf, name.as_str(), most)?;
+        if texts.add(text.as_slice()).is_err() {
+            return Err(Status::OutOfMemory);
+        }
+    }
+    Ok(())
+}
+
+/// The texts of files, or the first `most` bytes of each that has more.
+pub(crate) fn read_files<F: Shelf>(
+    alloc: Global,
+    shelf: &mut F,
+    files: &Files<'_>,
+    most: usize,
+) -> Result<Texts, Status>
+    requires { OfEach F.permitted (names_of files.now) }
+    ensures read { IfOk result (AreRead (F.content shelf.old) (F.content shelf.new) most
+        (names_of files.now)) }
+    ensures unread { IfErr result (IsUnread (of_shelf F.content F.faults shelf.old shelf.new)) }
+    ensures later { F.faults shelf.old ≤ F.faults shelf.new }
+{
+    let mut texts = Texts::new(alloc);
+    add_texts(alloc, shelf, files.plain, most, &mut texts)?;
+    add_texts(alloc, shelf, files.rest, most, &mut texts)?;
+    Ok(texts)
 }

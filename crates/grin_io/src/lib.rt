@@ -12,4 +12,4 @@ mod system;
 pub use memory::{MemFile, MemShelf, MemSink, MemSource};
 pub use outside::{Failed, Fault, Shelf, Sink, Source};
 pub use sure::{SureShelf, SureSource};
-pub use system::{FileShelf, StdErr, StdIn, StdOut};
+pub use system::{FileShelf, StdIn, WriterSink, std_err, std_out};

@@ -162,60 +162,42 @@ impl Source for StdIn {
     }
 }
 
-/// The standard output. It tells no content.
+/// What takes the bytes that it is given to a writer of the system. It tells no content.
 #[derive(Drop)]
-pub struct StdOut {
-    stream: Stdout,
+pub struct WriterSink<W> {
+    writer: W,
     faults: u64,
 }
 
-impl StdOut {
-    /// The output of the program, of which no call has failed.
-    pub fn new(runtime: &HostRuntime) -> StdOut
+impl<W> WriterSink<W> {
+    /// The bytes go to this writer; no call has failed.
+    pub fn over(writer: W) -> WriterSink<W>
         ensures { result.faults ≡ 0 }
     {
-        StdOut {
-            stream: runtime.stdout(),
-            faults: 0,
-        }
+        WriterSink { writer, faults: 0 }
     }
 }
 
-impl Sink for StdOut {
+impl<W: Write> Sink for WriterSink<W> {
     ghost taken = { λ _. None };
 
     ghost faults = { λ s. s.faults };
 
     fn put(&mut self, piece: &[u8]) -> Result<(), Failed> {
-        write_whole(&mut self.stream, &mut self.faults, piece)
+        write_whole(&mut self.writer, &mut self.faults, piece)
     }
 }
 
-/// The standard error. It tells no content.
-#[derive(Drop)]
-pub struct StdErr {
-    stream: Stderr,
-    faults: u64,
+/// The standard output of a program, of which no call has failed.
+pub fn std_out(runtime: &HostRuntime) -> WriterSink<Stdout>
+    ensures { result.faults ≡ 0 }
+{
+    WriterSink::over(runtime.stdout())
 }
 
-impl StdErr {
-    /// The error output of the program, of which no call has failed.
-    pub fn new(runtime: &HostRuntime) -> StdErr
-        ensures { result.faults ≡ 0 }
-    {
-        StdErr {
-            stream: runtime.stderr(),
-            faults: 0,
-        }
-    }
-}
-
-impl Sink for StdErr {
-    ghost taken = { λ _. None };
-
-    ghost faults = { λ s. s.faults };
-
-    fn put(&mut self, piece: &[u8]) -> Result<(), Failed> {
-        write_whole(&mut self.stream, &mut self.faults, piece)
-    }
+/// The error output of a program, of which no call has failed.
+pub fn std_err(runtime: &HostRuntime) -> WriterSink<Stderr>
+    ensures { result.faults ≡ 0 }
+{
+    WriterSink::over(runtime.stderr())
 }

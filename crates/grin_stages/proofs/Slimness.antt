@@ -5,7 +5,7 @@ use Rattle.grin_syntax.specs.Formed.{AllOf}
 use Rattle.grin_meaning.specs.Slim.{Slim, procedure_words}
 use Rattle.apply_inline.specs.Inlining.{inlined}
 use Rattle.apply_inline.specs.Size.{size, largest_procedure}
-use Rattle.apply_inline.specs.Small.{SlimBesideItsSize}
+use Rattle.apply_inline.specs.Small.{IsLinearInSize}
 use Rattle.vectorise.specs.Widened.{FewWords, Widened}
 use Rattle.grin_translate.specs.Translation.{tr}
 use Rattle.grin_opt.specs.declared.pass.PassName.TheVariants.{Vectorise}
@@ -26,7 +26,7 @@ widened_is_slim s most g h w slim = record {
   few_words = few_words (20 * most) g.procs h.procs w.few_words slim.few_words;
 }
 
-pub vectorised_slim : SlimBesideItsSize → VectorisedIsSlim
+pub vectorised_slim : IsLinearInSize → VectorisedIsSlim
 vectorised_slim law p h s A least =
     let from = from_pass p Vectorise h tt s in
     widened_is_slim _ _ from.g h from.shape (subst (λ g. Slim (size g) (largest_procedure g) from.g) (inlined_stage p from.g from.stage A least) (law from.g))

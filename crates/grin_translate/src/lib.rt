@@ -2,7 +2,7 @@
 //!
 //! `translate` gives exactly the program that `specs/Translation` says, with the tags of
 //! `specs/Tags` and the blocks of `specs/Blocks`. `translation_does_as` says that it does what
-//! evaluation by need does, and `valid_translation_does_as` that this holds for each program that
+//! evaluation by need does, and `translation_refines` that this holds for each program that
 //! breaks no rule. `specs/Lib` names the devices of the proofs apart.
 #![tactic(auto)]
 
@@ -64,6 +64,6 @@ pub fn translation_does_as()
 {}
 
 /// The translation of the normal form of a program that breaks no rule does what the program means.
-pub fn valid_translation_does_as()
+pub fn translation_refines()
     ensures { ValidTranslationDoesAs }
 {}

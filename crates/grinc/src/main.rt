@@ -2,7 +2,7 @@
 #![tactic(auto)]
 
 use grin_driver::{Line, Status, grinc_main};
-use grin_io::{FileShelf, StdErr, StdIn, StdOut};
+use grin_io::{FileShelf, StdIn, std_err, std_out};
 use std::env;
 use std::io::ErrorKind;
 use std::process::ExitCode;
@@ -32,8 +32,8 @@ fn words(runtime: &HostRuntime) -> Result<Line, Status> {
 fn main(runtime: HostRuntime) -> ExitCode {
     let alloc = runtime.alloc();
     let mut input = StdIn::new(&runtime);
-    let mut out = StdOut::new(&runtime);
-    let mut err = StdErr::new(&runtime);
+    let mut out = std_out(&runtime);
+    let mut err = std_err(&runtime);
     let status = match words(&runtime) {
         Ok(line) => {
             let mut shelf = FileShelf::new(runtime);

@@ -1,6 +1,6 @@
 //! Lines by command, with the edges of each number and the ways to write an option.
 
-use command_line::{Command, Line, Listing};
+use command_line::{Command, Files, Line, Listing};
 use std::alloc::{AllocError, Global};
 use std::test::Fail;
 
@@ -264,6 +264,94 @@ fn other_lines(rt: HostRuntime) -> Result<(), Fail> {
     for (words, want) in rows {
         let line = line_of(rt.alloc(), words)?;
         assert_eq!(rt; line.command(), want, "{words}");
+    }
+    Ok(())
+}
+
+/// Whether words are these names.
+fn are_named(words: &[String], names: &[&str]) -> bool {
+    let mut pairs = words.iter().zip(names.iter());
+    words.len() == names.len() && pairs.all(|(word, name)| word.as_str() == *name)
+}
+
+/// The files that a line links, if it links any.
+fn linked<'a>(line: &'a Line) -> Option<Files<'a>> {
+    match line.command() {
+        Some(Command::Link { files }) => Some(files),
+        _ => None,
+    }
+}
+
+#[test]
+fn lines_of_link(rt: HostRuntime) -> Result<(), Fail> {
+    let rows: [(&str, &[&str], &[&str]); 7] = [
+        ("grinc link a", &["a"], &[]),
+        ("grinc link b a b", &["b", "a", "b"], &[]),
+        ("grinc link - a", &["-", "a"], &[]),
+        ("grinc link -- -a b", &[], &["-a", "b"]),
+        ("grinc link a -- b", &["a"], &["b"]),
+        ("grinc link a --", &["a"], &[]),
+        ("grinc link a -- --steps --", &["a"], &["--steps", "--"]),
+    ];
+    for (words, plain, rest) in rows {
+        let line = line_of(rt.alloc(), words)?;
+        let is_named = match linked(&line) {
+            Some(files) => are_named(files.plain, plain) && are_named(files.rest, rest),
+            None => false,
+        };
+        assert!(rt; is_named, "{words}");
+    }
+    Ok(())
+}
+
+#[test]
+fn lines_of_no_link(rt: HostRuntime) -> Result<(), Fail> {
+    let lines = [
+        "grinc link",
+        "grinc link --",
+        "grinc link -a",
+        "grinc link a -b",
+        "grinc link a --steps 1",
+        "grinc link --steps=1 a",
+        "grinc link a --after read",
+        "grinc link a ",
+        "grinc Link a",
+    ];
+    for words in lines {
+        let line = line_of(rt.alloc(), words)?;
+        assert_eq!(rt; line.command(), None, "{words}");
+    }
+    Ok(())
+}
+
+#[test]
+fn many_files(rt: HostRuntime) -> Result<(), Fail> {
+    // Names before the first `--` and behind it, and whether there are 1 to 64 of them.
+    let rows = [
+        (64, 0, true),
+        (65, 0, false),
+        (0, 64, true),
+        (0, 65, false),
+        (40, 24, true),
+        (40, 25, false),
+        (64, 64, false),
+        (0, 0, false),
+    ];
+    for (before, behind, is_command) in rows {
+        let mut line = line_of(rt.alloc(), "grinc link")?;
+        for _ in 0..before {
+            line.add("a")?;
+        }
+        line.add("--")?;
+        for _ in 0..behind {
+            line.add("b")?;
+        }
+        let count = match linked(&line) {
+            Some(files) => files.plain.len() + files.rest.len(),
+            None => 0,
+        };
+        let wanted = if is_command { before + behind } else { 0 };
+        assert_eq!(rt; count, wanted, "{before} {behind}");
     }
     Ok(())
 }

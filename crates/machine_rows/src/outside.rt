@@ -3,11 +3,11 @@
 ghost use Rattle.std.specs.Prelude.{◌≡◌, true};
 
 use grin_io::{
-    Failed, FileShelf, MemFile, MemShelf, MemSink, MemSource, Shelf, Sink, Source, StdErr, StdIn,
-    StdOut, SureShelf, SureSource,
+    Failed, FileShelf, MemFile, MemShelf, MemSink, MemSource, Shelf, Sink, Source, StdIn,
+    SureShelf, SureSource, WriterSink, std_err, std_out,
 };
 use std::alloc::{AllocError, Global};
-use std::fs;
+use std::fs::{self, File};
 use std::process::Abort;
 use std::test::Fail;
 
@@ -160,8 +160,42 @@ fn files_of_the_system(rt: HostRuntime) -> Result<(), Fail> {
 #[test]
 fn streams(rt: HostRuntime) {
     assert_eq!(rt; StdIn::new(&rt).read(&mut []), Ok(0));
-    assert_eq!(rt; StdOut::new(&rt).put(b"out\n"), Ok(()));
-    assert_eq!(rt; StdErr::new(&rt).put(b"err\n"), Ok(()));
+    assert_eq!(rt; std_out(&rt).put(b"out\n"), Ok(()));
+    assert_eq!(rt; std_err(&rt).put(b"err\n"), Ok(()));
+}
+
+// A file that the test writes through the adapter of the standard output and the error output.
+const WRITTEN: &str = "written.bytes";
+
+// What the two outputs write is what they were given, in its order: the adapter is one for all
+// writers, here over a file that is read back.
+#[test]
+fn what_is_put_is_written(rt: HostRuntime) -> Result<(), Fail> {
+    let mut sink = WriterSink::over(File::create(&rt, WRITTEN)?);
+    for piece in [
+        b"grinc: ".as_slice(),
+        b"",
+        b"refused 14 at 32",
+        b"\n\x00\xff",
+    ] {
+        assert_eq!(rt; sink.put(piece), Ok(()));
+    }
+    let written = fs::read(&rt, WRITTEN)?;
+    assert_eq!(rt;
+        written.as_slice(),
+        b"grinc: refused 14 at 32\n\x00\xff".as_slice()
+    );
+    fs::remove_file(&rt, WRITTEN)?;
+    Ok(())
+}
+
+// A file that is open for reading alone takes nothing, and each put of a byte is a fault.
+#[test]
+fn writers_fail(rt: HostRuntime) -> Result<(), Fail> {
+    let mut sink = WriterSink::over(File::open(&rt, ".")?);
+    assert_eq!(rt; sink.put(b"a"), Err(Failed));
+    assert_eq!(rt; sink.put(b""), Ok(()));
+    Ok(())
 }
 
 // A directory opens and can't be read.

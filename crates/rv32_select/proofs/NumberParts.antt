@@ -12,7 +12,7 @@ use Rattle.rv32_machine.specs.Arithmetic.{plus, pattern}
 use Rattle.rv32_machine.specs.Steps.{set_reg}
 use Rattle.rv32_steps.specs.Data.{Bases}
 use Rattle.rv32_steps.specs.Straight.{value}
-use Rattle.rv32_select.specs.Emit.{is_short, upper, number_to, add_to}
+use Rattle.rv32_select.specs.Emit.{is_short, upper, load_constant, add_to}
 use Rattle.rv32_select.proofs.Straight.{Data, with_reg, Good, Does, does_to, does_on, does_lui, does_imm, does_op}
 use Rattle.rv32_machine.proofs.Registers.{set_there, set_again, set_here}
 use Rattle.rv32_isa.specs.Bits.{lower}
@@ -93,7 +93,7 @@ module _ (c : Stretch) (b : Bases) where
       does_to c b (does_on c b first second) (again d r (upper n * 4096) n)
 
   -- a register gets a number
-  pub does_number : (r n : ℕ) (d : Data) → Good c b d → 1 ≤ r → n < 2 ^ 32 → Does c b (number_to r n) d (with_reg d r n)
+  pub does_number : (r n : ℕ) (d : Data) → Good c b d → 1 ≤ r → n < 2 ^ 32 → Does c b (load_constant r n) d (with_reg d r n)
   does_number r n d g one lt = by_length (is_short n) refl
     where
       by_length : (t : Bool) → is_short n ≡ t → Does c b (if t then OpImm Addi r 0 (lower n) ∷ [] else Lui r (upper n) ∷ (if nat_eq (n % 4096) 0 then [] else OpImm Addi r r (lower n) ∷ [])) d (with_reg d r n)
@@ -112,11 +112,11 @@ module _ (c : Stretch) (b : Bases) where
     | inl e ↦
         let sum : plus (value d.regs q) (pattern (lower n)) ≡ plus (d.regs q) n = ap (λ x. plus x (pattern (lower n))) (value_is d.regs q one) ∙ ap (plus (d.regs q)) (short_part n lt e) in
         let short = does_to c b (does_imm c b Addi r q (lower n) (plus (d.regs q) n) d g sum (omega arith)) (ap (λ x. with_reg x r (plus (d.regs q) n)) (sym (nothing_set d 5))) in
-        record { scratch = d.regs 5; does = subst (λ t. Does c b (if t then OpImm Addi r q (lower n) ∷ [] else number_to 5 n ++ Op op.Add r q 5 ∷ []) d (with_reg (with_reg d 5 (d.regs 5)) r (plus (d.regs q) n))) (sym e) short }
+        record { scratch = d.regs 5; does = subst (λ t. Does c b (if t then OpImm Addi r q (lower n) ∷ [] else load_constant 5 n ++ Op op.Add r q 5 ∷ []) d (with_reg (with_reg d 5 (d.regs 5)) r (plus (d.regs q) n))) (sym e) short }
     | inr e ↦
         let first = does_number 5 n d g (omega arith) lt in
         let d1 = with_reg d 5 n in
         let left : value d1.regs q ≡ d.regs q = value_is d1.regs q one ∙ set_there d.regs 5 n q ne in
         let second = does_op c b op.Add r q 5 (plus (d.regs q) n) d1 first.good (ap (λ x. plus x n) left) (omega arith) in
-        record { scratch = n; does = subst (λ t. Does c b (if t then OpImm Addi r q (lower n) ∷ [] else number_to 5 n ++ Op op.Add r q 5 ∷ []) d (with_reg d1 r (plus (d.regs q) n))) (sym e) (does_on c b first second) }
+        record { scratch = n; does = subst (λ t. Does c b (if t then OpImm Addi r q (lower n) ∷ [] else load_constant 5 n ++ Op op.Add r q 5 ∷ []) d (with_reg d1 r (plus (d.regs q) n))) (sym e) (does_on c b first second) }
   ]

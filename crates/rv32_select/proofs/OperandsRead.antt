@@ -10,7 +10,7 @@ use Rattle.rv32_steps.specs.Straight.{value}
 use Rattle.parallel_move.specs.declared.Spot.{Spot}
 use Rattle.parallel_move.specs.declared.Spot.TheVariants.{Reg, Slot, Scratch}
 use Rattle.parallel_move.specs.Moves.{Values, same}
-use Rattle.rv32_select.specs.Emit.{number_to, move_to, target, keep, held, hold, number_into, set_code}
+use Rattle.rv32_select.specs.Emit.{load_constant, move_to, target, keep, held, hold, number_into, set_code}
 use Rattle.rv32_select.specs.declared.source.Source.{Source}
 use Rattle.rv32_select.specs.declared.source.Source.TheVariants.{At, Number}
 use Rattle.rv32_select.proofs.Straight.{Data, with_reg, Good, Does, does_nothing, does_to, does_on}
@@ -71,11 +71,11 @@ module _ (c : Stretch) (b : Bases) (j slots : ℕ) where
   holds r (At Scratch) d g f lo hi ok = absurd (ok.1 refl)
   holds r (Number n) d g f lo hi ok = by_zero (nat_eq n 0) refl
     where
-      made : (t : Bool) → nat_eq n 0 ≡ t → (own : ℕ) → Does c b (if t then [] else number_to r n) d (with_reg (with_reg d 7 (d.regs 7)) r own) → value (set_reg (set_reg d.regs 7 (d.regs 7)) r own) (if t then 0 else r) ≡ n → Held r (Number n) d
+      made : (t : Bool) → nat_eq n 0 ≡ t → (own : ℕ) → Does c b (if t then [] else load_constant r n) d (with_reg (with_reg d 7 (d.regs 7)) r own) → value (set_reg (set_reg d.regs 7 (d.regs 7)) r own) (if t then 0 else r) ≡ n → Held r (Number n) d
       made t e own does is = record {
         seven = d.regs 7;
         own = own;
-        does = subst (λ x. Does c b (if x then [] else number_to r n) d (with_reg (with_reg d 7 (d.regs 7)) r own)) (sym e) does;
+        does = subst (λ x. Does c b (if x then [] else load_constant r n) d (with_reg (with_reg d 7 (d.regs 7)) r own)) (sym e) does;
         value_is' = ap (λ x. value (set_reg (set_reg d.regs 7 (d.regs 7)) r own) (if x then 0 else r)) e ∙ is;
       }
 

@@ -21,7 +21,7 @@ use Rattle.rv32_items.specs.declared.Cond.TheVariants.{Ltu}
 use Rattle.rv32_items.specs.declared.Item.{Item}
 use Rattle.rv32_items.specs.declared.Item.TheVariants.{Branch}
 use Rattle.rv32_items.specs.Course.{Layout, label_from}
-use Rattle.rv32_select.specs.Emit.{plain, add_to, number_to, argument_spots, parameters_code, entry_items}
+use Rattle.rv32_select.specs.Emit.{plain, add_to, load_constant, argument_spots, parameters_code, entry_items}
 use Rattle.rv32_select.specs.IsSelected.{stack_end}
 use Rattle.rv32_select.proofs.Courses.{Stands, front, back}
 use Rattle.rv32_select.proofs.Straight.{Data, with_reg, with_stack, Good, Does, does_nothing, does_on, does_store_stack, at}
@@ -108,10 +108,10 @@ module _ (l : Program) (a : Assignment) (cells stack : ℕ) (lay : Layout) (item
     pub same : (r : ℕ) → r ≢ 2 → r ≢ 5 → to.regs r ≡ d.regs r
     pub heap : to.heap ≡ d.heap
     pub stack' : to.stack ≡ d.stack
-    pub ran : Ran lay items begins (at (bases stack) lay items p d) calls w (at (bases stack) lay items (p + length (plain (add_to 2 2 (negated (4 * words_at a f)) ++ number_to 5 (stack_end - stack)))) to) calls w
+    pub ran : Ran lay items begins (at (bases stack) lay items p d) calls w (at (bases stack) lay items (p + length (plain (add_to 2 2 (negated (4 * words_at a f)) ++ load_constant 5 (stack_end - stack)))) to) calls w
     pub five : to.regs 5 ≡ stack_end - stack
 
-  frame_tested : (bound p : ℕ) (d : Data) (calls : List ℕ) (w : World) (rest : List Item) → Good lay.code (bases stack) d → Stands items p (plain (add_to 2 2 (negated (4 * words_at a f)) ++ number_to 5 (stack_end - stack))) → FrameTested bound p d calls w rest
+  frame_tested : (bound p : ℕ) (d : Data) (calls : List ℕ) (w : World) (rest : List Item) → Good lay.code (bases stack) d → Stands items p (plain (add_to 2 2 (negated (4 * words_at a f)) ++ load_constant 5 (stack_end - stack))) → FrameTested bound p d calls w rest
   frame_tested bound p d calls w rest g stands =
       let x = plus (d.regs 2) (negated (4 * words_at a f)) in
       let add = does_add lay.code (bases stack) 2 2 (negated (4 * words_at a f)) d g (omega arith) (omega arith) (omega arith) in
@@ -126,7 +126,7 @@ module _ (l : Program) (a : Assignment) (cells stack : ℕ) (lay : Layout) (item
         same = λ r n2 n5. set_there d1.regs 5 (stack_end - stack) r n5 ∙ set_there (set_reg d.regs 5 add.scratch) 2 x r n2 ∙ set_there d.regs 5 add.scratch r n5;
         heap = refl;
         stack' = refl;
-        ran = plain_ran l a cells stack lay items begins (add_to 2 2 (negated (4 * words_at a f)) ++ number_to 5 (stack_end - stack)) p d to calls w g does stands;
+        ran = plain_ran l a cells stack lay items begins (add_to 2 2 (negated (4 * words_at a f)) ++ load_constant 5 (stack_end - stack)) p d to calls w g does stands;
         five = refl;
       }
 
@@ -165,14 +165,14 @@ module _ (l : Program) (a : Assignment) (cells stack : ℕ) (lay : Layout) (item
     labelled : Ran lay items begins (at (bases stack) lay items t d) (m ∷ outer) w (at (bases stack) lay items (suc t) d) (m ∷ outer) (spent f (under + words_at a f) left w)
     labelled = enters lay items begins f (under + words_at a f) left w (s.begins_procedures f (slice_get_within l.procs f q is_q)) units (passes (bases stack) lay items t f d w.input (m ∷ outer) entry_stands.0)
 
-    rest_stands : Stands items (suc t) (plain (add_to 2 2 (negated (4 * words_at a f)) ++ number_to 5 (stack_end - stack)) ++ (Branch Ltu 2 5 (2 + length l.procs) ∷ plain (Store Sw 1 2 (pos 0) ∷ parameters_code 0 (map (place_of a) q.params))))
-    rest_stands = front items (suc t) (plain (add_to 2 2 (negated (4 * words_at a f)) ++ number_to 5 (stack_end - stack)) ++ (Branch Ltu 2 5 (2 + length l.procs) ∷ plain (Store Sw 1 2 (pos 0) ∷ parameters_code 0 (map (place_of a) q.params)))) at_stands.emits.block entry_stands.1
+    rest_stands : Stands items (suc t) (plain (add_to 2 2 (negated (4 * words_at a f)) ++ load_constant 5 (stack_end - stack)) ++ (Branch Ltu 2 5 (2 + length l.procs) ∷ plain (Store Sw 1 2 (pos 0) ∷ parameters_code 0 (map (place_of a) q.params))))
+    rest_stands = front items (suc t) (plain (add_to 2 2 (negated (4 * words_at a f)) ++ load_constant 5 (stack_end - stack)) ++ (Branch Ltu 2 5 (2 + length l.procs) ∷ plain (Store Sw 1 2 (pos 0) ∷ parameters_code 0 (map (place_of a) q.params)))) at_stands.emits.block entry_stands.1
 
     tested : FrameTested bound (suc t) d (m ∷ outer) (spent f (under + words_at a f) left w) []
-    tested = frame_tested bound (suc t) d (m ∷ outer) (spent f (under + words_at a f) left w) [] h.good (front items (suc t) (plain (add_to 2 2 (negated (4 * words_at a f)) ++ number_to 5 (stack_end - stack))) (Branch Ltu 2 5 (2 + length l.procs) ∷ plain (Store Sw 1 2 (pos 0) ∷ parameters_code 0 (map (place_of a) q.params))) rest_stands)
+    tested = frame_tested bound (suc t) d (m ∷ outer) (spent f (under + words_at a f) left w) [] h.good (front items (suc t) (plain (add_to 2 2 (negated (4 * words_at a f)) ++ load_constant 5 (stack_end - stack))) (Branch Ltu 2 5 (2 + length l.procs) ∷ plain (Store Sw 1 2 (pos 0) ∷ parameters_code 0 (map (place_of a) q.params))) rest_stands)
 
-    branch_stands : Stands items (suc t + length (plain (add_to 2 2 (negated (4 * words_at a f)) ++ number_to 5 (stack_end - stack)))) (Branch Ltu 2 5 (2 + length l.procs) ∷ plain (Store Sw 1 2 (pos 0) ∷ parameters_code 0 (map (place_of a) q.params)))
-    branch_stands = back items (suc t) (plain (add_to 2 2 (negated (4 * words_at a f)) ++ number_to 5 (stack_end - stack))) (Branch Ltu 2 5 (2 + length l.procs) ∷ plain (Store Sw 1 2 (pos 0) ∷ parameters_code 0 (map (place_of a) q.params))) rest_stands
+    branch_stands : Stands items (suc t + length (plain (add_to 2 2 (negated (4 * words_at a f)) ++ load_constant 5 (stack_end - stack)))) (Branch Ltu 2 5 (2 + length l.procs) ∷ plain (Store Sw 1 2 (pos 0) ∷ parameters_code 0 (map (place_of a) q.params)))
+    branch_stands = back items (suc t) (plain (add_to 2 2 (negated (4 * words_at a f)) ++ load_constant 5 (stack_end - stack))) (Branch Ltu 2 5 (2 + length l.procs) ∷ plain (Store Sw 1 2 (pos 0) ∷ parameters_code 0 (map (place_of a) q.params))) rest_stands
 
     -- no room for the frame
     pub stack_is_full : stack < 4 * (under + words_at a f) → Ends lay items begins (at (bases stack) lay items t d) (m ∷ outer) w (spent f (under + words_at a f) left w) 5
@@ -180,7 +180,7 @@ module _ (l : Program) (a : Assignment) (cells stack : ℕ) (lay : Layout) (item
         let z = tested in
         let few = s.stack_few in
         let small = pf.small in
-        let n = suc t + length (plain (add_to 2 2 (negated (4 * words_at a f)) ++ number_to 5 (stack_end - stack))) in
+        let n = suc t + length (plain (add_to 2 2 (negated (4 * words_at a f)) ++ load_constant 5 (stack_end - stack))) in
         let sum : plus (d.regs 2) (negated (4 * words_at a f)) < stack_end - stack = omega arith in
         let low : nat_lt (z.to.regs 2) (z.to.regs 5) ≡ true = let x = z.sp in let y = z.five in let lt : z.to.regs 2 < z.to.regs 5 = omega arith in grind (arith, nat_tests) in
         let stop = stack_full_stop l a cells stack lay items begins s in
@@ -196,7 +196,7 @@ module _ (l : Program) (a : Assignment) (cells stack : ℕ) (lay : Layout) (item
         let small = pf.small in
         let words = pf.words in
         let j = bound - (1 + pf.slots) in
-        let n = suc t + length (plain (add_to 2 2 (negated (4 * words_at a f)) ++ number_to 5 (stack_end - stack))) in
+        let n = suc t + length (plain (add_to 2 2 (negated (4 * words_at a f)) ++ load_constant 5 (stack_end - stack))) in
         let sum : plus (d.regs 2) (negated (4 * words_at a f)) ≡ (bases stack).stack + 4 * (bound - (1 + pf.slots)) = omega arith in
         let on : nat_lt (z.to.regs 2) (z.to.regs 5) ≡ false = let x = z.sp in let y = z.five in let le : z.to.regs 5 ≤ z.to.regs 2 = omega arith in grind (arith, nat_tests) in
         let step = goes_on (bases stack) lay items n (2 + length l.procs) 2 5 Ltu z.to w.input (m ∷ outer) branch_stands.0 on in
@@ -223,7 +223,7 @@ module _ (l : Program) (a : Assignment) (cells stack : ℕ) (lay : Layout) (item
           to = pr.to;
           stands =
               let b1 = back items t (entry_items f (words_at a f) (stack_end - stack) (2 + length l.procs) (map (place_of a) q.params)) at_stands.emits.block entry_stands in
-              let e = length-append (plain (add_to 2 2 (negated (4 * words_at a f)) ++ number_to 5 (stack_end - stack))) (Branch Ltu 2 5 (2 + length l.procs) ∷ plain (Store Sw 1 2 (pos 0) ∷ parameters_code 0 (map (place_of a) q.params))) in
+              let e = length-append (plain (add_to 2 2 (negated (4 * words_at a f)) ++ load_constant 5 (stack_end - stack))) (Branch Ltu 2 5 (2 + length l.procs) ∷ plain (Store Sw 1 2 (pos 0) ∷ parameters_code 0 (map (place_of a) q.params))) in
               subst (λ x. Stands items x at_stands.emits.block) (let y : t + length (entry_items f (words_at a f) (stack_end - stack) (2 + length l.procs) (map (place_of a) q.params)) ≡ suc n + length (plain (Store Sw 1 2 (pos 0) ∷ parameters_code 0 (map (place_of a) q.params))) = omega arith in y) b1;
           ran = whole;
           stood = record {

@@ -17,7 +17,7 @@ use Rattle.low_code.specs.Values.{Word, number}
 use Rattle.rv32_items.specs.declared.Item.{Item}
 use Rattle.rv32_items.specs.Course.{Layout}
 use Rattle.rv32_select.specs.declared.source.Source.TheVariants.{Number}
-use Rattle.rv32_select.specs.Emit.{held, hold, number_to, globals_code}
+use Rattle.rv32_select.specs.Emit.{held, hold, load_constant, globals_code}
 use Rattle.rv32_select.specs.IsSelected.{heap_base, stack_end}
 use Rattle.rv32_select.specs.Selects.{start_at}
 use Rattle.low_code.specs.Literals.{TagsSmall}
@@ -40,10 +40,10 @@ module _ (lay : Layout) (stack : ℕ) where
   held_number : (r n : ℕ) (d : Data) → Good lay.code (bases stack) d → 1 ≤ r → r ≢ 7 → n < 2 ^ 32 → HeldNumber r n d
   held_number r n d g one ne small = by_zero (nat_eq n 0) refl
     where
-      made : (t : Bool) → nat_eq n 0 ≡ t → (own : ℕ) → Does lay.code (bases stack) (if t then [] else number_to r n) d (with_reg d r own) → value (set_reg d.regs r own) (if t then 0 else r) ≡ n → (if t then 0 else r) ≢ 7 → HeldNumber r n d
+      made : (t : Bool) → nat_eq n 0 ≡ t → (own : ℕ) → Does lay.code (bases stack) (if t then [] else load_constant r n) d (with_reg d r own) → value (set_reg d.regs r own) (if t then 0 else r) ≡ n → (if t then 0 else r) ≢ 7 → HeldNumber r n d
       made t e own does is apart = record {
         own = own;
-        does = subst (λ x. Does lay.code (bases stack) (if x then [] else number_to r n) d (with_reg d r own)) (sym e) does;
+        does = subst (λ x. Does lay.code (bases stack) (if x then [] else load_constant r n) d (with_reg d r own)) (sym e) does;
         value_of = ap (λ x. value (set_reg d.regs r own) (if x then 0 else r)) e ∙ is;
         not_seven = λ h. apart (sym (ap (λ x. if x then 0 else r) e) ∙ h);
       }

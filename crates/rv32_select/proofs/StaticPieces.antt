@@ -11,7 +11,7 @@ use Rattle.parallel_move.specs.declared.Move.{Move}
 use Rattle.parallel_move.specs.Moves.{counted, ends}
 use Rattle.rv32_select.specs.declared.source.Source.{Source}
 use Rattle.rv32_select.specs.declared.source.Source.TheVariants.{At, Number}
-use Rattle.rv32_select.specs.Emit.{is_short, number_to, add_to, copy, reach, load_slot, store_slot, move_to, moves_code, keep, held, hold, number_into, spot_moves, number_moves, set_code, operation, is_immediate, immediate, operands_held, operate_on, is_free, operate_in_order, target, prim_code, load_code, save_code, is_offset, go_on, next_offset, cells_code, cells_below, aside, back, call_code, put_code, byte_given, get_code, parameters_code, leave_code, save_moves, restore_moves, globals_code}
+use Rattle.rv32_select.specs.Emit.{is_short, load_constant, add_to, copy, reach, load_slot, store_slot, move_to, moves_code, keep, held, hold, number_into, spot_moves, number_moves, set_code, operation, is_immediate, immediate, operands_held, operate_on, is_free, operate_in_order, target, prim_code, load_code, save_code, is_offset, go_on, next_offset, cells_code, cells_below, aside, back, call_code, put_code, byte_given, get_code, parameters_code, leave_code, save_moves, restore_moves, globals_code}
 
 -- neither a branch nor a jump, nor AUIPC
 abbrev pub IsStraight : Instr → Type 0
@@ -62,7 +62,7 @@ piece_if k false x y p q = q
 
 -- ---- numbers and spots
 
-pub number_piece : (r n : ℕ) → Piece 2 (number_to r n)
+pub number_piece : (r n : ℕ) → Piece 2 (load_constant r n)
 number_piece r n =
     piece_if 2 (is_short n) _ _ (piece_more 1 2 _ (omega arith) (piece_one _ tt))
     (piece_cons 1 _ _ tt (piece_if 1 _ _ _ (piece_nil 1) (piece_one _ tt)))
@@ -70,7 +70,7 @@ number_piece r n =
 pub add_piece : (r q n : ℕ) → Piece 3 (add_to r q n)
 add_piece r q n =
     piece_if 3 (is_short n) _ _ (piece_more 1 3 _ (omega arith) (piece_one _ tt))
-    (piece_append 2 1 (number_to 5 n) _ (number_piece 5 n) (piece_one _ tt))
+    (piece_append 2 1 (load_constant 5 n) _ (number_piece 5 n) (piece_one _ tt))
 
 pub copy_piece : (r q : ℕ) → Piece 1 (copy r q)
 copy_piece r q = piece_if 1 (nat_eq r q) _ _ (piece_nil 1) (piece_one _ tt)

@@ -17,7 +17,7 @@ use Rattle.rv32_items.specs.declared.Item.{Item}
 use Rattle.rv32_items.specs.declared.Item.TheVariants.{Branch, Jump}
 use Rattle.rv32_items.specs.Placed.{is_instruction, size_of, times}
 use Rattle.rv32_select.specs.declared.source.Way.TheVariants.{Returns}
-use Rattle.rv32_select.specs.Emit.{plain, is_short, number_to, add_to, number_moves, result_spots, parameters_code, exit_with, room_items, globals_code, start_items, stop_items}
+use Rattle.rv32_select.specs.Emit.{plain, is_short, load_constant, add_to, number_moves, result_spots, parameters_code, exit_with, room_items, globals_code, start_items, stop_items}
 use Rattle.rv32_select.specs.IsSelected.{heap_base, stack_end, heap_end, heap_full, step, stack_full, no_alternative, places, sources, argument_spots_of, EmitsProcedure, EmitsProcedures, start_argument, first_call, IsSelected}
 use Rattle.rv32_select.specs.Writable.{ProcedurePlaced, Writable}
 use Rattle.rv32_select.proofs.StaticPieces.{piece_append, piece_cons, number_piece, add_piece, parameters_piece, globals_piece, sent_piece}
@@ -42,11 +42,11 @@ some_append : (x y : List Instr) → IsSome x → IsSome (x ++ y)
 some_append [] y h = absurd h
 some_append (i ∷ x) y h = tt
 
-some_number : (r n : ℕ) → IsSome (number_to r n)
+some_number : (r n : ℕ) → IsSome (load_constant r n)
 some_number r n = some_if (is_short n) _ _ tt tt
 
 some_sum : (r q n : ℕ) → IsSome (add_to r q n)
-some_sum r q n = some_if (is_short n) _ _ tt (some_append (number_to 5 n) _ (some_number 5 n))
+some_sum r q n = some_if (is_short n) _ _ tt (some_append (load_constant 5 n) _ (some_number 5 n))
 
 first_of_code : (code : List Instr) (rest : List Item) → IsSome code → is_instruction (slice_get (plain code ++ rest) 0) ≡ true
 first_of_code [] rest h = absurd h
@@ -68,13 +68,13 @@ module _ (l : Program) (a : Assignment) (cells stack : ℕ) where
     pub size : Few → size_of items ≤ most
 
   entry_part : (Few : Type 0) (n words base : ℕ) (params : List Spot)
-      → Part procs Far n n (9 + 3 * length params) Few (plain (add_to 2 2 (negated (4 * words)) ++ number_to 5 base) ++ Branch Ltu 2 5 (stack_full l) ∷ plain (Store Sw 1 2 (pos 0) ∷ parameters_code 0 params))
+      → Part procs Far n n (9 + 3 * length params) Few (plain (add_to 2 2 (negated (4 * words)) ++ load_constant 5 base) ++ Branch Ltu 2 5 (stack_full l) ∷ plain (Store Sw 1 2 (pos 0) ∷ parameters_code 0 params))
   entry_part Few n words base params =
-      let first = add_to 2 2 (negated (4 * words)) ++ number_to 5 base in
+      let first = add_to 2 2 (negated (4 * words)) ++ load_constant 5 base in
       let behind = Store Sw 1 2 (pos 0) ∷ parameters_code 0 params in
       part_more procs Far Few n n (5 + (3 + suc (3 * length params))) (9 + 3 * length params) (plain first ++ Branch Ltu 2 5 (stack_full l) ∷ plain behind) (omega arith)
       (part_append procs Far Few n n n 5 (3 + suc (3 * length params)) (plain first) (Branch Ltu 2 5 (stack_full l) ∷ plain behind)
-      (code_part procs Far Few n 5 first (piece_append 3 2 (add_to 2 2 (negated (4 * words))) (number_to 5 base) (add_piece 2 2 (negated (4 * words))) (number_piece 5 base)))
+      (code_part procs Far Few n 5 first (piece_append 3 2 (add_to 2 2 (negated (4 * words))) (load_constant 5 base) (add_piece 2 2 (negated (4 * words))) (number_piece 5 base)))
       (part_append procs Far Few n n n 3 (suc (3 * length params)) (Branch Ltu 2 5 (stack_full l) ∷ []) (plain behind)
       (branch_part procs Far Few n Ltu 2 5 (stack_full l) (inl (omega arith)))
       (code_part procs Far Few n (suc (3 * length params)) behind (piece_cons (3 * length params) (Store Sw 1 2 (pos 0)) (parameters_code 0 params) tt (parameters_piece 0 params)))))
@@ -87,13 +87,13 @@ module _ (l : Program) (a : Assignment) (cells stack : ℕ) where
       let params = places a q.params in
       let Few = FewTests q.body in
       let count = length-map q.params (place_of a) in
-      let first = add_to 2 2 (negated (4 * words)) ++ number_to 5 base in
+      let first = add_to 2 2 (negated (4 * words)) ++ load_constant 5 base in
       let behind = Branch Ltu 2 5 (stack_full l) ∷ plain (Store Sw 1 2 (pos 0) ∷ parameters_code 0 params) in
       let block = block_part l a cells stack words (slots_of (place_of a) (variables q)) q.body (result_spots 10 q.results) Returns n m e.block le placed.body e.body in
       let p = part_append procs Far Few n n m (9 + 3 * length params) (8 * code_size q.body + 256 * length (calls_in q.body)) (plain first ++ behind) e.block (entry_part Few n words base params) block in
       subst (Procedures f (suc f) n m (64 + 8 * (length q.params + code_size q.body) + 256 * length (calls_in q.body)) Few) (sym e.is) (record {
         counts = λ k. let c = p.counts k in let b = below_more f k (times k ((plain first ++ behind) ++ e.block)) in omega arith;
-        goes = ((λ h. ap (λ is. is_instruction (slice_get is 0)) (append_assoc (plain first) behind e.block) ∙ first_of_code first (behind ++ e.block) (some_append (add_to 2 2 (negated (4 * words))) (number_to 5 base) (some_sum 2 2 (negated (4 * words))))), p.goes);
+        goes = ((λ h. ap (λ is. is_instruction (slice_get is 0)) (append_assoc (plain first) behind e.block) ∙ first_of_code first (behind ++ e.block) (some_append (add_to 2 2 (negated (4 * words))) (load_constant 5 base) (some_sum 2 2 (negated (4 * words))))), p.goes);
         size = λ few. let s = p.size few in omega (arith, count, s);
       })
 
@@ -145,9 +145,9 @@ module _ (l : Program) (a : Assignment) (cells stack : ℕ) where
 
   start_part : (Few : Type 0) → Part procs Far 0 0 (12 + 4 * length l.globals) Few start
   start_part Few =
-      let two = number_to 2 stack_end in
-      let three = number_to 3 heap_base in
-      let four = number_to 4 (heap_end l cells) in
+      let two = load_constant 2 stack_end in
+      let three = load_constant 3 heap_base in
+      let four = load_constant 4 (heap_end l cells) in
       let bytes = step l * length l.globals in
       let tags = globals_code (step l) l.globals in
       part_more procs Far Few 0 0 (6 + (6 + 4 * length l.globals)) (12 + 4 * length l.globals) start (omega arith)

@@ -19,7 +19,7 @@ use Rattle.rv32_items.specs.declared.Item.TheVariants.{Jump}
 use Rattle.rv32_items.specs.Course.{Layout, label_from}
 use Rattle.rv32_items.specs.Placed.{is_instruction}
 use Rattle.rv32_select.specs.declared.source.Source.TheVariants.{Number}
-use Rattle.rv32_select.specs.Emit.{plain, number_to, room_items, globals_code, start_items, argument_spots, number_moves, result_spots, exit_with}
+use Rattle.rv32_select.specs.Emit.{plain, load_constant, room_items, globals_code, start_items, argument_spots, number_moves, result_spots, exit_with}
 use Rattle.rv32_select.specs.IsSelected.{heap_base, stack_end, sources, start_argument}
 use Rattle.low_code.specs.Literals.{TagsSmall}
 use Rattle.rv32_select.proofs.Courses.{Stands, front, back}
@@ -175,7 +175,7 @@ module _ (l : Program) (a : Assignment) (cells stack : ℕ) (lay : Layout) (item
 
   -- the pieces of the start-up
   abbrev numbers : List Instr
-  numbers = number_to 2 stack_end ++ (number_to 3 heap_base ++ number_to 4 (heap_base + 4 * l.width * cells))
+  numbers = load_constant 2 stack_end ++ (load_constant 3 heap_base ++ load_constant 4 (heap_base + 4 * l.width * cells))
 
   abbrev room_piece : List Item
   room_piece = room_items (4 * l.width * length l.globals) (1 + length l.procs)

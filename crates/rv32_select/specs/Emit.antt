@@ -36,15 +36,15 @@ abbrev pub upper : ℕ → ℕ
 upper n = (n + 2048) / 4096 % 1048576
 
 -- a register gets a number
-abbrev pub number_to : (r n : ℕ) → List Instr
-number_to r n =
+abbrev pub load_constant : (r n : ℕ) → List Instr
+load_constant r n =
     if is_short n then OpImm Addi r 0 (lower n) ∷ []
     else Lui r (upper n) ∷ (if nat_eq (n % 4096) 0 then [] else OpImm Addi r r (lower n) ∷ [])
 
 -- a register gets the sum of another one and a number
 abbrev pub add_to : (r q n : ℕ) → List Instr
 add_to r q n =
-    if is_short n then OpImm Addi r q (lower n) ∷ [] else number_to 5 n ++ Op op.Add r q 5 ∷ []
+    if is_short n then OpImm Addi r q (lower n) ∷ [] else load_constant 5 n ++ Op op.Add r q 5 ∷ []
 
 -- ---- spots
 
@@ -113,13 +113,13 @@ abbrev pub hold : (r : ℕ) → Source → List Instr
 hold r (At (Reg q)) = []
 hold r (At (Slot k)) = load_slot r k
 hold r (At Scratch) = []
-hold r (Number n) = if nat_eq n 0 then [] else number_to r n
+hold r (Number n) = if nat_eq n 0 then [] else load_constant r n
 
 -- a number goes to a place
 abbrev pub number_into : Spot → ℕ → List Instr
-number_into (Reg q) n = number_to q n
+number_into (Reg q) n = load_constant q n
 number_into (Slot k) n = hold 5 (Number n) ++ store_slot k (held 5 (Number n))
-number_into Scratch n = number_to 5 n
+number_into Scratch n = load_constant 5 n
 
 -- of operands that go to spots at once: the moves from spots, and behind them the numbers
 abbrev pub move_from : (to : Spot) → Source → List Move
@@ -277,7 +277,7 @@ aside =
 abbrev pub back : (heap_end : ℕ) → List Instr
 back heap_end =
     OpImm Addi 10 5 (pos 0) ∷ OpImm Addi 11 6 (pos 0) ∷ OpImm Addi 12 7 (pos 0)
-    ∷ OpImm Addi 17 4 (pos 0) ∷ number_to 4 heap_end
+    ∷ OpImm Addi 17 4 (pos 0) ∷ load_constant 4 heap_end
 
 -- a call of this number and file on one byte at the frame's first word
 abbrev pub call_code : (file call : ℕ) → List Instr
@@ -332,7 +332,7 @@ result_spots r (suc n) = Reg r ∷ result_spots (suc r) n
 -- x2 goes down by the frame; where it is then below the stack, the stack is full
 abbrev pub entry_items : (label words stack_base stack_full : ℕ) → (params : List Spot) → List Item
 entry_items label words stack_base stack_full params =
-    Label label ∷ (plain (add_to 2 2 (negated (4 * words)) ++ number_to 5 stack_base)
+    Label label ∷ (plain (add_to 2 2 (negated (4 * words)) ++ load_constant 5 stack_base)
     ++ Branch Ltu 2 5 stack_full ∷ plain (Store Sw 1 2 (pos 0) ∷ parameters_code 0 params))
 
 -- the return address comes back, and x2 goes up
@@ -380,7 +380,7 @@ globals_code step (t ∷ ts) =
 abbrev pub start_items : (stack_end heap_base heap_end step heap_full : ℕ)
     → (globals : List ℕ) → List Item
 start_items stack_end heap_base heap_end step heap_full globals =
-    plain (number_to 2 stack_end ++ (number_to 3 heap_base ++ number_to 4 heap_end))
+    plain (load_constant 2 stack_end ++ (load_constant 3 heap_base ++ load_constant 4 heap_end))
     ++ (room_items (step * length globals) heap_full ++ plain (globals_code step globals))
 
 -- the exits without an alternative and with a full heap or stack, at three labels

@@ -2,7 +2,7 @@
 #![tactic(auto, using(crate::proofs::Plain::plain_append), unfolding(crate::specs::Emit::plain))]
 
 ghost use Rattle.std.specs.Prelude.{◌≡◌, ◌++◌, [], ◌∷◌, ◌<◌, OnOk, IfOk, true};
-ghost use Rattle.rv32_select.specs.Emit.{plain, is_short as short_number, upper as upper_part, number_to as number_code, add_to as add_code, copy as copy_code, slot_bytes as bytes_of_slot, slot_base as base_of_slot, reach as reach_code, load_slot as load_slot_code, store_slot as store_slot_code, from_spot as from_spot_code, slot_from as slot_from_code, move_to as move_code, moves_code, target as target_of, keep as keep_code, held as held_in, hold as hold_code, number_into as number_into_code};
+ghost use Rattle.rv32_select.specs.Emit.{plain, is_short as short_number, upper as upper_part, load_constant as number_code, add_to as add_code, copy as copy_code, slot_bytes as bytes_of_slot, slot_base as base_of_slot, reach as reach_code, load_slot as load_slot_code, store_slot as store_slot_code, from_spot as from_spot_code, slot_from as slot_from_code, move_to as move_code, moves_code, target as target_of, keep as keep_code, held as held_in, hold as hold_code, number_into as number_into_code};
 ghost use Rattle.rv32_select.specs.Ranges.{in_range, IsSource};
 ghost use Rattle.parallel_move.specs.Moves.{AllEnds};
 ghost use Rattle.rv32_items.specs.declared.Item.{Item};
@@ -139,7 +139,7 @@ impl Code {
     }
 
     /// A register gets a number.
-    pub(crate) fn number_to(&mut self, r: Reg, n: u32) -> Result<(), AllocError>
+    pub(crate) fn load_constant(&mut self, r: Reg, n: u32) -> Result<(), AllocError>
         ensures { OnOk result (self.new ≡ self.old ++ plain (number_code r n)) }
     {
         if is_short(n) {
@@ -159,7 +159,7 @@ impl Code {
         if is_short(n) {
             return self.instr(add_immediate(r, q, lower(n as u64)));
         }
-        self.number_to(Reg(5), n)?;
+        self.load_constant(Reg(5), n)?;
         self.instr(Instr::Op(OpKind::Add, r, q, Reg(5)))
     }
 
@@ -276,7 +276,7 @@ impl Code {
                 if n == 0 {
                     return Ok(());
                 }
-                self.number_to(r, n)
+                self.load_constant(r, n)
             }
         }
     }
@@ -287,12 +287,12 @@ impl Code {
         ensures { OnOk result (self.new ≡ self.old ++ plain (number_into_code place n)) }
     {
         match place {
-            Spot::Reg(q) => self.number_to(Reg(q), n),
+            Spot::Reg(q) => self.load_constant(Reg(q), n),
             Spot::Slot(k) => {
                 self.hold(Reg(5), Source::Number(n))?;
                 self.store_slot(k, held(Reg(5), Source::Number(n)))
             }
-            Spot::Scratch => self.number_to(Reg(5), n),
+            Spot::Scratch => self.load_constant(Reg(5), n),
         }
     }
 }

@@ -38,7 +38,7 @@ impl Code {
     {
         self.put(Item::Label(label))?;
         self.add_to(Reg(2), Reg(2), negated(4 * words))?;
-        self.number_to(Reg(5), stack_base)?;
+        self.load_constant(Reg(5), stack_base)?;
         self.put(Item::Branch {
             cond: Cond::Ltu,
             left: Reg(2),
@@ -104,9 +104,9 @@ impl<'a> Context<'a> {
     {
         let globals = self.low.globals.as_slice();
         let step = 4 * self.low.width;
-        code.number_to(Reg(2), STACK_END)?;
-        code.number_to(Reg(3), HEAP_BASE)?;
-        code.number_to(Reg(4), self.heap_end())?;
+        code.load_constant(Reg(2), STACK_END)?;
+        code.load_constant(Reg(3), HEAP_BASE)?;
+        code.load_constant(Reg(4), self.heap_end())?;
         code.room(step * globals.len() as u32, self.heap_full())?;
         code.globals(step, globals)
     }

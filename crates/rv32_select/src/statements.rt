@@ -323,7 +323,7 @@ impl Code {
         self.instr(add_immediate(Reg(11), Reg(6), Imm12(0)))?;
         self.instr(add_immediate(Reg(12), Reg(7), Imm12(0)))?;
         self.instr(add_immediate(Reg(17), Reg(4), Imm12(0)))?;
-        self.number_to(Reg(4), heap_end)
+        self.load_constant(Reg(4), heap_end)
     }
 
     /// A call of the machine on one byte at the frame's first word.

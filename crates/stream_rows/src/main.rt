@@ -2,7 +2,7 @@
 //! the system's streams, and says on the standard error that all was copied.
 #![tactic(auto)]
 
-use grin_io::{Failed, Sink, Source, StdErr, StdIn, StdOut};
+use grin_io::{Failed, Sink, Source, StdIn, std_err, std_out};
 use std::process::ExitCode;
 
 /// Copies what a source gives in at most a thousand readings.
@@ -20,9 +20,9 @@ fn copy(input: &mut impl Source, out: &mut impl Sink) -> Result<(), Failed> {
 
 fn main(rt: HostRuntime) -> ExitCode {
     let mut input = StdIn::new(&rt);
-    let mut out = StdOut::new(&rt);
+    let mut out = std_out(&rt);
     let copied = copy(&mut input, &mut out);
-    if copied.is_err() || StdErr::new(&rt).put(b"copied\n").is_err() {
+    if copied.is_err() || std_err(&rt).put(b"copied\n").is_err() {
         return ExitCode::from(1);
     }
     ExitCode::from(0)

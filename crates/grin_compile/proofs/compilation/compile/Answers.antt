@@ -14,8 +14,8 @@ returns-clause-parts c =
     let heap = 4 * (low.program_of c.in_ok-layers.layers.low).width * c.args.options.cells in
     let stack = whole_words c.args.options.stack in
     let code = c.as_slice.ensures.value in
-    compilation c.valid_translation_does_as.ensures (program c.args.p.now) c.requires.valid c.args.options.cells stack _ c.in_ok-stages.ensures.stages
-    (subst (λ g. HasLayers g c.args.options.cells stack c.in_ok-layers.layers) c.made_of.ensures c.in_ok-layers.ensures)
+    compilation c.translation_refines.ensures (program c.args.p.now) c.requires.valid c.args.options.cells stack _ c.in_ok-stages.ensures.stages
+    (subst (λ g. HasLayers g c.args.options.cells stack c.in_ok-layers.layers) c.lowered_stage.ensures c.in_ok-layers.ensures)
     (c.in_ok-image.ensures.bytes ∙ ap (λ words. elf.file_of words heap stack) code)
     (subst (λ words. Loads c.in_ok-image.image.items (elf.program words heap stack)) code c.in_ok-image.ensures.loads)
 

@@ -1,0 +1,82 @@
+//! The rules that a text breaks, whatever other texts there are.
+
+ghost use Rattle.std.specs.Prelude.{◌≡◌, ◌⊎◌, IfOk, OnOk, IfErr, Some};
+ghost use Rattle.core_reader.specs.Readable.{IsReadable};
+ghost use Rattle.core_link.specs.Found.{unread_of};
+ghost use Rattle.core_link.specs.Module.{IsModuleText, body};
+ghost use Rattle.core_link.specs.ModuleOf.{module_of};
+ghost use Rattle.core_link.specs.Rules.{IsCauseIn, IsSound, rule_of};
+
+use crate::module::{Module, read_module};
+use crate::refusal::{LinkKind, LinkRefusal};
+use crate::rules::own;
+use core_reader::ReadRefusal;
+use std::alloc::Global;
+
+/// What a refusal of the reading of a text says, where the text has this number.
+fn unread(file: u32, refusal: ReadRefusal) -> LinkRefusal
+    ensures { result ≡ unread_of file refusal }
+{
+    match refusal {
+        ReadRefusal::BadByte(at) => LinkRefusal {
+            file,
+            kind: LinkKind::BadByte(at),
+        },
+        ReadRefusal::Syntax(at) => LinkRefusal {
+            file,
+            kind: LinkKind::Syntax(at),
+        },
+        ReadRefusal::NumberRange(at) => LinkRefusal {
+            file,
+            kind: LinkKind::NumberRange(at),
+        },
+        ReadRefusal::TooDeep(at) => LinkRefusal {
+            file,
+            kind: LinkKind::TooDeep(at),
+        },
+        ReadRefusal::TextTooLong => LinkRefusal {
+            file,
+            kind: LinkKind::TextTooLong(1048576),
+        },
+        ReadRefusal::Memory(error) => LinkRefusal {
+            file: 0,
+            kind: LinkKind::Memory(error),
+        },
+    }
+}
+
+/// A rule that a module breaks by itself.
+fn own_kind(rule: u8, at: u32) -> LinkKind
+    requires { (rule ≡ 22) ⊎ ((rule ≡ 55) ⊎ (rule ≡ 58)) }
+    ensures { rule_of result ≡ Some (rule, at) }
+{
+    if rule == 22 {
+        return LinkKind::ReservedName(at);
+    }
+    if rule == 55 {
+        return LinkKind::ExportUnknown(at);
+    }
+    LinkKind::DuplicateDeclaration(at)
+}
+
+/// The module of a text, which has this number, or the first rule that the text breaks whatever
+/// other texts there are.
+pub fn read_file(alloc: Global, file: u32, text: &[u8]) -> Result<Module, LinkRefusal>
+    ensures found { IfOk result (λ m. IsModuleText text.now (module_of m)) }
+    ensures unbroken { OnOk result (IsSound text.now) }
+    ensures readable { IfOk result (λ m. IsReadable (body (module_of m))) }
+    ensures refused { IfErr result (IsCauseIn text.now file) }
+{
+    let module = match read_module(alloc, text) {
+        Ok(module) => module,
+        Err(refusal) => return Err(unread(file, refusal)),
+    };
+    let first = own(alloc, &module)?;
+    match first {
+        None => Ok(module),
+        Some((rule, at)) => {
+            let kind = own_kind(rule, at);
+            Err(LinkRefusal { file, kind })
+        }
+    }
+}

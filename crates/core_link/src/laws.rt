@@ -1,0 +1,23 @@
+//! What holds of linking by its definitions alone.
+
+ghost use Rattle.core_link.specs.Laws.{OneModuleKeeps, OrderIsFree, StillUnbroken};
+
+use arity_check::laws::{one_normal_form, some_normal_form};
+
+/// The order of the texts is of no account.
+pub fn order_is_free()
+    ensures { OrderIsFree }
+{}
+
+/// A linked program breaks no rule of names.
+pub fn still_unbroken()
+    ensures { StillUnbroken }
+{}
+
+/// One module without imports puts out what its declarations do by themselves.
+pub fn one_module_keeps()
+    ensures { OneModuleKeeps }
+{
+    one_normal_form();
+    some_normal_form();
+}

@@ -1,0 +1,5 @@
+//! Rows that `link` is tried on.
+#![tactic(auto)]
+
+#[cfg(test)]
+mod tests;

@@ -1,0 +1,10 @@
+pub mod Standing
+pub mod Reading
+pub mod PatOf
+pub mod Taken
+pub mod Sources
+pub mod Firsts
+pub mod Faulty
+pub mod Judged
+pub mod Walks
+pub mod Tables

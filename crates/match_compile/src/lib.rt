@@ -1,0 +1,21 @@
+//! Pattern equations: texts of Core in which a function is one or more equations over patterns.
+//!
+//! `read_equations` takes the bytes of a text and gives its equations, or the first rule that the
+//! text breaks.
+//!
+//! `specs/Source` says what equations are, `specs/Grammar` which tokens spell them, `specs/Parts`
+//! which names and constructors stand in patterns, and `specs/Rules` what equations must not have.
+//! `specs/Reading`, `Refusal` and `Faults` are devices of the proofs.
+#![tactic(auto)]
+
+pub mod laws;
+mod parts;
+mod patterns;
+mod reader;
+mod refusal;
+mod rules;
+mod source;
+
+pub use reader::read_equations;
+pub use refusal::MatchRefusal;
+pub use source::{Equation, Pat, Source};
