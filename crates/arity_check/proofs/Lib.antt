@@ -22,6 +22,5 @@ mod Normals
 mod Finish
 mod Exists
 mod Excluded
-pub mod Carried
 pub mod Flats
 pub mod NoFaults

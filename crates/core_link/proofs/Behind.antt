@@ -29,7 +29,7 @@ use Rattle.core_link.proofs.Again.{Like, AreLike, decls_again}
 
 -- ---- the tokens are those of Core, but for the keywords of modules
 
-same_kind : (w : List ℕ) → kind_of Modules w ≡ kind_of Core w
+pub same_kind : (w : List ℕ) → kind_of Modules w ≡ kind_of Core w
 same_kind [] = refl
 same_kind (b ∷ []) = refl
 same_kind (b ∷ c ∷ bs) = refl
@@ -41,24 +41,24 @@ longest_in_core n bytes kind l = record {
   no_longer = λ m lt le. sym (same_kind (take m bytes)) ∙ l.no_longer m lt le;
 }
 
-abbrev SameBytes : Piece → Piece → Type 0
+abbrev pub SameBytes : Piece → Piece → Type 0
 SameBytes v w = v.bytes ≡ w.bytes
 
 -- the same tokens at other places
-record Elsewhere (at : ℕ) (bytes : List ℕ) (vs : List Piece) (rest : List ℕ) : Type 0 where
-  pieces : List Piece
-  end : ℕ
-  reads : Reads Core at bytes pieces end rest
-  alike : AllZip SameBytes vs pieces
+pub record Elsewhere (at : ℕ) (bytes : List ℕ) (vs : List Piece) (rest : List ℕ) : Type 0 where
+  pub pieces : List Piece
+  pub end : ℕ
+  pub reads : Reads Core at bytes pieces end rest
+  pub alike : AllZip SameBytes vs pieces
 
-elsewhere : {at end : ℕ} {bytes rest : List ℕ} {vs : List Piece} → Reads Modules at bytes vs end rest → (to : ℕ) → Elsewhere to bytes vs rest
+pub elsewhere : {at end : ℕ} {bytes rest : List ℕ} {vs : List Piece} → Reads Modules at bytes vs end rest → (to : ℕ) → Elsewhere to bytes vs rest
 elsewhere (Stops at rest) to = record { pieces = []; end = to; reads = Stops to rest; alike = tt }
 elsewhere (Passes at n bytes pieces end rest g r) to = let w = elsewhere r (to + n) in record { pieces = w.pieces; end = w.end; reads = Passes to n bytes w.pieces w.end rest g w.reads; alike = w.alike }
 elsewhere (Takes at n bytes kind pieces end rest l r) to =
     let w = elsewhere r (to + n) in
     record { pieces = record { bytes = take n bytes; at = to } ∷ w.pieces; end = w.end; reads = Takes to n bytes kind w.pieces w.end rest (longest_in_core n bytes kind l) w.reads; alike = (refl, w.alike) }
 
-core_pieces : {at end : ℕ} {rest : List ℕ} {vs : List Piece} → Reads Modules at rest vs end [] → (ps : List Piece) → IsTokens Core rest ps → AllZip SameBytes vs ps
+pub core_pieces : {at end : ℕ} {rest : List ℕ} {vs : List Piece} → Reads Modules at rest vs end [] → (ps : List Piece) → IsTokens Core rest ps → AllZip SameBytes vs ps
 core_pieces {vs = vs} r ps tokens =
     let w = elsewhere r 0 in
     let g = goes_on w.reads (inl refl) tokens in
@@ -111,13 +111,13 @@ module _ (names others : Texts) where
       let held : is_numbered_by Core v.bytes k ≡ true → has others v.bytes ≡ true = λ n. ap (has others) e ∙ g ((λ i. is_numbered_by Core (sym e i) (same i)) ∙ n) in
       subst (Like names others (said_by Modules names v.bytes k)) (λ i. said_by Core others (e i) (sym same i)) (kind_like v.bytes k h held)
 
-  pieces_like : (vs ws : List Piece) → AllZip SameBytes vs ws → EachHeld Modules names vs → EachHeld Core others ws → AreLike names others (map (said Modules names) vs) (map (said Core others) ws)
+  pub pieces_like : (vs ws : List Piece) → AllZip SameBytes vs ws → EachHeld Modules names vs → EachHeld Core others ws → AreLike names others (map (said Modules names) vs) (map (said Core others) ws)
   pieces_like [] [] z h g = tt
   pieces_like [] (w ∷ ws) z h g = absurd z
   pieces_like (v ∷ vs) [] z h g = absurd z
   pieces_like (v ∷ vs) (w ∷ ws) z h g = (piece_like v w z.0 h.0 g.0, pieces_like vs ws z.1 h.1 g.1)
 
-held_behind : (names : Texts) (us vs : List Piece) → EachHeld Modules names (us ++ vs) → EachHeld Modules names vs
+pub held_behind : (names : Texts) (us vs : List Piece) → EachHeld Modules names (us ++ vs) → EachHeld Modules names vs
 held_behind names [] vs h = h
 held_behind names (u ∷ us) vs h = held_behind names us vs h.1
 

@@ -99,7 +99,7 @@ module _ {X : Type 0} (test : X → Bool) (place : X → ℕ) where
   only_left P at (inl p) = p
   only_left P at (inr q) = absurd q
 
-  earliest_first : (xs : List X) (P : ℕ → Type 0) (o : Option ℕ) → IsFirstAt P o → IsFirstAt (λ at. P at ⊎ Passed xs at) (earliest test place o xs)
+  pub earliest_first : (xs : List X) (P : ℕ → Type 0) (o : Option ℕ) → IsFirstAt P o → IsFirstAt (λ at. P at ⊎ Passed xs at) (earliest test place o xs)
   earliest_first [] P o h = same_first P (λ at. P at ⊎ Passed [] at) (λ at p. inl p) (only_left P) o h
   earliest_first (x ∷ xs) P o h =
       let next : ℕ → Type 0 = λ at. P at ⊎ Here (test x) (place x) at in

@@ -1,12 +1,14 @@
 -- One module without imports keeps what its declarations mean.
-use Rattle.std.proofs.Common.{◌≡◌, ℕ, zero, suc, false, arith, List, [], ◌∷◌, refl, sym, ap, subst, ◌∙◌, Some, inl, inr}
+use Rattle.std.proofs.Common.{◌≡◌, ℕ, zero, suc, false, arith, List, [], ◌∷◌, refl, sym, ap, subst, ◌∙◌, Some, ◌⊎◌, inl, inr}
 use Rattle.std.specs.Prelude.{All, codes, slice_get}
 use Rattle.std.proofs.lemmas.List.Elements.{All-head, All-tail}
 use Rattle.std.proofs.lemmas.Slice.Eq.{bytes_eq-Decides}
 use Rattle.seq.proofs.Lists.{none_is_some}
 use Rattle.std.specs.List.{AllZip}
-use Rattle.seq.proofs.Truth.{not_both}
+use Rattle.std.specs.Str.{bytes_eq}
+use Rattle.seq.proofs.Truth.{not_both, two_ways}
 use Rattle.core_reader.specs.declared.syntax.Binder.{Binder}
+use Rattle.core_reader.specs.Programs.{IsText}
 use Rattle.core_reader.specs.Readable.{IsReadable, ReadableFunction}
 use Rattle.core_reader.specs.Tree as tree
 use Rattle.core_reader.specs.Tree.{Data, Program}
@@ -21,9 +23,9 @@ use Rattle.arity_check.specs.Program as normal
 use Rattle.arity_check.specs.Scope.{Scope, is_named}
 use Rattle.core_meaning.specs.Printing.{printed}
 use Rattle.core_meaning.specs.Evaluation.{NoAlternative}
-use Rattle.core_link.specs.Laws.{OneModuleKeeps, IsRuleOfNames}
-use Rattle.core_link.specs.Module.{Module, IsModuleText, text_in, name_of, body}
-use Rattle.core_link.specs.Rules.{LacksMain, DeclaresMain, NoMainModule, UnknownName, ReservedName, AgainConstructor, AgainFunction, Main}
+use Rattle.core_link.specs.Laws.{IsHeaded, Keeps, OneModuleKeeps, IsRuleOfNames}
+use Rattle.core_link.specs.Module.{Module, IsModuleText, IsRead, text_in, name_of, body}
+use Rattle.core_link.specs.Rules.{LacksMain, DeclaresMain, NoMainModule, UnknownName, ReservedName, AgainConstructor, AgainFunction, Main, Reading, InFile, Unread}
 use Rattle.core_link.specs.Union.{IsUnion, enter}
 use Rattle.core_link.proofs.Beside.{one_item}
 use Rattle.core_link.proofs.Clear.{named_at}
@@ -31,8 +33,8 @@ use Rattle.core_link.proofs.InModule.{OfBinder, OfCon, OfUse, OfFunction}
 use Rattle.core_link.proofs.Aligned.{zip_map, positions_aligned, same_named}
 use Rattle.core_link.proofs.Alone as alone
 use Rattle.core_link.proofs.Alone.{only_module, seen_alone}
-use Rattle.core_reader.proofs.Unbroken.{unbroken_is_readable}
 use Rattle.core_link.proofs.Behind.{same_behind}
+use Rattle.core_link.proofs.Headed.{each_has_program, readable_behind}
 use Rattle.core_link.proofs.Carried.{MeansTheSame, function_carried}
 use Rattle.core_link.proofs.Linked.{IsSound, sound_of, all_at, text_is}
 use Rattle.core_link.proofs.Same as same
@@ -182,15 +184,37 @@ module _ (one : OneNormalForm) (some : SomeNormalForm) (m : Module) (p c : Progr
       sym (carried_printed (body m) c (enter c.names m) B C U F Fits [] (alone.means_the_same m c u sound readable named no_imports) tt readable one r.0 there d is_d i n)
       ∙ carried_printed (body m) p E B' C' U' F' Fits' tt (same.means_the_same (body m) p same_program here own) tt own one r.0 back q is_q i n
 
+is_main : (w : List ℕ) → (w ≡ codes "Main" → ⊥) ⊎ (w ≡ codes "Main")
+is_main w = elim (two_ways (bytes_eq w (codes "Main"))) [
+  | inl y ↦ inr ((bytes_eq-Decides w (codes "Main")).0 y)
+  | inr n ↦ inl (λ e. not_both (bytes_eq w (codes "Main")) ((bytes_eq-Decides w (codes "Main")).1 e) n)
+]
+
+-- the only module of texts that break no rule has the name that a program starts from
+named_main : (m : Module) → (LacksMain (m ∷ []) → ⊥) → (name_of m ≡ codes "Main" → ⊥) ⊎ (name_of m ≡ codes "Main") → name_of m ≡ codes "Main"
+named_main m main (inr e) = e
+named_main m main (inl n) = absurd (main lacks_it)
+  where
+    lacks_it : LacksMain (m ∷ [])
+    lacks_it zero x e d = n (ap name_of (one_item (Some m) m x refl e) ∙ d.named)
+    lacks_it (suc i) x e d = none_is_some e
+
 pub one_module_keeps : OneNormalForm → SomeNormalForm → OneModuleKeeps
-one_module_keeps one some text rest m p c q d broken is split named no_imports read stands ok form linked readable =
-    let ms : linked.modules ≡ m ∷ [] = only_module text m linked.modules is linked.read in
-    let z : AllZip IsModuleText (text ∷ []) (m ∷ []) = (is, tt) in
-    let u : IsUnion (m ∷ []) c = subst (λ ms. IsUnion ms c) ms linked.union in
-    let sound = sound_of (text ∷ []) (m ∷ []) broken z in
-    let main : LacksMain (m ∷ []) → ⊥ = λ l. broken Main 59 0 0 (NoMainModule (m ∷ []) z l) in
-    let same_program = same_behind text rest m p is split stands in
-    let own = unbroken_is_readable rest p read stands in (
-      program_unbroken one some m p c u sound main named no_imports same_program own ok readable,
-      λ form' i n. program_printed one some m p c u sound main named no_imports same_program own ok readable q d form form' i n,
-    )
+one_module_keeps one some text m c broken is no_imports linked readable = (each_has_program text m read is, keeps)
+  where
+    read : IsRead text
+    read k at b = broken Reading k 0 at (InFile refl (Unread b))
+
+    keeps : (rest : List ℕ) (p : Program) → IsHeaded text rest m → IsText rest p → Keeps p c
+    keeps rest p split stands ok =
+        let ms : linked.modules ≡ m ∷ [] = only_module text m linked.modules is linked.read in
+        let z : AllZip IsModuleText (text ∷ []) (m ∷ []) = (is, tt) in
+        let u : IsUnion (m ∷ []) c = subst (λ ms. IsUnion ms c) ms linked.union in
+        let sound = sound_of (text ∷ []) (m ∷ []) broken z in
+        let main : LacksMain (m ∷ []) → ⊥ = λ l. broken Main 59 0 0 (NoMainModule (m ∷ []) z l) in
+        let named = named_main m main (is_main (name_of m)) in
+        let same_program = same_behind text rest m p is split stands in
+        let own = readable_behind text m read rest p split stands in (
+          program_unbroken one some m p c u sound main named no_imports same_program own ok readable,
+          program_printed one some m p c u sound main named no_imports same_program own ok readable,
+        )

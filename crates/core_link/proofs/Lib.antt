@@ -4,6 +4,8 @@ pub mod Plainly
 pub mod Modules
 pub mod Firsts
 pub mod Owned
+pub mod Repeated
+pub mod Listed
 pub mod InText
 pub mod Renames
 pub mod Walked
@@ -42,9 +44,10 @@ pub mod Turned
 pub mod Aligned
 pub mod Alone
 pub mod Same
-pub mod Kept
 pub mod Again
 pub mod Behind
+pub mod Headed
+pub mod Kept
 pub mod Homes
 pub mod Interned
 pub mod NewNames

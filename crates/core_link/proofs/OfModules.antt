@@ -45,7 +45,7 @@ in_range (negsuc n) h = go (nat_lt 2147483647 n) refl
     go true e = absurd (h (λ r. let lt : 2147483647 < n = grind (arith, nat_tests) in omega (arith, ints, r.0)))
     go false e = let le : n ≤ 2147483647 = grind (arith, nat_tests) in (omega (arith, ints), omega (arith, ints))
 
-all_in_range : (text : List ℕ) → IsRead text → (us vs : List Piece) → IsTokens Modules text (us ++ vs) → AreInRange Modules vs
+pub all_in_range : (text : List ℕ) → IsRead text → (us vs : List Piece) → IsTokens Modules text (us ++ vs) → AreInRange Modules vs
 all_in_range text u us [] r = tt
 all_in_range text u us (x ∷ vs) r = (
   λ digits. in_range (written_number x.bytes) (λ outside. u 3 x.at (NumberRange x.at (record {
@@ -58,7 +58,7 @@ all_in_range text u us (x ∷ vs) r = (
   all_in_range text u (us ++ x ∷ []) vs (subst (IsTokens Modules text) (sym (one_last us x vs)) r),
 )
 
-short : (text : List ℕ) → IsRead text → (b : Bool) → nat_lt 1048576 (length text) ≡ b → length text ≤ 1048576
+pub short : (text : List ℕ) → IsRead text → (b : Bool) → nat_lt 1048576 (length text) ≡ b → length text ≤ 1048576
 short text u true e = absurd (u 5 1048576 (TextTooLong (grind (arith, nat_tests))))
 short text u false e = grind (arith, nat_tests)
 

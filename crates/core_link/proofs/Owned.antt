@@ -8,7 +8,7 @@ use Rattle.core_reader.specs.Tree.{Program, Data, Function}
 use Rattle.arity_check.specs.declared.refusal.CheckRefusal.{CheckRefusal}
 use Rattle.arity_check.specs.declared.refusal.CheckRefusal.TheVariants as refusal
 use Rattle.arity_check.specs.declared.order.Order.TheVariants as order
-use Rattle.arity_check.specs.Order.{ranked, IsBefore, HasRank, IsBeforeIfRanked}
+use Rattle.arity_check.specs.Order.{ranked, IsBefore}
 use Rattle.arity_check.specs.First.{IsFirstRefusal}
 use Rattle.arity_check.specs.Broken.{Broken}
 use Rattle.arity_check.specs.Whole.{known_of, function_at, fields_at}
@@ -24,28 +24,6 @@ not_later : (g k k' at at' : ℕ) → IsBefore (g, at, k) (g, at', k') → at �
 not_later g k k' at at' (inl l) = absurd (omega (arith, l))
 not_later g k k' at at' (inr (e, inl l)) = omega (arith, l)
 not_later g k k' at at' (inr (e, inr m)) = let s = m.0 in omega (arith, s)
-
-pub reserved_first : (p : Program) (r : Option CheckRefusal) → IsFirstRefusal (ranked order.Reserved) p r → IsFirstAt (Broken p 22) (place_of r)
-reserved_first p None h = λ at b. h 22 at b tt
-reserved_first p (Some (refusal.ReservedName at)) h = (h.broken, λ at' b. not_later 1 22 22 at at' (h.first 22 at' b))
-reserved_first p (Some (refusal.DuplicateConstructor at)) h = absurd h.counts
-reserved_first p (Some (refusal.DuplicateFunction at)) h = absurd h.counts
-reserved_first p (Some (refusal.DuplicateName at)) h = absurd h.counts
-reserved_first p (Some (refusal.UnknownName at)) h = absurd h.counts
-reserved_first p (Some (refusal.ConstructorArity at)) h = absurd h.counts
-reserved_first p (Some (refusal.DefaultNotLast at)) h = absurd h.counts
-reserved_first p (Some (refusal.DuplicateAlternative at)) h = absurd h.counts
-reserved_first p (Some (refusal.MixedAlternatives at)) h = absurd h.counts
-reserved_first p (Some (refusal.PrimitiveArity at)) h = absurd h.counts
-reserved_first p (Some refusal.NoMain) h = absurd h.counts
-reserved_first p (Some (refusal.MainHasParameters at)) h = absurd h.counts
-reserved_first p (Some refusal.NoListConstructors) h = absurd h.counts
-reserved_first p (Some (refusal.TooManyFunctions at)) h = absurd h.counts
-reserved_first p (Some (refusal.TooManyConstructors at)) h = absurd h.counts
-reserved_first p (Some (refusal.TooManyParameters at)) h = absurd h.counts
-reserved_first p (Some (refusal.TooManyFields at)) h = absurd h.counts
-reserved_first p (Some (refusal.CoreTooLarge size)) h = absurd h.counts
-reserved_first p (Some (refusal.Memory e)) h = absurd h.counts
 
 pub unknown_first : (p : Program) (r : Option CheckRefusal) → IsFirstRefusal (ranked order.Unknown) p r → IsFirstAt (Broken p 14) (place_of r)
 unknown_first p None h = λ at b. h 14 at b tt
@@ -71,36 +49,6 @@ unknown_first p (Some (refusal.Memory e)) h = absurd h.counts
 
 abbrev pub Doubled : Program → ℕ → Type 0
 Doubled p at = Broken p 11 at ⊎ Broken p 12 at
-
-doubled_after : (p : Program) (k at at' : ℕ) → ((k' : ℕ) → Broken p k' at' → IsBeforeIfRanked (Some (1, at, k)) (ranked order.Doubles k' at')) → Doubled p at' → at ≤ at'
-doubled_after p k at at' h (inl b) = not_later 1 k 11 at at' (h 11 b)
-doubled_after p k at at' h (inr b) = not_later 1 k 12 at at' (h 12 b)
-
-none_doubled : (p : Program) (at : ℕ) → ((k : ℕ) → Broken p k at → HasRank (ranked order.Doubles k at) → ⊥) → Doubled p at → ⊥
-none_doubled p at h (inl b) = h 11 b tt
-none_doubled p at h (inr b) = h 12 b tt
-
-pub doubles_first : (p : Program) (r : Option CheckRefusal) → IsFirstRefusal (ranked order.Doubles) p r → IsFirstAt (Doubled p) (place_of r)
-doubles_first p None h = λ at b. none_doubled p at (λ k. h k at) b
-doubles_first p (Some (refusal.DuplicateConstructor at)) h = (inl h.broken, λ at' b. doubled_after p 11 at at' (λ k. h.first k at') b)
-doubles_first p (Some (refusal.DuplicateFunction at)) h = (inr h.broken, λ at' b. doubled_after p 12 at at' (λ k. h.first k at') b)
-doubles_first p (Some (refusal.UnknownName at)) h = absurd h.counts
-doubles_first p (Some (refusal.DuplicateName at)) h = absurd h.counts
-doubles_first p (Some (refusal.ReservedName at)) h = absurd h.counts
-doubles_first p (Some (refusal.ConstructorArity at)) h = absurd h.counts
-doubles_first p (Some (refusal.DefaultNotLast at)) h = absurd h.counts
-doubles_first p (Some (refusal.DuplicateAlternative at)) h = absurd h.counts
-doubles_first p (Some (refusal.MixedAlternatives at)) h = absurd h.counts
-doubles_first p (Some (refusal.PrimitiveArity at)) h = absurd h.counts
-doubles_first p (Some refusal.NoMain) h = absurd h.counts
-doubles_first p (Some (refusal.MainHasParameters at)) h = absurd h.counts
-doubles_first p (Some refusal.NoListConstructors) h = absurd h.counts
-doubles_first p (Some (refusal.TooManyFunctions at)) h = absurd h.counts
-doubles_first p (Some (refusal.TooManyConstructors at)) h = absurd h.counts
-doubles_first p (Some (refusal.TooManyParameters at)) h = absurd h.counts
-doubles_first p (Some (refusal.TooManyFields at)) h = absurd h.counts
-doubles_first p (Some (refusal.CoreTooLarge size)) h = absurd h.counts
-doubles_first p (Some (refusal.Memory e)) h = absurd h.counts
 
 -- ---- what is declared
 

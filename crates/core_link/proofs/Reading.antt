@@ -200,13 +200,13 @@ declares_now l h at (word.Further further.Export) n = absurd n
 declares_now l h at (word.Further further.Import) n = absurd n
 declares_now l h at token n = (refl, refl)
 
-record BeginsDeclaring (ts : List Lexeme) : Type 0 where
+pub record BeginsDeclaring (ts : List Lexeme) : Type 0 where
   first : Lexeme
   rest : List Lexeme
   not_head : NotHead first.token
   is : ts ≡ first ∷ rest
 
-begins_declaring : (l : Room) (ds : List Decl) (ts : List Lexeme) (end : ℕ) (rest : List Lexeme) → SpellsDecls l ds ts → BeginsDeclaring (ts ++ lexeme end word.End ∷ rest)
+pub begins_declaring : (l : Room) (ds : List Decl) (ts : List Lexeme) (end : ℕ) (rest : List Lexeme) → SpellsDecls l ds ts → BeginsDeclaring (ts ++ lexeme end word.End ∷ rest)
 begins_declaring l [] ts end rest h = record { first = lexeme end word.End; rest = rest; not_head = tt; is = ap (λ w. w ++ lexeme end word.End ∷ rest) h }
 begins_declaring l (Declares d ∷ ds) ts end rest h =
     let s = h.2 in
@@ -300,20 +300,26 @@ reads_imports l h (i ∷ imports) ts rest s b =
     ∙ reads_more_imports l (importing h i) imports s.3 rest s.5 b
     ∙ ap (λ w. run_of step l (heading.Declares w (core.top [])) rest) (all_imports h i imports)
 
-whole : (l : Room) (a : Parts) (ts : List Lexeme) (end : ℕ) (rest : List Lexeme) → SpellsModule l a ts → run_of step l Start (ts ++ lexeme end word.End ∷ rest) ≡ Ok a
+-- behind what spells a header, tokens of declarations are read as they are in Core
+pub header_runs : (l : Room) (h : Head) (us ws : List Lexeme) → SpellsHead h us → BeginsDeclaring ws → run_of step l Start (us ++ ws) ≡ with_head h (run_of core.step l (core.top []) ws)
 unfolding run_of
+header_runs l h us ws s b =
+    let e : us ++ ws ≡ lexeme s.0 (word.Further further.Module) ∷ lexeme h.name.at (word.Con h.name.name) ∷ lexeme s.1 word.Semicolon ∷ (s.2 ++ (s.3 ++ ws)) = simp (s.6, append_assoc) in
+    let first = named h.name in
+    let lists = s.4 in
+    ap (run_of step l Start) e
+    ∙ reads_lists l first lists.0 s.2 (s.3 ++ ws) lists.2
+    ∙ ap (λ w. run_of step l (Exports (exporting first w)) (s.3 ++ ws)) lists.1
+    ∙ reads_imports l (exporting first h.exports) h.imports s.3 ws s.5 b
+    ∙ behind_runs l h (core.top []) ws
+
+whole : (l : Room) (a : Parts) (ts : List Lexeme) (end : ℕ) (rest : List Lexeme) → SpellsModule l a ts → run_of step l Start (ts ++ lexeme end word.End ∷ rest) ≡ Ok a
 whole l a ts end rest s =
-    let s1 = s.2 in
     let h = a.0 in
     let after = s.1 ++ lexeme end word.End ∷ rest in
-    let e : ts ++ lexeme end word.End ∷ rest ≡ lexeme s1.0 (word.Further further.Module) ∷ lexeme h.name.at (word.Con h.name.name) ∷ lexeme s1.1 word.Semicolon ∷ (s1.2 ++ (s1.3 ++ after)) = simp (s.4, s1.6, append_assoc) in
-    let first = named h.name in
-    let lists = s1.4 in
+    let e : ts ++ lexeme end word.End ∷ rest ≡ s.0 ++ after = simp (s.4, append_assoc) in
     ap (run_of step l Start) e
-    ∙ reads_lists l first lists.0 s1.2 (s1.3 ++ after) lists.2
-    ∙ ap (λ w. run_of step l (Exports (exporting first w)) (s1.3 ++ after)) lists.1
-    ∙ reads_imports l (exporting first h.exports) h.imports s1.3 after s1.5 (begins_declaring l a.1 s.1 end rest s.3)
-    ∙ behind_runs l h (core.top []) after
+    ∙ header_runs l h s.0 after s.2 (begins_declaring l a.1 s.1 end rest s.3)
     ∙ ap (with_head h) ((core_laws_in Modules).whole l a.1 s.1 end rest s.3)
 
 -- ---- other limits, numbers out of the range, and the end

@@ -1,5 +1,5 @@
 -- Steps of the loops over names, imports and declarations.
-use Rattle.std.proofs.Common.{◌≡◌, ℕ, ◌+◌, ◌<◌, Bool, true, false, cond, List, [], ◌∷◌, ◌++◌, drop, get_or, length, map, take, refl, sym, ap, ◌∙◌, arith, Option, Some, None}
+use Rattle.std.proofs.Common.{◌≡◌, ℕ, ◌+◌, ◌<◌, ◌≤◌, Bool, true, false, cond, List, [], ◌∷◌, ◌++◌, drop, get_or, length, map, take, refl, sym, ap, ◌∙◌, arith, Option, Some, None}
 use Rattle.std.specs.Prelude.{◌==◌, ◌||◌, not}
 use Rattle.std.specs.List.{flat_map}
 use Rattle.std.specs.Ordering.{nat_cmp}
@@ -7,6 +7,7 @@ use Rattle.std.specs.BTreeMap.{is_at}
 use Rattle.std.specs.BTreeSet.{BTreeSet, contains}
 use Rattle.std.specs.HashSet.{HashSet}
 use Rattle.std.specs.Str.{bytes_eq}
+use Rattle.std.proofs.lemmas.List.{drop_all}
 use Rattle.std.proofs.lemmas.Bool.Decides.{nat_tests}
 use denote.Ref.{Bor}
 use Rattle.seq.proofs.Lists.{drop_next, map_append}
@@ -46,9 +47,23 @@ earliest_item test place items i d b at first now all l t p n h =
     ap (λ o. earliest test place o (drop (i + 1) items)) (n ∙ ap (λ c. earlier_if c first at) t ∙ ap (earlier_if (test (get_or items i d)) first) p)
     ∙ ap (λ xs. earliest test place first xs) (sym (drop_next items i d l)) ∙ h
 
-earliest_append : {X : Type 0} (test : X → Bool) (place : X → ℕ) (first : Option ℕ) (xs ys : List X) → earliest test place first (xs ++ ys) ≡ earliest test place (earliest test place first xs) ys
+pub earliest_append : {X : Type 0} (test : X → Bool) (place : X → ℕ) (first : Option ℕ) (xs ys : List X) → earliest test place first (xs ++ ys) ≡ earliest test place (earliest test place first xs) ys
 earliest_append test place first [] ys = refl
 earliest_append test place first (x ∷ xs) ys = earliest_append test place (earlier_if (test x) first (place x)) xs ys
+
+-- the items that one more thing of a list has
+pub items_next : {T X : Type 0} (all : List T → List X) (one : T → List X) → ((t : T) (ts : List T) → all (t ∷ ts) ≡ one t ++ all ts) → (test : X → Bool) (place : X → ℕ) (items : List T) (i : ℕ) (t : T) → i < length items → t ≡ get_or items i t
+    → (first now whole : Option ℕ) → now ≡ earliest test place first (one t) → earliest test place first (all (drop i items)) ≡ whole → earliest test place now (all (drop (i + 1) items)) ≡ whole
+items_next all one more test place items i t l is first now whole n h =
+    let rest = drop (i + 1) items in
+    ap (λ o. earliest test place o (all rest)) n
+    ∙ sym (earliest_append test place first (one t) (all rest))
+    ∙ ap (earliest test place first) (sym (more t rest))
+    ∙ ap (λ ts. earliest test place first (all ts)) (sym (drop_next items i t l ∙ ap (λ y. y ∷ rest) (sym is)))
+    ∙ h
+
+pub items_done : {T X : Type 0} (all : List T → List X) → all [] ≡ [] → (test : X → Bool) (place : X → ℕ) (items : List T) (i : ℕ) → length items ≤ i → (first whole : Option ℕ) → earliest test place first (all (drop i items)) ≡ whole → first ≡ whole
+items_done all none test place items i l first whole h = ap (earliest test place first) (sym none) ∙ ap (λ ts. earliest test place first (all ts)) (sym (drop_all i items l)) ∙ h
 
 earliest_map : {X Y : Type 0} (g : X → Y) (test : Y → Bool) (place : Y → ℕ) (first : Option ℕ) (xs : List X) → earliest test place first (map g xs) ≡ earliest (λ x. test (g x)) (λ x. place (g x)) first xs
 earliest_map g test place first [] = refl

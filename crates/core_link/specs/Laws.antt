@@ -1,5 +1,5 @@
 -- What holds of linking.
-use Rattle.std.specs.Prelude.{◌≡◌, ℕ, List, [], ◌∷◌, ◌⊎◌, map, length, codes}
+use Rattle.std.specs.Prelude.{◌≡◌, ℕ, List, [], ◌∷◌, ◌⊎◌, map, length}
 use Rattle.std.specs.List.Sorted.{IsPermutation}
 use Rattle.core_reader.specs.declared.dialect.Dialect.TheVariants.{Modules}
 use Rattle.core_reader.specs.Grammar.{anywhere, Decl, SpellsDecls, constructors_of, functions_of}
@@ -16,7 +16,7 @@ use Rattle.arity_check.specs.Accepted as accepted
 use Rattle.arity_check.specs.Normal.{IsNormalForm}
 use Rattle.arity_check.specs.Program as normal
 use Rattle.core_meaning.specs.Printing.{printed}
-use Rattle.core_link.specs.Module.{Module, IsModuleText, SpellsHead, head_of, name_of}
+use Rattle.core_link.specs.Module.{Module, IsModuleText, IsRead, SpellsHead, head_of, body}
 use Rattle.core_link.specs.Rules.{IsUnbroken}
 use Rattle.core_link.specs.Union.{IsLinked}
 
@@ -52,15 +52,37 @@ pub record IsHeaded (text rest : List ℕ) (m : Module) : Type 0 where
   pub head : SpellsHead (head_of m) (map (said Modules m.names) header)
   pub spelled : SpellsDecls anywhere decls (map (said Modules m.names) behind)
 
--- One module without imports keeps what its declarations mean. Where its text without the header
--- stands for a program that breaks no rule, the linked program breaks none, and it puts out the
--- same on each input, within as many units.
+-- Behind the header of a text of a module stands a text of Core, which breaks no rule on reading:
+-- the module's declarations are the program of that text, but for places and for the numbers of
+-- names.
+pub record HasProgram (text : List ℕ) (m : Module) : Type 0 where
+  pub rest : List ℕ
+  pub program : Program
+  pub headed : IsHeaded text rest m
+  pub read : core.IsUnbroken rest
+  pub stands : IsText rest program
+  pub same : SameProgram (body m) program
+
+-- So has each text of a module that breaks no rule on reading.
+abbrev pub EachHasProgram : Type 0
+EachHasProgram =
+    (text : List ℕ) (m : Module) → IsRead text → IsModuleText text m → HasProgram text m
+
+-- Where the one program breaks no rule, the other breaks none, and puts out the same on each input,
+-- within as many units.
+abbrev pub Keeps : Program → Program → Type 0
+Keeps p c =
+    accepted.IsUnbroken p
+    → accepted.IsUnbroken c
+    × ((q d : normal.Program) → IsNormalForm p q → IsNormalForm c d
+    → (i : List ℕ) (n : ℕ) → printed d i n ≡ printed q i n)
+
+-- One module without imports keeps what its declarations mean: behind the header of its text stands
+-- a program, and the linked program does what that does.
 abbrev pub OneModuleKeeps : Type 0
 OneModuleKeeps =
-    (text rest : List ℕ) (m : Module) (p c : Program) (q d : normal.Program)
-    → IsUnbroken (text ∷ []) → IsModuleText text m → IsHeaded text rest m
-    → name_of m ≡ codes "Main" → m.imports ≡ []
-    → core.IsUnbroken rest → IsText rest p → accepted.IsUnbroken p → IsNormalForm p q
+    (text : List ℕ) (m : Module) (c : Program)
+    → IsUnbroken (text ∷ []) → IsModuleText text m → m.imports ≡ []
     → IsLinked (text ∷ []) c → IsReadable c
-    → accepted.IsUnbroken c
-    × (IsNormalForm c d → (i : List ℕ) (n : ℕ) → printed d i n ≡ printed q i n)
+    → HasProgram text m
+    × ((rest : List ℕ) (p : Program) → IsHeaded text rest m → IsText rest p → Keeps p c)

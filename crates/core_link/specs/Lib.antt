@@ -6,6 +6,7 @@ pub mod Union
 pub mod Laws
 -- what the code keeps, and devices of the proofs
 pub mod Found
+pub mod Bound
 pub mod ModuleOf
 pub mod Heading
 pub mod Renaming

@@ -2,6 +2,8 @@
 
 ghost use Rattle.std.specs.Prelude.{◌≡◌, ◌⊎◌, IfOk, OnOk, IfErr, Some};
 ghost use Rattle.core_reader.specs.Readable.{IsReadable};
+ghost use Rattle.arity_check.specs.Tables.{known};
+ghost use Rattle.arity_check.specs.Whole.{known_of};
 ghost use Rattle.core_link.specs.Found.{unread_of};
 ghost use Rattle.core_link.specs.Module.{IsModuleText, body};
 ghost use Rattle.core_link.specs.ModuleOf.{module_of};
@@ -10,6 +12,7 @@ ghost use Rattle.core_link.specs.Rules.{IsCauseIn, IsSound, rule_of};
 use crate::module::{Module, read_module};
 use crate::refusal::{LinkKind, LinkRefusal};
 use crate::rules::own;
+use arity_check::globals::Globals;
 use core_reader::ReadRefusal;
 use std::alloc::Global;
 
@@ -59,21 +62,30 @@ fn own_kind(rule: u8, at: u32) -> LinkKind
     LinkKind::DuplicateDeclaration(at)
 }
 
+/// A module with the tables of its names.
+#[derive(Drop)]
+pub struct Tabled {
+    pub module: Module,
+    pub globals: Globals,
+}
+
 /// The module of a text, which has this number, or the first rule that the text breaks whatever
 /// other texts there are.
-pub fn read_file(alloc: Global, file: u32, text: &[u8]) -> Result<Module, LinkRefusal>
-    ensures found { IfOk result (λ m. IsModuleText text.now (module_of m)) }
+pub fn read_file(alloc: Global, file: u32, text: &[u8]) -> Result<Tabled, LinkRefusal>
+    ensures found { IfOk result (λ t. IsModuleText text.now (module_of t.module)) }
+    ensures tables { IfOk result (λ t. known t.globals ≡ known_of (body (module_of t.module))) }
     ensures unbroken { OnOk result (IsSound text.now) }
-    ensures readable { IfOk result (λ m. IsReadable (body (module_of m))) }
+    ensures readable { IfOk result (λ t. IsReadable (body (module_of t.module))) }
     ensures refused { IfErr result (IsCauseIn text.now file) }
 {
     let module = match read_module(alloc, text) {
         Ok(module) => module,
         Err(refusal) => return Err(unread(file, refusal)),
     };
-    let first = own(alloc, &module)?;
+    let globals = Globals::new(alloc, &module.core)?;
+    let first = own(&module, &globals);
     match first {
-        None => Ok(module),
+        None => Ok(Tabled { module, globals }),
         Some((rule, at)) => {
             let kind = own_kind(rule, at);
             Err(LinkRefusal { file, kind })

@@ -4,7 +4,8 @@ ghost use Rattle.std.specs.Prelude.{◌≡◌, IfOk, OnOk, None, false, not, ◌
 ghost use Rattle.std.specs.Ordering.{nat_cmp};
 ghost use Rattle.std.specs.BTreeSet.{contains};
 ghost use Rattle.arity_check.specs.Tables.{known};
-ghost use Rattle.core_link.specs.Module.{imported};
+ghost use Rattle.arity_check.specs.Whole.{known_of};
+ghost use Rattle.core_link.specs.Module.{body, imported};
 ghost use Rattle.core_link.specs.ModuleOf.{module_of};
 ghost use Rattle.core_link.specs.Found.{earliest_again, seen_with, is_declared};
 ghost use Rattle.core_link.specs.Shared.{IsTaking};
@@ -82,13 +83,27 @@ fn first_items<T: Drop>(items: Seq<T>, count: usize) -> Seq<T>
     Seq::from_vec(items)
 }
 
-/// Where a module first breaks the rules on what it imports, whatever other modules there are. The
-/// module comes back.
-pub fn find_taking(alloc: Global, module: Module) -> Result<(Module, Taking), AllocError>
+/// Where a module, which has these tables, first breaks the rules on what it imports, whatever other
+/// modules there are. The module comes back.
+pub fn find_taking(
+    alloc: Global,
+    module: Module,
+    globals: Globals,
+) -> Result<(Module, Taking), AllocError>
+    requires { known «globals» ≡ known_of (body (module_of «module»)) }
     ensures same { IfOk result (λ r. module_of r.0 ≡ module_of «module») }
     ensures taking { IfOk result (λ r. IsTaking (module_of «module») r.1) }
 {
-    let globals = Globals::new(alloc, &module.core)?;
+    if module.imports.is_empty() {
+        let unknown = unknown(alloc, &module.core, &globals)?;
+        return Ok((
+            module,
+            Taking {
+                again: None,
+                unknown,
+            },
+        ));
+    }
     let again = imported_again(alloc, &globals, &module)?;
     let Module {
         name,

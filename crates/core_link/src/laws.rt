@@ -1,6 +1,6 @@
 //! What holds of linking by its definitions alone.
 
-ghost use Rattle.core_link.specs.Laws.{OneModuleKeeps, OrderIsFree, StillUnbroken};
+ghost use Rattle.core_link.specs.Laws.{EachHasProgram, OneModuleKeeps, OrderIsFree, StillUnbroken};
 
 use arity_check::laws::{one_normal_form, some_normal_form};
 
@@ -12,6 +12,11 @@ pub fn order_is_free()
 /// A linked program breaks no rule of names.
 pub fn still_unbroken()
     ensures { StillUnbroken }
+{}
+
+/// Behind the header of each text of a module stands a program, the module's declarations.
+pub fn each_has_program()
+    ensures { EachHasProgram }
 {}
 
 /// One module without imports puts out what its declarations do by themselves.

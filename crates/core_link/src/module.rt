@@ -1,17 +1,14 @@
 //! Modules, and their reading.
 
 ghost use Rattle.std.specs.Prelude.{◌≡◌, OnOk, IfOk, IfErr};
-ghost use Rattle.core_reader.specs.Different.{AreDifferent};
-ghost use Rattle.core_reader.specs.LexedOf.{texts_of};
 ghost use Rattle.core_reader.specs.Readable.{IsReadable};
 ghost use Rattle.core_link.specs.Module.{IsModuleText, IsRead, IsReadCause, body};
 ghost use Rattle.core_link.specs.ModuleOf.{module_of};
 
 use crate::header::{Header, misnamed};
-use core_reader::{Binder, Core, Dialect, Names, Parser, ReadRefusal, lex};
-use indexmap::IndexSet;
+use core_reader::{Binder, Core, Dialect, Parser, ReadRefusal, copied_names, lex};
 use seq::Seq;
-use std::alloc::{AllocError, Global};
+use std::alloc::Global;
 
 /// What a module takes from another one.
 #[derive(Drop)]
@@ -61,21 +58,9 @@ pub fn read_module(alloc: Global, text: &[u8]) -> Result<Module, ReadRefusal>
         exports: Seq::from_vec(header.exports),
         imports: Seq::from_vec(header.imports),
         core: Core {
-            names: copied(alloc, &lexed.names)?,
+            names: copied_names(alloc, &lexed.names)?,
             constructors: Seq::from_vec(declarations.constructors),
             functions: Seq::from_vec(declarations.functions),
         },
     })
-}
-
-/// The names as texts of their own.
-pub fn copied(alloc: Global, names: &IndexSet<&[u8]>) -> Result<Names, AllocError>
-    requires { AreDifferent (texts_of names.now.keys) }
-    ensures { IfOk result (λ copy. copy ≡ texts_of names.now.keys) }
-{
-    let mut entries = Vec::new(alloc);
-    for name in names.as_slice() {
-        entries.push(Seq::from_slice(alloc, name)?)?;
-    }
-    Ok(Names::from_vec(entries))
 }

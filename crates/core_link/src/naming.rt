@@ -10,10 +10,10 @@ ghost use Rattle.core_link.specs.Renaming.{AreTexts, AreAt, AreNumbered, Grows, 
 ghost use Rattle.core_link.specs.Union.{global_text, local_text};
 
 use crate::between::text;
-use crate::module::{Import, Module, copied};
+use crate::module::{Import, Module};
 use crate::rename::Renaming;
 use crate::visible::is_constructor;
-use core_reader::Names;
+use core_reader::{Names, copied_names};
 use indexmap::IndexSet;
 use seq::Seq;
 use std::alloc::{AllocError, Global};
@@ -187,5 +187,5 @@ pub fn renamings(alloc: Global, modules: &[Named]) -> Result<(Names, Vec<Renamin
     for module in modules {
         made.push(renaming(alloc, &mut known, module)?)?;
     }
-    Ok((copied(alloc, &known)?, made))
+    Ok((copied_names(alloc, &known)?, made))
 }

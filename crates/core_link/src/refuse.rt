@@ -4,6 +4,8 @@ ghost use Rattle.std.specs.Prelude.{◌≡◌, ◌⊎◌, ℕ, ◌+◌, List, If
 ghost use Rattle.std.specs.List.{AllZip, list_any};
 ghost use Rattle.seq.specs.Lists.{AllOf};
 ghost use Rattle.core_reader.specs.Readable.{IsReadable};
+ghost use Rattle.arity_check.specs.Tables.{known};
+ghost use Rattle.arity_check.specs.Whole.{known_of};
 ghost use Rattle.core_link.specs.Module.{IsModuleText, body};
 ghost use Rattle.core_link.specs.Module.{Module as module_spec};
 ghost use Rattle.core_link.specs.ModuleOf.{module_of};
@@ -14,7 +16,7 @@ ghost use Rattle.core_link.specs.Shared.{AreRead, IsKept, IsTaking, IsIndex, IsF
 use crate::between::{
     add_constructors, declared_again, exports, not_exported, text, unknown_source,
 };
-use crate::files::read_file;
+use crate::files::{Tabled, read_file};
 use crate::imports::{Taking, find_taking};
 use crate::module::Module;
 use crate::refusal::{LinkKind, LinkRefusal};
@@ -149,14 +151,15 @@ fn first_between(
 /// The module goes behind the others, with what it breaks by its imports.
 fn keep(
     alloc: Global,
-    module: Module,
+    read: Tabled,
     modules: &mut Vec<Module>,
     takings: &mut Vec<Taking>,
 ) -> Result<(), AllocError>
-    ensures { OnOk result (IsKept (module_of «module») (map module_of modules.old.items)
+    requires { known read.globals ≡ known_of (body (module_of read.module)) }
+    ensures { OnOk result (IsKept (module_of «read».module) (map module_of modules.old.items)
         (map module_of modules.new.items) takings.old.items takings.new.items) }
 {
-    let (module, taking) = find_taking(alloc, module)?;
+    let (module, taking) = find_taking(alloc, read.module, read.globals)?;
     modules.push(module)?;
     takings.push(taking)?;
     Ok(())
@@ -176,8 +179,8 @@ fn read_files(alloc: Global, texts: &Texts) -> Result<(Vec<Module>, Vec<Taking>)
         let Ok(file) = u32::try_from(i) else {
             return Err(LinkRefusal::from(AllocError));
         };
-        let module = read_file(alloc, file, all[i].as_slice())?;
-        keep(alloc, module, &mut modules, &mut takings)?;
+        let read = read_file(alloc, file, all[i].as_slice())?;
+        keep(alloc, read, &mut modules, &mut takings)?;
     }
     Ok((modules, takings))
 }

@@ -1,15 +1,18 @@
 //! The rules that a module has to keep by itself.
 
-ghost use Rattle.std.specs.Prelude.{◌≡◌, ◌⊎◌, None, IfOk, not};
+ghost use Rattle.std.specs.Prelude.{◌≡◌, None, IfOk, not};
 ghost use Rattle.core_reader.specs.Tree.{program};
 ghost use Rattle.arity_check.specs.Tables.{known};
 ghost use Rattle.arity_check.specs.Whole.{known_of};
 ghost use Rattle.arity_check.specs.Broken.{Broken};
 ghost use Rattle.core_link.specs.Found.{IsFirstAt, IsFirstOf, sooner, earlier_if, earliest, binder_place, place_of, is_declared};
+ghost use Rattle.core_link.specs.Module.{body};
 ghost use Rattle.core_link.specs.ModuleOf.{module_of};
 ghost use Rattle.core_link.specs.Rules.{Own};
 
+use crate::doubles::doubles;
 use crate::module::Module;
+use crate::reserved::reserved;
 use arity_check::globals::Globals;
 use arity_check::order::Order;
 use arity_check::program::first_refusal;
@@ -45,25 +48,6 @@ fn place_of(refusal: Option<CheckRefusal>) -> Option<u32>
             | CheckRefusal::Memory(_) => None,
         },
     }
-}
-
-/// The first name that is reserved.
-fn reserved(alloc: Global, core: &Core, globals: &Globals) -> Result<Option<u32>, AllocError>
-    requires { known globals.now ≡ known_of (program core.now) }
-    ensures { IfOk result (λ place. IsFirstAt (Broken (program core.now) 22) place) }
-{
-    let refusal = first_refusal(alloc, Order::Reserved, core, globals)?;
-    Ok(place_of(refusal))
-}
-
-/// The first name that is declared again.
-fn doubles(alloc: Global, core: &Core, globals: &Globals) -> Result<Option<u32>, AllocError>
-    requires { known globals.now ≡ known_of (program core.now) }
-    ensures { IfOk result (λ place.
-        IsFirstAt (λ at. Broken (program core.now) 11 at ⊎ Broken (program core.now) 12 at) place) }
-{
-    let refusal = first_refusal(alloc, Order::Doubles, core, globals)?;
-    Ok(place_of(refusal))
 }
 
 /// The first use of a name that is not bound.
@@ -136,13 +120,13 @@ pub fn sooner(found: Option<(u8, u32)>, rule: u8, place: Option<u32>) -> Option<
     }
 }
 
-/// The first rule that a module breaks by itself.
-pub fn own(alloc: Global, module: &Module) -> Result<Option<(u8, u32)>, AllocError>
-    ensures { IfOk result (λ found. IsFirstOf (Own (module_of module.now)) found) }
+/// The first rule that a module breaks by itself, where these are its tables.
+pub fn own(module: &Module, globals: &Globals) -> Option<(u8, u32)>
+    requires { known globals.now ≡ known_of (body (module_of module.now)) }
+    ensures { IsFirstOf (Own (module_of module.now)) result }
 {
-    let globals = Globals::new(alloc, &module.core)?;
-    let reserved = reserved(alloc, &module.core, &globals)?;
-    let export = unknown_export(&globals, module.exports.as_slice());
-    let double = doubles(alloc, &module.core, &globals)?;
-    Ok(sooner(sooner(sooner(None, 22, reserved), 55, export), 58, double))
+    let reserved = reserved(&module.core, globals);
+    let export = unknown_export(globals, module.exports.as_slice());
+    let double = doubles(&module.core, globals);
+    sooner(sooner(sooner(None, 22, reserved), 55, export), 58, double)
 }

@@ -30,7 +30,7 @@ mod token;
 pub use dialect::Dialect;
 pub use lexer::{Lexed, lex};
 pub use parser::{Declarations, Parser};
-pub use reader::read;
+pub use reader::{copied_names, read};
 pub use refusal::ReadRefusal;
 pub use syntax::{
     Alt, App, Atom, Bind, Binder, Core, Data, Expr, Function, NameId, Names, Pattern,

@@ -39,14 +39,14 @@ pub fn read(alloc: Global, text: &[u8]) -> Result<Core, ReadRefusal>
     let lexed = lex(alloc, Dialect::Core, text)?;
     let declarations = parse(alloc, lexed.lexemes.as_slice())?;
     Ok(Core {
-        names: copied(alloc, &lexed.names)?,
+        names: copied_names(alloc, &lexed.names)?,
         constructors: Seq::from_vec(declarations.constructors),
         functions: Seq::from_vec(declarations.functions),
     })
 }
 
-/// The names as texts of their own.
-fn copied(alloc: Global, names: &IndexSet<&[u8]>) -> Result<Names, AllocError>
+/// The names of a text that was taken apart as texts of their own, in the order of their numbers.
+pub fn copied_names(alloc: Global, names: &IndexSet<&[u8]>) -> Result<Names, AllocError>
     requires { AreDifferent (texts_of names.now.keys) }
     ensures { IfOk result (λ copy. copy ≡ texts_of names.now.keys) }
 {

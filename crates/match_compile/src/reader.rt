@@ -1,8 +1,6 @@
 //! A text of equations as its tree.
 
 ghost use Rattle.std.specs.Prelude.{◌≡◌, ◌<◌, length, OnOk, IfOk, IfErr};
-ghost use Rattle.core_reader.specs.Different.{AreDifferent};
-ghost use Rattle.core_reader.specs.LexedOf.{texts_of};
 ghost use Rattle.core_reader.specs.Machine.{front};
 ghost use Rattle.core_reader.specs.declared.token.Token.TheVariants as word;
 ghost use Rattle.match_compile.specs.Grammar.{IsText, IsRead, IsReadCause};
@@ -15,10 +13,9 @@ use crate::patterns::patterns;
 use crate::refusal::{MatchRefusal, unread};
 use crate::rules::{first_fault, reserved};
 use crate::source::{Equation, Source};
-use core_reader::{Data, Dialect, NameId, Names, Parser, ReadRefusal, Token, lex};
-use indexmap::IndexSet;
+use core_reader::{Data, Dialect, NameId, Parser, ReadRefusal, Token, copied_names, lex};
 use seq::Seq;
-use std::alloc::{AllocError, Global};
+use std::alloc::Global;
 
 /// The most bytes of a text.
 const MOST_BYTES: usize = 1048576;
@@ -72,23 +69,11 @@ fn read(alloc: Global, text: &[u8]) -> Result<Found, ReadRefusal>
     let parts = declarations(&mut parser)?;
     let reserved = reserved(lexed.names.as_slice(), lexed.lexemes.as_slice());
     let source = Source {
-        names: copied(alloc, &lexed.names)?,
+        names: copied_names(alloc, &lexed.names)?,
         constructors: Seq::from_vec(parts.constructors),
         equations: Seq::from_vec(parts.equations),
     };
     Ok(Found { source, reserved })
-}
-
-/// The names as texts of their own.
-fn copied(alloc: Global, names: &IndexSet<&[u8]>) -> Result<Names, AllocError>
-    requires { AreDifferent (texts_of names.now.keys) }
-    ensures { IfOk result (λ copy. copy ≡ texts_of names.now.keys) }
-{
-    let mut entries = Vec::new(alloc);
-    for name in names.as_slice() {
-        entries.push(Seq::from_slice(alloc, name)?)?;
-    }
-    Ok(Names::from_vec(entries))
 }
 
 /// The number of a constructor's fields.

@@ -8,7 +8,7 @@ use Rattle.points_to.specs.Bits.{number_at, Ascending, BitsAt, StandsAt, GoesTo}
 use Rattle.seq.proofs.Member.{none_in, cons_in}
 use Rattle.seq.proofs.Order.{compared}
 
-in_place : {X : Type 0} (xs : List X) (i : ℕ) (d : X) → i < length xs → In (get_or xs i d) xs
+pub in_place : {X : Type 0} (xs : List X) (i : ℕ) (d : X) → i < length xs → In (get_or xs i d) xs
 in_place [] i d lt = absurd (omega arith)
 in_place (x ∷ xs) zero d lt = here
 in_place (x ∷ xs) (suc i) d lt = there (in_place xs i d (omega arith))

@@ -114,12 +114,14 @@ fewer_words q w v h u i =
     subst (λ u. In u (block_words (q, w))) (sym m.2)
     (in_map word_of (block_numbers (q, w)) (subst (λ n. In n (block_numbers (q, w))) (sym b.2) (bit_in 64 (q * 64) w b.0 b.1 (h b.0 b.3))))
 
-pub within_next : (bs : List (ℕ × ℕ)) (i : ℕ) (b : ℕ × ℕ) (now new : List AbstractWord) → i < length bs → ((u : AbstractWord) → In u now → In u (flat_map block_words (take i bs)))
-    → ((u : AbstractWord) → In u new → In u now ⊎ In u (block_words (get_or bs i b))) → (u : AbstractWord) → In u new → In u (flat_map block_words (take (i + 1) bs))
-within_next bs i b now new lt old more u h = subst (In u) (flat_taken block_words bs i b lt) (⊎_elim
-    (λ x. in_left (flat_map block_words (take i bs)) (block_words (get_or bs i b)) (old u x))
-    (λ x. in_right (flat_map block_words (take i bs)) (block_words (get_or bs i b)) x)
-    (more u h))
+pub within_next : (old : List AbstractWord) (bs : List (ℕ × ℕ)) (i : ℕ) (b : ℕ × ℕ) (now new : List AbstractWord) → i < length bs → ((u : AbstractWord) → In u now → In u old ⊎ In u (flat_map block_words (take i bs)))
+    → ((u : AbstractWord) → In u new → In u now ⊎ In u (block_words (get_or bs i b))) → (u : AbstractWord) → In u new → In u old ⊎ In u (flat_map block_words (take (i + 1) bs))
+within_next old bs i b now new lt before more u h =
+    let all = flat_taken block_words bs i b lt in
+    ⊎_elim
+    (λ x. ⊎_elim (λ o. inl o) (λ y. inr (subst (In u) all (in_left (flat_map block_words (take i bs)) (block_words (get_or bs i b)) y))) (before u x))
+    (λ x. inr (subst (In u) all (in_right (flat_map block_words (take i bs)) (block_words (get_or bs i b)) x)))
+    (more u h)
 
 -- words that are put at variables
 in_part_append : (part : Part) (us vs : List AbstractWord) (q : Place) → facts_at q (in_part part (us ++ vs)) ≡ facts_at q (in_part part us) ++ facts_at q (in_part part vs)

@@ -21,6 +21,10 @@ pub or_nothing : (a : Bool) → (a || false) ≡ a
 or_nothing true = refl
 or_nothing false = refl
 
+-- what was seen already is all that can be seen
+pub already : (a b total : Bool) → a ≡ true → (a || b) ≡ total → a ≡ total
+already a b total e h = e ∙ sym (ap (λ c. c || b) e) ∙ h
+
 module _ {X : Type 0} (f : X → Bool) where
   -- the next of what is left was looked at
   pub spotted_next : (now new total : Bool) (x : X) (left rest : List X) → (now || list_any f left) ≡ total → left ≡ x ∷ rest → new ≡ (now || f x) → (new || list_any f rest) ≡ total

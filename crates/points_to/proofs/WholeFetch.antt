@@ -4,6 +4,8 @@ use Rattle.std.specs.Prelude.{◌⊎◌}
 use Rattle.grin_syntax.specs.declared.program.Word.{Word}
 use Rattle.grin_syntax.specs.declared.program.Word.TheVariants.{Lit, Var, Global, TagWord}
 use Rattle.grin_syntax.specs.declared.program.Val.{Val}
+use Rattle.grin_syntax.specs.declared.program.VarId.{VarId}
+use Rattle.grin_syntax.specs.declared.program.Target.TheVariants.{One as OneTarget}
 use Rattle.flow_system.specs.declared.fact.Element.{Element as AbstractWord}
 use Rattle.flow_system.specs.declared.fact.Element.TheVariants.{Cell as cell_of, Tag as tag, Number as num}
 use Rattle.flow_system.specs.declared.fact.Place.{Place}
@@ -16,9 +18,10 @@ use Rattle.flow_system.specs.Solution.{Solution, At, one_word, StandsFor, FetchG
 use Rattle.flow_system.specs.Demands.{by_flow, Content}
 use Rattle.flow_system.proofs.Least.{in_every}
 use Rattle.points_to.specs.declared.facts.Item.{Item}
+use Rattle.points_to.specs.declared.facts.Fact.{Fact}
 use Rattle.points_to.specs.declared.kept.Kept.{Kept}
 use Rattle.points_to.specs.declared.vectors.Met.{Met}
-use Rattle.points_to.specs.Held.{In, item, in_part, elements, fetched}
+use Rattle.points_to.specs.Held.{In, item, in_part, picked, elements, fetched}
 use Rattle.points_to.specs.Asked.{fact, asked}
 use Rattle.points_to.specs.Known.{held, solution_of, Grows}
 use Rattle.points_to.specs.Rows.{SameMembers}
@@ -148,6 +151,25 @@ module _ (p : Tables) (cs : List Inclusion) where
       all : (q : Part) (u : AbstractWord) → Gives p (solution p cs k) (word_at w i) q u → In (item q u) X
       all q u (one_word y) = x.back (item (word 0) u) (in_map (item (word 0)) (words_of_values p vs (held k.facts) i ns)
           (words_alike (held k.facts) i ns (met_by p k w) exact.back u (gives_words k sound w i u y)))
+
+  -- words that are known at the variable are all that is asked
+  pub known_at_variable : (H : Place → List Item) (x : VarId) (us : List AbstractWord) → ((u : AbstractWord) → In u us → In u (picked (word 0) (H (var x.0)))) → (f : Fact)
+      → In f (asked p H (Some 1) (in_part (word 0) us) (to (OneTarget x))) → In f.item (H f.place)
+  known_at_variable H x us known f h =
+      let a = map_in (fact (var x.0)) (in_part (word 0) (picked (word 0) (in_part (word 0) us))) h in
+      let b = map_in (item (word 0)) (picked (word 0) (in_part (word 0) us)) a.1 in
+      let c = map_in (item (word 0)) us (picked_in (word 0) (in_part (word 0) us) b.1) in
+      subst (λ g. In g.item (H g.place)) (sym a.2) (subst (λ j. In j (H (var x.0))) (sym (b.2 ∙ c.2)) (picked_in (word 0) (H (var x.0)) (known c.0 c.1)))
+
+  -- where all that is asked is known, the fetch is met
+  pub known_met : (k : Kept) (w : Word) (i : ℕ) (t : Sink) (ns : List ℕ) → is_elsewhere t ≡ true
+      → ((f : Fact) → In f (asked p (held k.facts) (Some 1) (in_part (word 0) (words_of_values p vs (held k.facts) i ns)) t) → In f.item (held k.facts f.place))
+      → SameMembers ns (met_by p k w) → MetAtEnd p cs k (flows (word_at w i) t) false
+  known_met k w i t ns away known exact =
+      let us = words_of_values p vs (held k.facts) i ns in
+      fetch_met k k w i t ns (in_part (word 0) us) false away exact (record { into = λ j h. h; back = λ j h. h })
+      (record { kept = λ q j h. h; put = known; only = λ q j h. inl h })
+      (λ e. refl)
 
   -- several steps
   pub steps_none : (k : Kept) → Steps p cs k k false

@@ -4,6 +4,7 @@ ghost use Rattle.std.specs.Prelude.{◌≡◌, ◌≢◌, ℕ, ◌^◌, ◌<◌,
 ghost use Rattle.std.specs.List.{flat_map};
 ghost use Rattle.std.specs.Int.{bit_at};
 ghost use Rattle.std.proofs.Props.{props};
+ghost use Rattle.flow_system.specs.declared.fact.Element.{Element as Element'};
 ghost use Rattle.points_to.specs.Held.{In};
 ghost use Rattle.points_to.specs.Bits.{Ascending, BitsAt, Finds, IsPlace, StandsAt, Takes, number_of, word_of, block_numbers, block_words};
 
@@ -253,6 +254,46 @@ fn stands_at(blocks: &[(u32, u64)], place: usize, number: u32) -> bool
         return false;
     }
     number == blocks[place].0
+}
+
+// Whether a block stands at a place, with all bits of another one.
+fn has_block(blocks: &[(u32, u64)], place: usize, block: (u32, u64)) -> bool
+    ensures { IsTrue result → (u : Element') → In u (block_words block)
+        → In u (flat_map block_words blocks.now) }
+{
+    if !stands_at(blocks, place, block.0) {
+        return false;
+    }
+    is_within(block.1, blocks[place].1)
+}
+
+// The first place from one on where a block doesn't stand before the one with this number; from the
+// front, where the place is past it.
+fn place_from(blocks: &[(u32, u64)], place: usize, number: u32) -> usize {
+    let mut at = place;
+    if at >= blocks.len() || blocks[at].0 > number {
+        at = 0;
+    }
+    'passing: while at < blocks.len() && blocks[at].0 < number {
+        at += 1;
+    }
+    at
+}
+
+/// Whether all words of blocks are among those of others. Where the others don't ascend, it may say
+/// no though they are.
+pub fn are_within(blocks: &[(u32, u64)], others: &[(u32, u64)]) -> bool
+    ensures { IsTrue result → (u : Element') → In u (flat_map block_words blocks.now)
+        → In u (flat_map block_words others.now) }
+{
+    let mut place = 0;
+    for block in blocks {
+        place = place_from(others, place, block.0);
+        if !has_block(others, place, *block) {
+            return false;
+        }
+    }
+    true
 }
 
 // The same as `find`, which looks at a place and at the next one first: blocks mostly come in their

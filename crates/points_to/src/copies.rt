@@ -437,16 +437,15 @@ fn without(a: u64, b: u64) -> u64
     a & !b
 }
 
-/// The words of blocks that are not in a set.
-pub fn fresh(alloc: Global, blocks: &[(u32, u64)], old: &Bits) -> Result<WordRuns, AllocError>
-    ensures { IfOk result (λ words. (u : Element') → In u words
-        → In u (flat_map block_words blocks.now)) }
+/// Puts the words of blocks that are not in a set at the end of a list.
+pub fn put_fresh(blocks: &[(u32, u64)], old: &Bits, out: &mut WordRuns) -> Result<(), AllocError>
+    ensures { OnOk result ((u : Element') → In u out.new
+        → In u out.old ⊎ In u (flat_map block_words blocks.now)) }
 {
-    let mut out = WordRuns::new(alloc);
     for block in blocks {
-        put_left(*block, bits_at(old.blocks.as_slice(), block.0), &mut out)?;
+        put_left(*block, bits_at(old.blocks.as_slice(), block.0), out)?;
     }
-    Ok(out)
+    Ok(())
 }
 
 // Puts the words of a block whose bits are not among others at the end.

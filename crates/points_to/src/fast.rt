@@ -52,7 +52,7 @@ fn note_all(
     let mut n: u32 = 0;
     for inclusion in system.inclusions.as_slice() {
         note_fetch(alloc, system, &mut state.copies, hints, inclusion)?;
-        hints.note(alloc, system, n, inclusion)?;
+        hints.note(alloc, system, &state.kept.facts, n, inclusion)?;
         n = n.checked_add(1).ok_or(AllocError)?;
     }
     Ok(())
@@ -66,7 +66,7 @@ pub fn copied(alloc: Global, system: &FlowSystem) -> Result<Kept, AllocError>
     let mut hints = Hints::new(alloc, system)?;
     note_all(alloc, system, &mut state, &mut hints)?;
     'steps: for _ in 0..u64::MAX {
-        match hints.next(system) {
+        match hints.next(alloc, system, &state)? {
             None => {
                 return Ok(state.into_kept());
             }

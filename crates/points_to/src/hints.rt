@@ -1,82 +1,23 @@
 // Which steps are worth to be taken next. Nothing is proved of it, and nothing but time depends on
 // it: a step that does not follow does nothing, and what is forgotten is found in rounds.
 
-use crate::bits::{Bits, Block, word_of};
-use crate::copies::{Copies, Fetch, one_fetch, same_fetch};
+use crate::bits::{Bits, Block, are_within, word_of};
+use crate::copies::{Copies, Fetch, same_fetch};
+use crate::facts::Facts;
 use crate::origin::value_in;
 use crate::pending::Pending;
+use crate::queue::Queue;
+use crate::reads::reads;
+use crate::row_table::{SetTable, Table};
+use crate::span::Span;
 use crate::state::{State, Step, is_plain};
 use crate::stored::number_block;
 use crate::tags::fields_of;
 use flow_system::fact::{Element, Place};
 use flow_system::inclusion::{FlowSystem, Inclusion, Sink, Source};
-use flow_system::reading::{readers, set_of};
 use grin_syntax::program::{Target, Val, Word};
 use seq::Seq;
 use std::alloc::{AllocError, Global};
-
-// Rows of numbers, or of pairs of them.
-#[derive(Drop)]
-struct Table<T> {
-    rows: Vec<Seq<T>>,
-}
-
-impl<T: Drop> Table<T> {
-    fn new(alloc: Global) -> Table<T> {
-        Table {
-            rows: Vec::new(alloc),
-        }
-    }
-
-    fn put(&mut self, alloc: Global, at: u32, item: T) -> Result<(), AllocError> {
-        'growing: while self.rows.len() <= at as usize {
-            self.rows.push(Seq::new(alloc))?;
-        }
-        self.rows[at as usize].push(item)
-    }
-
-    fn at(&self, at: u32) -> &[T] {
-        match self.rows.get(at as usize) {
-            Some(row) => row.as_slice(),
-            None => &[],
-        }
-    }
-}
-
-impl<T: Copy> Table<T> {
-    fn nth(&self, at: u32, k: usize) -> Option<T> {
-        self.at(at).get(k).copied()
-    }
-}
-
-// Rows of sets.
-#[derive(Drop)]
-struct SetTable {
-    rows: Vec<Bits>,
-}
-
-impl SetTable {
-    fn new(alloc: Global) -> SetTable {
-        SetTable {
-            rows: Vec::new(alloc),
-        }
-    }
-
-    // Puts a number into a set, and says whether it was not there.
-    fn put(&mut self, alloc: Global, at: u32, n: u32) -> Result<bool, AllocError> {
-        'growing: while self.rows.len() <= at as usize {
-            self.rows.push(Bits::new(alloc))?;
-        }
-        self.rows[at as usize].add_new(number_block(n))
-    }
-}
-
-// The tags of a vector: one with the most fields, and the least number of fields.
-#[derive(Clone, Copy)]
-struct Span {
-    most: Option<(u32, u32)>,
-    least: Option<u32>,
-}
 
 /// What waits, and what reads what.
 #[derive(Drop)]
@@ -84,21 +25,32 @@ pub struct Hints {
     // Steps at hand, the last one first.
     steps: Seq<Step>,
     inclusions: Pending,
-    vars: Pending,
-    fetches: Pending,
-    // By variable: the fetches from its cells, the updates of them, the vectors that begin with it.
+    vars: Queue,
+    fetches: Queue,
+    sites: Queue,
+    // By variable: the fetches from its cells, those of tags alone, the updates of its cells, the
+    // vectors that begin with it.
     from: Table<u32>,
+    tags_from: Table<u32>,
     updates: Table<u32>,
     heads: Table<u32>,
+    // By variable and by procedure, whose results they are: the inclusions that read them and have
+    // nothing to do with cells.
+    woken: Table<u32>,
+    woken_by_results: Table<u32>,
     // By site: the variables that are fetched from there, and the fetches from a global there.
     watchers: Table<u32>,
     globals: Table<u32>,
-    // By value: the fetches that it reaches, and the sites where.
+    // By value: the fetches from globals that it reaches and the variables that met it, and the
+    // sites where.
     reached: Table<(u32, u32)>,
+    met_by: Table<(u32, u32)>,
     spans: Vec<Span>,
-    // By variable the values that it met; by fetch the values that it is linked to.
+    // By variable the values that it met; by fetch the values that it is linked to; by site the
+    // values that the variables which are fetched from there are still to meet.
     met: SetTable,
     linked: SetTable,
+    unmet: SetTable,
 }
 
 impl Hints {
@@ -110,36 +62,41 @@ impl Hints {
         }
         let mut spans = Vec::new(alloc);
         for _ in 0..count {
-            spans.push(Span {
-                most: None,
-                least: None,
-            })?;
+            spans.push(Span::none())?;
         }
         Ok(Hints {
             steps: Seq::new(alloc),
             inclusions: Pending::all(alloc, count as u32)?,
-            vars: Pending::all(alloc, 0)?,
-            fetches: Pending::all(alloc, 0)?,
+            vars: Queue::new(alloc),
+            fetches: Queue::new(alloc),
+            sites: Queue::new(alloc),
             from: Table::new(alloc),
+            tags_from: Table::new(alloc),
             updates: Table::new(alloc),
             heads: Table::new(alloc),
+            woken: Table::new(alloc),
+            woken_by_results: Table::new(alloc),
             watchers: Table::new(alloc),
             globals: Table::new(alloc),
             reached: Table::new(alloc),
+            met_by: Table::new(alloc),
             spans,
             met: SetTable::new(alloc),
             linked: SetTable::new(alloc),
+            unmet: SetTable::new(alloc),
         })
     }
 
-    // Notes a tag of a vector.
-    fn note_tag(&mut self, system: &FlowSystem, n: u32, t: u32, width: usize) {
+    // Notes a tag of a vector. Says whether there are more or fewer fields than before.
+    fn note_tag(&mut self, system: &FlowSystem, n: u32, t: u32, width: usize) -> bool {
         if let Some(m) = fields_of(system, t) {
             if (m as usize) < width && (n as usize) < self.spans.len() {
                 let span = self.spans[n as usize];
-                self.spans[n as usize] = wider(span, t, m);
+                self.spans[n as usize] = span.with(t, m);
+                return span.is_widened(m);
             }
         }
+        false
     }
 
     fn note_head(
@@ -152,32 +109,71 @@ impl Hints {
         if let Val::Vector(words) = v {
             match words.get(0) {
                 Some(Word::Var(x)) => self.heads.put(alloc, x.0, n)?,
-                Some(Word::TagWord(t)) => self.note_tag(system, n, t.0, words.len()),
+                Some(Word::TagWord(t)) => {
+                    self.note_tag(system, n, t.0, words.len());
+                }
                 _ => {}
             }
         }
         Ok(())
     }
 
-    /// Notes an inclusion that puts a value into cells.
-    pub fn note(
+    // Notes what an inclusion reads that has nothing to do with cells.
+    fn note_reads(
+        &mut self,
+        alloc: Global,
+        system: &FlowSystem,
+        facts: &Facts,
+        n: u32,
+        inclusion: &Inclusion,
+    ) -> Result<(), AllocError> {
+        let mut places = Seq::new(alloc);
+        reads(alloc, system, facts, inclusion, &mut places)?;
+        for place in places.as_slice() {
+            match place {
+                Place::Var(x) => self.woken.put(alloc, *x, n)?,
+                Place::Result(f) => self.woken_by_results.put(alloc, *f, n)?,
+                Place::Site(_) => {}
+            }
+        }
+        Ok(())
+    }
+
+    // Notes an inclusion that puts a value into cells.
+    fn note_stored(
         &mut self,
         alloc: Global,
         system: &FlowSystem,
         n: u32,
+        v: &Val,
+        sink: &Sink,
+    ) -> Result<(), AllocError> {
+        match sink {
+            Sink::Site(_) => self.note_head(alloc, system, n, v),
+            Sink::CellsAt(w) => {
+                if let Word::Var(x) = w {
+                    self.updates.put(alloc, x.0, n)?;
+                }
+                self.note_head(alloc, system, n, v)
+            }
+            _ => Ok(()),
+        }
+    }
+
+    /// Notes an inclusion.
+    pub fn note(
+        &mut self,
+        alloc: Global,
+        system: &FlowSystem,
+        facts: &Facts,
+        n: u32,
         inclusion: &Inclusion,
     ) -> Result<(), AllocError> {
+        if is_plain(inclusion) {
+            return self.note_reads(alloc, system, facts, n, inclusion);
+        }
         if let Inclusion::Flows(Source::Value(v), sink) = inclusion {
-            match sink {
-                Sink::Site(_) => self.note_head(alloc, system, n, v)?,
-                Sink::CellsAt(w) => {
-                    if let Word::Var(x) = w {
-                        self.updates.put(alloc, x.0, n)?;
-                    }
-                    self.note_head(alloc, system, n, v)?;
-                }
-                _ => {}
-            }
+            return self.note_stored(alloc, system, n, v, sink);
         }
         Ok(())
     }
@@ -211,7 +207,12 @@ impl Hints {
         g: u32,
     ) -> Result<(), AllocError> {
         match fetch.cells {
-            Word::Var(x) => self.from.put(alloc, x.0, g),
+            Word::Var(x) => {
+                if fetch.word == 0 {
+                    self.tags_from.put(alloc, x.0, g)?;
+                }
+                self.from.put(alloc, x.0, g)
+            }
             Word::Global(k) => match system.globals.get(k as usize) {
                 Some(global) => self.globals.put(alloc, global.site.0, g),
                 None => Ok(()),
@@ -235,15 +236,7 @@ impl Hints {
             return (None, false);
         }
         let span = self.spans[n as usize];
-        let tag = match span.most {
-            Some((t, m)) => if i <= m { Some(t) } else { None },
-            None => None,
-        };
-        let fewer = match span.least {
-            Some(m) => i > m,
-            None => false,
-        };
-        (tag, fewer)
+        (span.tag_with(i), span.lacks(i))
     }
 
     // Follows a fetch of the value with a number, which reaches it at a site.
@@ -263,7 +256,10 @@ impl Hints {
             }
         };
         if i == 0 {
-            return self.steps.push(Step::Give(g, site, n));
+            if self.linked.put(alloc, g, n)? {
+                self.steps.push(Step::Give(g, site, n))?;
+            }
+            return Ok(());
         }
         let (tag, fewer) = self.tag_for(system, n, i);
         if fewer && !state.copies.has_number(g) {
@@ -290,8 +286,26 @@ impl Hints {
         self.visit(alloc, system, state, g, site, n)
     }
 
-    // A value reaches a cell of a variable.
+    // Some values reach a cell of a variable.
     fn meet(
+        &mut self,
+        alloc: Global,
+        system: &FlowSystem,
+        state: &State,
+        x: u32,
+        site: u32,
+        block: (u32, u64),
+    ) -> Result<(), AllocError> {
+        let new = self.met.put_block(alloc, x, block)?;
+        let mut left = Block::new(block.0, new);
+        'values: while let Some(n) = left.next() {
+            self.meet_new(alloc, system, state, x, site, narrow(n)?)?;
+        }
+        Ok(())
+    }
+
+    // A value that a variable did not meet reaches a cell of it.
+    fn meet_new(
         &mut self,
         alloc: Global,
         system: &FlowSystem,
@@ -300,38 +314,76 @@ impl Hints {
         site: u32,
         n: u32,
     ) -> Result<(), AllocError> {
-        if !self.met.put(alloc, x, n)? {
-            return Ok(());
-        }
+        self.met_by.put(alloc, n, (x, site))?;
         for k in 0..self.from.at(x).len() {
             let Some(g) = self.from.nth(x, k) else {
                 return Ok(());
             };
-            self.reach(alloc, system, state, g, site, n)?;
+            self.visit(alloc, system, state, g, site, n)?;
+        }
+        Ok(())
+    }
+
+    // Some values reach the cell of a fetch from a global.
+    fn reach_all(
+        &mut self,
+        alloc: Global,
+        system: &FlowSystem,
+        state: &State,
+        g: u32,
+        site: u32,
+        block: (u32, u64),
+    ) -> Result<(), AllocError> {
+        let mut left = Block::new(block.0, block.1);
+        'values: while let Some(n) = left.next() {
+            self.reach(alloc, system, state, g, site, narrow(n)?)?;
         }
         Ok(())
     }
 
     // A value was stored at a site.
-    fn stored(
+    fn stored(&mut self, alloc: Global, n: u32, site: u32) -> Result<(), AllocError> {
+        if self.watchers.at(site).is_empty() && self.globals.at(site).is_empty() {
+            return Ok(());
+        }
+        self.unmet.put(alloc, site, n)?;
+        self.sites.put(site)
+    }
+
+    // The values that were stored at a site are met.
+    fn spread(
         &mut self,
         alloc: Global,
         system: &FlowSystem,
         state: &State,
-        n: u32,
         site: u32,
+    ) -> Result<(), AllocError> {
+        let values = self.unmet.take(alloc, site);
+        for block in values.blocks.as_slice() {
+            self.spread_block(alloc, system, state, site, *block)?;
+        }
+        Ok(())
+    }
+
+    fn spread_block(
+        &mut self,
+        alloc: Global,
+        system: &FlowSystem,
+        state: &State,
+        site: u32,
+        block: (u32, u64),
     ) -> Result<(), AllocError> {
         for k in 0..self.watchers.at(site).len() {
             let Some(x) = self.watchers.nth(site, k) else {
                 return Ok(());
             };
-            self.meet(alloc, system, state, x, site, n)?;
+            self.meet(alloc, system, state, x, site, block)?;
         }
         for k in 0..self.globals.at(site).len() {
             let Some(g) = self.globals.nth(site, k) else {
                 return Ok(());
             };
-            self.reach(alloc, system, state, g, site, n)?;
+            self.reach_all(alloc, system, state, g, site, block)?;
         }
         Ok(())
     }
@@ -347,24 +399,7 @@ impl Hints {
     ) -> Result<(), AllocError> {
         self.watchers.put(alloc, site, x)?;
         for block in state.kept.stored.at(site) {
-            self.meet_all(alloc, system, state, x, site, *block)?;
-        }
-        Ok(())
-    }
-
-    // Some values reach a cell of a variable.
-    fn meet_all(
-        &mut self,
-        alloc: Global,
-        system: &FlowSystem,
-        state: &State,
-        x: u32,
-        site: u32,
-        block: (u32, u64),
-    ) -> Result<(), AllocError> {
-        let mut left = Block::new(block.0, block.1);
-        'values: while let Some(n) = left.next() {
-            self.meet(alloc, system, state, x, site, narrow(n)?)?;
+            self.meet(alloc, system, state, x, site, *block)?;
         }
         Ok(())
     }
@@ -382,8 +417,9 @@ impl Hints {
             };
             if let Some(inclusion) = system.inclusions.get(n as usize) {
                 if let Some(Val::Vector(words)) = value_in(inclusion) {
-                    self.note_tag(system, n, t, words.len());
-                    changed.add_new(number_block(n))?;
+                    if self.note_tag(system, n, t, words.len()) {
+                        changed.add_new(number_block(n))?;
+                    }
                 }
             }
         }
@@ -430,20 +466,23 @@ impl Hints {
         Ok(())
     }
 
-    // Lets the inclusions wait that read a place and have nothing to do with cells.
-    fn wake(&mut self, system: &FlowSystem, place: Place) -> Result<(), AllocError> {
-        if let Some(set) = set_of(system, place) {
-            for n in readers(system, set) {
-                if let Some(inclusion) = system.inclusions.get(*n as usize) {
-                    if is_plain(inclusion) {
-                        self.inclusions.put(*n)?;
-                    }
-                }
-            }
+    // Lets the inclusions wait that read a variable.
+    fn wake(&mut self, x: u32) -> Result<(), AllocError> {
+        for n in self.woken.at(x) {
+            self.inclusions.put(*n)?;
         }
         Ok(())
     }
 
+    // The same of the results of a procedure.
+    fn wake_by_results(&mut self, f: u32) -> Result<(), AllocError> {
+        for n in self.woken_by_results.at(f) {
+            self.inclusions.put(*n)?;
+        }
+        Ok(())
+    }
+
+    // Follows all fetches of a value, which has a tag with more or fewer fields.
     fn visit_all(
         &mut self,
         alloc: Global,
@@ -457,6 +496,79 @@ impl Hints {
             };
             self.visit(alloc, system, state, g, site, n)?;
         }
+        for k in 0..self.met_by.at(n).len() {
+            let Some((x, site)) = self.met_by.nth(n, k) else {
+                return Ok(());
+            };
+            self.visit_from(alloc, system, state, x, site, n)?;
+        }
+        Ok(())
+    }
+
+    fn visit_from(
+        &mut self,
+        alloc: Global,
+        system: &FlowSystem,
+        state: &State,
+        x: u32,
+        site: u32,
+        n: u32,
+    ) -> Result<(), AllocError> {
+        for k in 0..self.from.at(x).len() {
+            let Some(g) = self.from.nth(x, k) else {
+                return Ok(());
+            };
+            self.visit(alloc, system, state, g, site, n)?;
+        }
+        Ok(())
+    }
+
+    // Follows the fetches of the tags of the vectors that begin with a variable.
+    fn visit_tags(&mut self, state: &State, x: u32) -> Result<(), AllocError> {
+        for k in 0..self.heads.at(x).len() {
+            let Some(n) = self.heads.nth(x, k) else {
+                return Ok(());
+            };
+            self.give_tags(state, n)?;
+        }
+        Ok(())
+    }
+
+    fn give_tags(&mut self, state: &State, n: u32) -> Result<(), AllocError> {
+        for k in 0..self.reached.at(n).len() {
+            let Some((g, site)) = self.reached.nth(n, k) else {
+                return Ok(());
+            };
+            self.give_new(state, g, site, n)?;
+        }
+        for k in 0..self.met_by.at(n).len() {
+            let Some((x, site)) = self.met_by.nth(n, k) else {
+                return Ok(());
+            };
+            self.give_from(state, x, site, n)?;
+        }
+        Ok(())
+    }
+
+    fn give_from(&mut self, state: &State, x: u32, site: u32, n: u32) -> Result<(), AllocError> {
+        for k in 0..self.tags_from.at(x).len() {
+            let Some(g) = self.tags_from.nth(x, k) else {
+                return Ok(());
+            };
+            self.give_new(state, g, site, n)?;
+        }
+        Ok(())
+    }
+
+    // Lets a fetch of tags have those of a value, where some of what is new is new to it.
+    fn give_new(&mut self, state: &State, g: u32, site: u32, n: u32) -> Result<(), AllocError> {
+        if let Some(fetched) = state.copies.fetches.get(g as usize) {
+            if fetched.fetch.word == 0
+                && !are_within(state.newest.blocks(), fetched.words.blocks.as_slice())
+            {
+                return self.steps.push(Step::Give(g, site, n));
+            }
+        }
         Ok(())
     }
 
@@ -468,8 +580,10 @@ impl Hints {
         state: &State,
         x: u32,
     ) -> Result<(), AllocError> {
-        self.fetches.put_all(state.copies.linked_to(x))?;
-        self.wake(system, Place::Var(x))?;
+        for g in state.copies.linked_to(x) {
+            self.want_fetch(state, *g)?;
+        }
+        self.wake(x)?;
         if self.updates.at(x).is_empty()
             && self.from.at(x).is_empty()
             && self.heads.at(x).is_empty()
@@ -480,6 +594,7 @@ impl Hints {
         for block in state.newest.blocks() {
             self.new_words(alloc, system, state, x, *block, &mut changed)?;
         }
+        self.visit_tags(state, x)?;
         for block in changed.blocks.as_slice() {
             self.visit_changed(alloc, system, state, *block)?;
         }
@@ -500,17 +615,49 @@ impl Hints {
         Ok(())
     }
 
+    // Whether there is anything to do with what a variable gets.
+    fn is_read(&self, state: &State, x: u32) -> bool {
+        !self.woken.at(x).is_empty()
+            || !state.copies.linked_to(x).is_empty()
+            || !self.updates.at(x).is_empty()
+            || !self.from.at(x).is_empty()
+            || !self.heads.at(x).is_empty()
+    }
+
+    // Lets a variable wait where it has something to pass on.
+    fn want(&mut self, state: &State, x: u32) -> Result<(), AllocError> {
+        if self.vars.has(x) || !self.is_read(state, x) || !state.has_to_pass(x) {
+            return Ok(());
+        }
+        self.vars.put(x)
+    }
+
+    fn want_all(&mut self, state: &State, xs: &[u32]) -> Result<(), AllocError> {
+        for x in xs {
+            self.want(state, *x)?;
+        }
+        Ok(())
+    }
+
+    // Lets a fetch wait where it has something to deliver.
+    fn want_fetch(&mut self, state: &State, g: u32) -> Result<(), AllocError> {
+        if self.fetches.has(g) || !state.has_to_deliver(g) {
+            return Ok(());
+        }
+        self.fetches.put(g)
+    }
+
     // The targets of an inclusion may have more.
-    fn asked(&mut self, system: &FlowSystem, inclusion: &Inclusion) -> Result<(), AllocError> {
+    fn asked(&mut self, state: &State, inclusion: &Inclusion) -> Result<(), AllocError> {
         if let Inclusion::Flows(_, sink) = inclusion {
             match sink {
-                Sink::To(Target::One(x)) => self.vars.put(x.0)?,
+                Sink::To(Target::One(x)) => self.want(state, x.0)?,
                 Sink::To(Target::Vector(xs)) => {
                     for x in xs.as_slice() {
-                        self.vars.put(x.0)?;
+                        self.want(state, x.0)?;
                     }
                 }
-                Sink::Result(f) => self.wake(system, Place::Result(f.0))?,
+                Sink::Result(f) => self.wake_by_results(f.0)?,
                 _ => {}
             }
         }
@@ -527,15 +674,15 @@ impl Hints {
     ) -> Result<(), AllocError> {
         match step {
             Step::Ask(n) => match system.inclusions.get(n as usize) {
-                Some(inclusion) => self.asked(system, inclusion),
+                Some(inclusion) => self.asked(state, inclusion),
                 None => Ok(()),
             },
-            Step::Store(n, site) => self.stored(alloc, system, state, n, site),
-            Step::Give(g, _, _) => self.fetches.put(g),
-            Step::Link(g, _, _, _) => self.fetches.put(g),
+            Step::Store(n, site) => self.stored(alloc, n, site),
+            Step::Give(g, _, _) => self.want_fetch(state, g),
+            Step::Link(g, _, _, _) => self.want_fetch(state, g),
             Step::Pass(x) => self.passed(alloc, system, state, x),
             Step::Deliver(g) => match state.copies.fetches.get(g as usize) {
-                Some(fetched) => self.vars.put_all(fetched.targets.as_slice()),
+                Some(fetched) => self.want_all(state, fetched.targets.as_slice()),
                 None => Ok(()),
             },
         }
@@ -563,20 +710,46 @@ impl Hints {
         }
     }
 
-    /// The next step: one at hand, else of a fetch, else of a variable, else of an inclusion.
-    pub fn next(&mut self, system: &FlowSystem) -> Option<Step> {
-        if let Some(step) = self.steps.pop() {
-            return Some(step);
+    // The values that were stored are met, at all sites.
+    fn spread_all(
+        &mut self,
+        alloc: Global,
+        system: &FlowSystem,
+        state: &State,
+    ) -> Result<(), AllocError> {
+        for _ in 0..self.sites.most() {
+            let Some(site) = self.sites.take() else {
+                return Ok(());
+            };
+            self.spread(alloc, system, state, site)?;
         }
-        if let Some(g) = self.fetches.take() {
-            return Some(Step::Deliver(g));
+        Ok(())
+    }
+
+    /// The next step: one at hand, else of a variable, else of a fetch; else the values that were
+    /// stored are met, and one of their steps is next; else one of an inclusion.
+    pub fn next(
+        &mut self,
+        alloc: Global,
+        system: &FlowSystem,
+        state: &State,
+    ) -> Result<Option<Step>, AllocError> {
+        if let Some(step) = self.steps.pop() {
+            return Ok(Some(step));
         }
         if let Some(x) = self.vars.take() {
-            return Some(Step::Pass(x));
+            return Ok(Some(Step::Pass(x)));
+        }
+        if let Some(g) = self.fetches.take() {
+            return Ok(Some(Step::Deliver(g)));
+        }
+        self.spread_all(alloc, system, state)?;
+        if let Some(step) = self.steps.pop() {
+            return Ok(Some(step));
         }
         match self.inclusions.take() {
-            Some(n) => Some(Hints::step_of(system, n)),
-            None => None,
+            Some(n) => Ok(Some(Hints::step_of(system, n))),
+            None => Ok(None),
         }
     }
 }
@@ -587,19 +760,4 @@ fn narrow(n: u64) -> Result<u32, AllocError> {
         return Err(AllocError);
     }
     Ok(n as u32)
-}
-
-fn wider(span: Span, t: u32, m: u32) -> Span {
-    let higher = match span.most {
-        None => true,
-        Some((_, most)) => most < m,
-    };
-    let lower = match span.least {
-        None => true,
-        Some(least) => m < least,
-    };
-    Span {
-        most: if higher { Some((t, m)) } else { span.most },
-        least: if lower { Some(m) } else { span.least },
-    }
 }

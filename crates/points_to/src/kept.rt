@@ -158,8 +158,8 @@ fn is_same(a: Element, b: Element) -> bool
     }
 }
 
-// Whether a value has no node variable.
-fn is_of_words(v: &Val) -> bool
+/// Whether a value has no node variable.
+pub fn is_of_words(v: &Val) -> bool
     ensures { result ≡ is_of_words v.now }
 {
     match v {

@@ -12,7 +12,7 @@ ghost use Rattle.points_to.specs.Held.{In};
 ghost use Rattle.points_to.specs.Kept.{is_plain, is_elsewhere};
 
 use crate::bits::Bits;
-use crate::copies::{Copies, fresh};
+use crate::copies::{Copies, put_fresh};
 use crate::kept::Kept;
 use crate::rounds::satisfy as satisfy_plain;
 use crate::runs::WordRuns;
@@ -55,27 +55,37 @@ fn grow(alloc: Global, sets: &mut Vec<Bits>, n: u32) -> Result<(), AllocError>
     Ok(())
 }
 
-// The words of blocks that are not in the set with a number, which gets them.
-fn taken(
+// Lists the words of blocks that are not in the set with a number, which gets them.
+fn take(
     alloc: Global,
     blocks: &[(u32, u64)],
     sets: &mut Vec<Bits>,
     n: u32,
-) -> Result<WordRuns, AllocError>
-    ensures { IfOk result (λ words. (u : Element') → In u words
+    new: &mut WordRuns,
+) -> Result<(), AllocError>
+    ensures { OnOk result ((u : Element') → In u new.new
         → In u (flat_map block_words blocks.now)) }
 {
     grow(alloc, sets, n)?;
-    taken_from(alloc, blocks, &mut sets[n as usize])
+    take_into(blocks, &mut sets[n as usize], new)
 }
 
-fn taken_from(alloc: Global, blocks: &[(u32, u64)], set: &mut Bits) -> Result<WordRuns, AllocError>
-    ensures { IfOk result (λ words. (u : Element') → In u words
+fn take_into(blocks: &[(u32, u64)], set: &mut Bits, new: &mut WordRuns) -> Result<(), AllocError>
+    ensures { OnOk result ((u : Element') → In u new.new
         → In u (flat_map block_words blocks.now)) }
 {
-    let new = fresh(alloc, blocks, set)?;
+    new.clear();
+    put_fresh(blocks, set, new)?;
     new.put_into(set, 0)?;
-    Ok(new)
+    Ok(())
+}
+
+// Whether blocks are others than those of a set.
+fn are_other(blocks: &[(u32, u64)], set: Option<&Bits>) -> bool {
+    match set {
+        None => !blocks.is_empty(),
+        Some(set) => blocks != set.blocks.as_slice(),
+    }
 }
 
 impl State {
@@ -100,6 +110,16 @@ impl State {
         kept
     }
 
+    /// Whether a variable has words that were not passed on.
+    pub fn has_to_pass(&self, x: u32) -> bool {
+        are_other(self.kept.facts.word_blocks(x), self.passed.get(x as usize))
+    }
+
+    /// Whether a fetch has words that were not delivered.
+    pub fn has_to_deliver(&self, g: u32) -> bool {
+        are_other(self.copies.words(g), self.delivered.get(g as usize))
+    }
+
     fn ask(&mut self, alloc: Global, system: &FlowSystem, n: u32) -> Result<bool, AllocError>
         ensures { OnOk result (IsReached (tables_of system.now) (inclusions_of system.now) self.old
             → IsReached (tables_of system.now) (inclusions_of system.now) self.new) }
@@ -119,7 +139,13 @@ impl State {
         ensures { OnOk result ((p : Tables) → (cs : List Inclusion')
             → IsReached p cs self.old → IsReached p cs self.new) }
     {
-        self.newest = taken(alloc, self.kept.facts.word_blocks(x), &mut self.passed, x)?;
+        take(
+            alloc,
+            self.kept.facts.word_blocks(x),
+            &mut self.passed,
+            x,
+            &mut self.newest,
+        )?;
         self.copies.pass(x, self.newest.blocks())?;
         Ok(!self.newest.blocks().is_empty())
     }
@@ -128,7 +154,13 @@ impl State {
         ensures { OnOk result ((p : Tables) → (cs : List Inclusion')
             → IsReached p cs self.old → IsReached p cs self.new) }
     {
-        self.newest = taken(alloc, self.copies.words(g), &mut self.delivered, g)?;
+        take(
+            alloc,
+            self.copies.words(g),
+            &mut self.delivered,
+            g,
+            &mut self.newest,
+        )?;
         self.copies
             .deliver(alloc, &mut self.kept.facts, g, self.newest.blocks())?;
         Ok(!self.newest.blocks().is_empty())

@@ -1,7 +1,7 @@
 // The words that are fetched from a value in a cell. Of a vector each field is the same set for all
 // tags that have it, so that no node is made for a tag.
 
-ghost use Rattle.std.specs.Prelude.{◌≡◌, ◌++◌, ◌||◌, ◌%◌, suc, length, slice_get, Some, false, OnOk, IfOk};
+ghost use Rattle.std.specs.Prelude.{◌≡◌, ◌++◌, ◌||◌, ◌%◌, suc, length, slice_get, Some, true, false, IsTrue, OnOk, IfOk};
 ghost use Rattle.std.specs.List.{flat_map, list_any};
 ghost use Rattle.flow_system.specs.declared.fact.Element.TheVariants.{Tag as tag};
 ghost use Rattle.flow_system.specs.Shown.{tables_of};
@@ -29,6 +29,13 @@ use std::alloc::{AllocError, Global};
 struct Seen {
     has: bool,
     fewer: bool,
+}
+
+// Whether nothing more can be seen.
+fn is_all(seen: Seen) -> bool
+    ensures { IsTrue result → (seen.has ≡ true) × (seen.fewer ≡ true) }
+{
+    seen.has && seen.fewer
 }
 
 // Either of two.
@@ -88,6 +95,9 @@ fn note_block(
     let mut noted = seen;
     let mut left = Block::new(block.0, block.1);
     'words: while let Some(n) = left.next() {
+        if is_all(noted) {
+            return Ok(noted);
+        }
         noted = note_word(system, width, j, word_of(n)?, noted);
     }
     Ok(noted)

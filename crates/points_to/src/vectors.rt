@@ -8,8 +8,11 @@ ghost use Rattle.std.specs.List.{flat_map};
 ghost use Rattle.flow_system.specs.Inclusions.{value, word_at, flows, to, into_site, into_result, cells_at};
 ghost use Rattle.flow_system.specs.Shown.{tables_of, inclusions_of, source_of, sink_of, inclusion_of};
 ghost use Rattle.flow_system.specs.Solution.{IsLeast};
+ghost use Rattle.points_to.specs.declared.facts.Fact.{Fact as Fact'};
+ghost use Rattle.points_to.specs.Asked.{asked};
 ghost use Rattle.points_to.specs.Bits.{block_numbers};
-ghost use Rattle.points_to.specs.Held.{In, in_part};
+ghost use Rattle.flow_system.specs.declared.fact.Element.{Element as Element'};
+ghost use Rattle.points_to.specs.Held.{In, in_part, picked};
 ghost use Rattle.points_to.specs.Kept.{is_elsewhere, is_of_words, reads_no_cell, is_plain, flow_by_words, is_by_words, AllByWords, noted, noted_of, met_by, MetSound, MetExact, IsSound, solution, Steps, MetAtEnd, AllMet};
 ghost use Rattle.points_to.specs.Known.{held};
 ghost use Rattle.points_to.specs.Rows.{numbers_in, words_in, SameMembers, GetsAll};
@@ -17,43 +20,21 @@ ghost use Rattle.points_to.specs.Stored.{stored_at, cell_stored, values_in, Stor
 ghost use Rattle.points_to.specs.ValueWords.{words_of_values};
 
 use crate::ask::asked;
-use crate::bits::Bits;
+use crate::bits::{Bits, are_within};
+use crate::facts::Facts;
 use crate::fast::copied;
 use crate::give::elements;
-use crate::kept::Kept;
+use crate::kept::{Kept, is_of_words};
 use crate::rounds::{add_all, either, satisfy as satisfy_plain};
 use crate::runs::{FactRuns, ItemRuns, WordRuns};
+use crate::state::is_elsewhere;
 use crate::stored::Stored;
 use crate::stored_tags::words_of_values;
-use flow_system::fact::{Element, Part};
+use flow_system::fact::{Element, Part, Place};
 use flow_system::inclusion::{FlowSystem, Inclusion, Sink, Source};
-use grin_syntax::program::{Val, Word};
+use grin_syntax::program::{Target, Val, Word};
 use seq::Seq;
 use std::alloc::{AllocError, Global};
-
-// Whether a sink is no cell.
-fn is_elsewhere(sink: &Sink) -> bool
-    ensures { result ≡ is_elsewhere (sink_of sink.now) }
-{
-    match sink {
-        Sink::To(_) => true,
-        Sink::Result(_) => true,
-        Sink::Site(_) => false,
-        Sink::CellsAt(_) => false,
-    }
-}
-
-// Whether a value has no node variable.
-fn is_of_words(v: &Val) -> bool
-    ensures { result ≡ is_of_words v.now }
-{
-    match v {
-        Val::NodeVar(_) => false,
-        Val::Node(_, _) => true,
-        Val::Vector(_) => true,
-        Val::One(_) => true,
-    }
-}
 
 fn flow_by_words(source: &Source, sink: &Sink) -> bool
     ensures { result ≡ flow_by_words (source_of source.now) (sink_of sink.now) }
@@ -275,8 +256,54 @@ fn words_met(
     Ok(items)
 }
 
-// Word i of the values with these numbers, at a sink.
-fn fetch_met(
+// Whether word i of the values with these numbers is known at a variable.
+fn is_known(
+    alloc: Global,
+    system: &FlowSystem,
+    facts: &Facts,
+    numbers: &Bits,
+    i: u32,
+    x: u32,
+) -> Result<bool, AllocError>
+    ensures { IfOk result (λ known. IsTrue known → (u : Element') → In u (words_of_values
+        (tables_of system.now) (values_in (inclusions_of system.now)) (held facts.now) i
+        (numbers_in numbers.now)) → In u (picked (Part.Word 0) (held facts.now (Place.Var x)))) }
+{
+    let mut words = WordRuns::new(alloc);
+    let values = numbers.blocks.as_slice();
+    words_of_values(alloc, system, facts, values, i, &mut words)?;
+    Ok(are_within(words.blocks(), facts.word_blocks(x)))
+}
+
+// Whether all that is asked so that word i of the values with these numbers reaches a sink is known.
+fn is_there(
+    alloc: Global,
+    system: &FlowSystem,
+    facts: &Facts,
+    numbers: &Bits,
+    i: u32,
+    sink: &Sink,
+) -> Result<bool, AllocError>
+    ensures { IfOk result (λ known. IsTrue known → (f : Fact') → In f (asked (tables_of system.now)
+        (held facts.now) (Some 1) (in_part (Part.Word 0) (words_of_values (tables_of system.now)
+        (values_in (inclusions_of system.now)) (held facts.now) i (numbers_in numbers.now)))
+        (sink_of sink.now)) → In f.item (held facts.now f.place)) }
+{
+    match sink {
+        Sink::To(target) => match target {
+            Target::Nothing => Ok(false),
+            Target::Node(_) => Ok(false),
+            Target::One(x) => is_known(alloc, system, facts, numbers, i, x.0),
+            Target::Vector(_) => Ok(false),
+        },
+        Sink::Result(_) => Ok(false),
+        Sink::Site(_) => Ok(false),
+        Sink::CellsAt(_) => Ok(false),
+    }
+}
+
+// Puts word i of the values with these numbers at a sink.
+fn put_met(
     alloc: Global,
     system: &FlowSystem,
     kept: &mut Kept,
@@ -311,6 +338,36 @@ fn fetch_met(
         &mut facts,
     )?;
     add_all(alloc, &mut kept.facts, &facts)
+}
+
+// Word i of the values with these numbers, at a sink.
+fn fetch_met(
+    alloc: Global,
+    system: &FlowSystem,
+    kept: &mut Kept,
+    n: u32,
+    inclusion: &Inclusion,
+    w: Word,
+    i: u32,
+    sink: &Sink,
+    numbers: &Bits,
+) -> Result<bool, AllocError>
+    requires number { slice_get (inclusions_of system.now) n ≡ Some (inclusion_of inclusion.now) }
+    requires is { inclusion_of inclusion.now ≡ flows (word_at w i) (sink_of sink.now) }
+    requires elsewhere { is_elsewhere (sink_of sink.now) ≡ true }
+    requires sound { (m : ℕ) → In m (numbers_in numbers.now)
+        → In m (met_by (tables_of system.now) kept.old w) }
+    ensures steps { IfOk result (Steps (tables_of system.now) (inclusions_of system.now) kept.old
+        kept.new) }
+    ensures met { IfOk result (λ added. SameMembers (numbers_in numbers.now)
+        (met_by (tables_of system.now) kept.old w)
+        → MetAtEnd (tables_of system.now) (inclusions_of system.now) kept.old
+        (inclusion_of inclusion.now) added) }
+{
+    if is_there(alloc, system, &kept.facts, numbers, i, sink)? {
+        return Ok(false);
+    }
+    put_met(alloc, system, kept, n, inclusion, w, i, sink, numbers)
 }
 
 // Word i of the nodes at the cells of a word flows to a sink.

@@ -1,15 +1,29 @@
-use Rattle.std.proofs.Common.{◌≡◌, false, None, map, sym, ap, subst, ◌∙◌}
+use Rattle.std.proofs.Common.{◌≡◌, [], false, None, map, sym, ap, subst, ◌∙◌}
 use Rattle.seq.proofs.Lists.{length_map}
 use Rattle.core_reader.specs.Tree.{Program, program, data_of, function}
 use Rattle.arity_check.specs.Known.{Known}
+use Rattle.std.specs.List.{flat_map}
+use Rattle.arity_check.specs.Whole.{known_of}
 use Rattle.arity_check.specs.Broken.{Broken}
-use Rattle.core_link.specs.Module.{Module, body, seen, imported, imported_constructors, imported_functions, as_constructor, as_function}
+use Rattle.core_link.specs.Module.{Module, Import, body, seen, imported, imported_constructors, imported_functions, as_constructor, as_function}
 use Rattle.core_link.specs.ModuleOf.{module_of, import_of}
 use Rattle.core_link.specs.Found.{IsFirstAt, earliest_again, is_declared}
 use Rattle.core_link.specs.Shared.{declare_all, Retakes}
+use Rattle.core_link.proofs.Alone.{seen_alone}
 use Rattle.core_link.proofs.Takings.{retakes_first, seen_is}
 use Rattle.core_link.proofs.Steps.{map_front}
 use Rattle.core_link.proofs.imports.find_taking.Goals as goal
+
+-- a module that imports nothing
+pub returns-then-is_empty-clause-taking : goal.returns-then-is_empty-clause-taking
+returns-then-is_empty-clause-taking c =
+    let m : Module = module_of c.args.module in
+    let none : m.imports ≡ [] = ap (map import_of) (c.is_empty.ensures.0 c.if-is_empty.true) in
+    let own : imported m ≡ [] = ap (flat_map (λ (i : Import). map (λ b. (i.from, b)) i.names)) none in
+    record {
+      again = subst (λ xs. IsFirstAt (Retakes m) (earliest_again (is_declared (known_of (body m))) (λ x. false) None (map (λ i. i.1) xs))) own (retakes_first m);
+      unknown = subst (λ (p : Program). IsFirstAt (Broken p 14) c.in_ok-unknown.unknown) (sym (seen_alone m none)) c.in_ok-unknown.ensures;
+    }
 
 pub returns-clause-same : goal.returns-clause-same
 returns-clause-same c =
@@ -37,6 +51,6 @@ returns-clause-taking c =
     let m : Module = module_of c.args.module in
     let is : program c.in_ok-all.all ≡ seen m = c.in_ok-all.ensures ∙ ap (λ xs. declare_all (body m) (map import_of xs)) c.as_slice.ensures ∙ seen_is m in
     record {
-      again = subst (IsFirstAt (Retakes m)) (sym (c.in_ok-again.ensures ∙ ap (λ (k : Known). earliest_again (is_declared k) (λ x. false) None (map (λ i. i.1) (imported m))) c.in_ok-globals.ensures)) (retakes_first m);
-      unknown = subst (λ (p : Program). IsFirstAt (Broken p 14) c.in_ok-unknown.unknown) is c.in_ok-unknown.ensures;
+      again = subst (IsFirstAt (Retakes m)) (sym (c.in_ok-again.ensures ∙ ap (λ (k : Known). earliest_again (is_declared k) (λ x. false) None (map (λ i. i.1) (imported m))) c.requires)) (retakes_first m);
+      unknown = subst (λ (p : Program). IsFirstAt (Broken p 14) c.in_ok-unknown-2.unknown) is c.in_ok-unknown-2.ensures;
     }

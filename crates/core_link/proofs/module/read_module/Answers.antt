@@ -52,8 +52,8 @@ returns-in_err-declarations-clause-refused c =
     let begun : run Start lexemes ≡ run (Declares h (core.top [])) rest = ap (run Start) (sym rest_is) ∙ c.in_ok-header.ensures.reads in
     rw (q.1, q.2) (declarations_refused c.args.text.now lexemes names short c.in_ok-lexed.ensures m h rest e begun c.in_err-declarations.ensures)
 
-pub copied-requires : goal.copied-requires
-copied-requires c =
+pub copied_names-requires : goal.copied_names-requires
+copied_names-requires c =
     let l = c.in_ok-lexed.ensures in
     subst AreDifferent (sym l.named) (different_from Modules [] l.pieces tt)
 
@@ -70,7 +70,7 @@ returns-clause-found c =
     let begun : run Start lexemes ≡ run (Declares h (core.top [])) rest = ap (run Start) (sym rest_is) ∙ c.in_ok-header.ensures.reads in
     let f = found c.args.text.now lexemes names short c.in_ok-lexed.ensures m h rest decls begun c.in_ok-declarations.ensures in
     let read : Module = record {
-      names = c.in_ok-copied.field-0;
+      names = c.in_ok-copied_names.field-0;
       name = c.in_ok-header.header.name;
       exports = c.from_vec.result;
       imports = map import_of c.from_vec-2.result;
@@ -78,7 +78,7 @@ returns-clause-found c =
       functions = map function c.from_vec-4.result;
     } in
     let same : module_from names h decls ≡ read = λ i. record {
-      names = sym c.in_ok-copied.ensures i;
+      names = sym c.in_ok-copied_names.ensures i;
       name = c.in_ok-header.header.name;
       exports = sym c.from_vec.ensures i;
       imports = map import_of (sym c.from_vec-2.ensures i);
@@ -100,7 +100,7 @@ returns-clause-readable c =
     let begun : run Start lexemes ≡ run (Declares h (core.top [])) rest = ap (run Start) (sym rest_is) ∙ c.in_ok-header.ensures.reads in
     let f = found c.args.text.now lexemes names short c.in_ok-lexed.ensures m h rest decls begun c.in_ok-declarations.ensures in
     let read : Module = record {
-      names = c.in_ok-copied.field-0;
+      names = c.in_ok-copied_names.field-0;
       name = c.in_ok-header.header.name;
       exports = c.from_vec.result;
       imports = map import_of c.from_vec-2.result;
@@ -108,7 +108,7 @@ returns-clause-readable c =
       functions = map function c.from_vec-4.result;
     } in
     let same : module_from names h decls ≡ read = λ i. record {
-      names = sym c.in_ok-copied.ensures i;
+      names = sym c.in_ok-copied_names.ensures i;
       name = c.in_ok-header.header.name;
       exports = sym c.from_vec.ensures i;
       imports = map import_of (sym c.from_vec-2.ensures i);

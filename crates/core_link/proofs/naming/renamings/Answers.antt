@@ -14,5 +14,5 @@ loop-module-preserved c = record {
 
 pub returns : goal.returns
 returns c =
-    subst (λ v. AllZip (NumberedIn v) c.args.modules.now c.loop-module.made.items) (sym c.in_ok-copied.ensures)
+    subst (λ v. AllZip (NumberedIn v) c.args.modules.now c.loop-module.made.items) (sym c.in_ok-copied_names.ensures)
     (subst (λ ms. AllZip (NumberedIn (texts_of c.loop-module.known.keys)) ms c.loop-module.made.items) (take_all c.loop-module.module-index c.args.modules.now (omega arith)) c.loop-module.invariant.numbered)

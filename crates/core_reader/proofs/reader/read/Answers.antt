@@ -23,8 +23,8 @@ returns-in_err-declarations-clause-refused c =
     let parsed : ReadsProgram lexemes (Err e) = subst (λ w. ReadsProgram w (Err e)) c.as_slice.ensures.value c.in_err-declarations.ensures in
     rw (q.1, q.2) (refused c.args.text.now lexemes (texts_of c.in_ok-lexed.lexed.names.keys) e short c.in_ok-lexed.ensures parsed)
 
-pub copied-requires : goal.copied-requires
-copied-requires c =
+pub copied_names-requires : goal.copied_names-requires
+copied_names-requires c =
     let l = c.in_ok-lexed.ensures in
     subst AreDifferent (sym l.named) (different_from Core [] l.pieces tt)
 
@@ -36,8 +36,8 @@ returns-clause-found c =
     let decls = c.in_ok-declarations.declarations in
     let parsed : ReadsProgram lexemes (Ok decls) = subst (λ w. ReadsProgram w (Ok decls)) c.as_slice.ensures.value c.in_ok-declarations.ensures in
     let f = found c.args.text.now lexemes names decls short c.in_ok-lexed.ensures parsed in
-    let p : Program = record { names = c.in_ok-copied.field-0; constructors = map data_of c.from_vec.result; functions = map function c.from_vec-2.result } in
-    let same : program_of names decls ≡ p = λ i. record { names = sym c.in_ok-copied.ensures i; constructors = map data_of (sym c.from_vec.ensures i); functions = map function (sym c.from_vec-2.ensures i) } in
+    let p : Program = record { names = c.in_ok-copied_names.field-0; constructors = map data_of c.from_vec.result; functions = map function c.from_vec-2.result } in
+    let same : program_of names decls ≡ p = λ i. record { names = sym c.in_ok-copied_names.ensures i; constructors = map data_of (sym c.from_vec.ensures i); functions = map function (sym c.from_vec-2.ensures i) } in
     subst (IsText c.args.text.now) same f.is_text
 
 pub returns-clause-unbroken : goal.returns-clause-unbroken
@@ -56,6 +56,6 @@ returns-clause-readable c =
     let names = texts_of c.in_ok-lexed.lexed.names.keys in
     let decls = c.in_ok-declarations.declarations in
     let parsed : ReadsProgram lexemes (Ok decls) = subst (λ w. ReadsProgram w (Ok decls)) c.as_slice.ensures.value c.in_ok-declarations.ensures in
-    let p : Program = record { names = c.in_ok-copied.field-0; constructors = map data_of c.from_vec.result; functions = map function c.from_vec-2.result } in
-    let same : program_of names decls ≡ p = λ i. record { names = sym c.in_ok-copied.ensures i; constructors = map data_of (sym c.from_vec.ensures i); functions = map function (sym c.from_vec-2.ensures i) } in
+    let p : Program = record { names = c.in_ok-copied_names.field-0; constructors = map data_of c.from_vec.result; functions = map function c.from_vec-2.result } in
+    let same : program_of names decls ≡ p = λ i. record { names = sym c.in_ok-copied_names.ensures i; constructors = map data_of (sym c.from_vec.ensures i); functions = map function (sym c.from_vec-2.ensures i) } in
     subst IsReadable same (found_readable c.args.text.now lexemes names decls short c.in_ok-lexed.ensures parsed)

@@ -28,8 +28,8 @@ returns-in_err-parts-clause-refused c =
     let parsed : ReadsSource lexemes (Err e) = subst (λ w. ReadsSource w (Err e)) rest_is c.in_err-parts.ensures in
     rw (q.1, q.2) (refused c.args.text.now lexemes (texts_of c.in_ok-lexed.lexed.names.keys) short c.in_ok-lexed.ensures e parsed)
 
-pub copied-requires : goal.copied-requires
-copied-requires c =
+pub copied_names-requires : goal.copied_names-requires
+copied_names-requires c =
     let l = c.in_ok-lexed.ensures in
     subst AreDifferent (sym l.named) (different_from Core [] l.pieces tt)
 
@@ -42,8 +42,8 @@ returns-clause-found c =
     let rest_is : c.new-parser.result.rest.now ≡ lexemes = c.new-parser.ensures.rest ∙ c.as_slice.ensures.value in
     let parsed : ReadsSource lexemes (Ok parts) = subst (λ w. ReadsSource w (Ok parts)) rest_is c.in_ok-parts.ensures in
     let f = found c.args.text.now lexemes names short c.in_ok-lexed.ensures parts parsed in
-    let p : Source = record { names = c.in_ok-copied.field-0; constructors = map data_of c.from_vec.result; equations = map equation_of c.from_vec-2.result } in
-    let same : source_from names parts ≡ p = λ i. record { names = sym c.in_ok-copied.ensures i; constructors = map data_of (sym c.from_vec.ensures i); equations = map equation_of (sym c.from_vec-2.ensures i) } in
+    let p : Source = record { names = c.in_ok-copied_names.field-0; constructors = map data_of c.from_vec.result; equations = map equation_of c.from_vec-2.result } in
+    let same : source_from names parts ≡ p = λ i. record { names = sym c.in_ok-copied_names.ensures i; constructors = map data_of (sym c.from_vec.ensures i); equations = map equation_of (sym c.from_vec-2.ensures i) } in
     subst (IsText c.args.text.now) same f.is_text
 
 pub returns-clause-unbroken : goal.returns-clause-unbroken

@@ -1,0 +1,11 @@
+-- a text with lambdas: its names, the free names of a lambda, and its lambdas in order
+pub mod Headers
+pub mod Free
+pub mod Abstractions
+-- the rules, and the lifted program
+pub mod Rules
+pub mod Lifted
+-- what a text means without lifting, and the law
+pub mod Meaning
+pub mod Examples
+pub mod Laws

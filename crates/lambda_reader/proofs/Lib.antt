@@ -1,0 +1,16 @@
+pub mod TreeOf
+pub mod Complete
+pub mod Sound
+pub mod PlainTrees
+pub mod Taking
+pub mod Taken
+pub mod Ending
+pub mod Judging
+pub mod AroundOf
+pub mod Parts
+pub mod Named
+pub mod Reading
+pub mod Declaring
+pub mod Readability
+pub mod FirstReserved
+pub mod Texts

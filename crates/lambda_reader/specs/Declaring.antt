@@ -1,0 +1,116 @@
+-- Reading declarations one token after the other, with lambdas and local functions in the bodies of
+-- functions. A device of the proofs.
+use Rattle.std.specs.Prelude.{◌≡◌, ℕ, pos, false, List, [], ◌∷◌, ◌++◌, map, Result, Ok, Err}
+use Rattle.core_reader.specs.declared.syntax.NameId.{NameId}
+use Rattle.core_reader.specs.declared.syntax.Binder.{Binder}
+use Rattle.core_reader.specs.declared.syntax.Data as code-data
+use Rattle.lambda_reader.specs.declared.syntax.Function as code-function
+use Rattle.core_reader.specs.declared.token.Token.{Token}
+use Rattle.core_reader.specs.declared.token.Token.TheVariants as word
+use Rattle.core_reader.specs.declared.token.Lexeme.{Lexeme}
+use Rattle.core_reader.specs.declared.refusal.ReadRefusal.{ReadRefusal}
+use Rattle.core_reader.specs.declared.refusal.ReadRefusal.TheVariants.{NumberRange}
+use Rattle.core_reader.specs.Tree.{data_of}
+use Rattle.core_reader.specs.Grammar.{Room, at_most_200}
+use Rattle.core_reader.specs.ReadingOf.{Steps, Reading, run_of}
+use Rattle.core_reader.specs.Machine.{refused, Goes, Fails}
+use Rattle.lambda_reader.specs.declared.declarations.Declarations.{Declarations}
+use Rattle.lambda_reader.specs.Tree.{Expr}
+use Rattle.lambda_reader.specs.Code.{function}
+use Rattle.lambda_reader.specs.Programs.{Decl, Declares, Defines, SpellsDecls, constructors_of, functions_of}
+use Rattle.lambda_reader.specs.AroundOf as any
+use Rattle.lambda_reader.specs.AroundOf.{with_lambdas, next, enter, all, refuse, Around, AroundState, Outside, Within, around, steps}
+
+abbrev pub declared : NameId → ℕ → ℕ → Decl
+declared n at fields = Declares (record { name = n.0; fields = fields; at = at })
+
+abbrev pub defined : NameId → ℕ → List Binder → Expr → Decl
+defined n at params body = Defines (record { name = n.0; at = at; params = params; body = body })
+
+pub data Own : Type 0 where
+  Top : List Decl → Own
+  DataName : List Decl → Own
+  Count : List Decl → NameId → ℕ → Own
+  DataEnd : List Decl → NameId → ℕ → ℕ → Own
+  Params : List Decl → NameId → ℕ → List Binder → Own
+
+-- where the body of a function stands
+pub data Hole : Type 0 where
+  InFunction : List Decl → NameId → ℕ → List Binder → Hole
+
+abbrev pub Move : Type 0
+Move = any.Move Own Hole (List Decl)
+
+abbrev pub move : Own → ℕ → Token → Move
+move (Top ds) at word.Data = next (DataName ds)
+move (Top ds) at (word.Name n) = next (Params ds n at [])
+move (Top ds) at word.End = all ds
+move (DataName ds) at (word.Con n) = next (Count ds n at)
+move (Count ds n p) at (word.Number false (pos size)) = next (DataEnd ds n p size)
+move (Count ds n p) at (word.Large false) = refuse (NumberRange at)
+move (DataEnd ds n p fields) at word.Semicolon = next (Top (ds ++ declared n p fields ∷ []))
+move (Params ds n p params) at (word.Name m) =
+    next (Params ds n p (params ++ record { name = m; at = at } ∷ []))
+move (Params ds n p params) at word.Equals = enter (InFunction ds n p params)
+move o at token = refuse (refused at token)
+
+abbrev pub finish : Hole → Expr → ℕ → Token → Move
+finish (InFunction ds n p params) e at word.Semicolon = next (Top (ds ++ defined n p params e ∷ []))
+finish h e at token = refuse (refused at token)
+
+abbrev pub declarations : Around with_lambdas
+declarations = record {
+  Own = Own;
+  Hole = Hole;
+  Whole = List Decl;
+  start = Top [];
+  step = λ l o at token. move o at token;
+  give = finish;
+  Spells = SpellsDecls;
+}
+
+-- the reading of a text with lambdas
+abbrev pub lambdas : Reading
+lambdas = around declarations
+
+abbrev pub State : Type 0
+State = AroundState Own Hole
+
+abbrev pub top : List Decl → State
+top ds = Outside (Top ds)
+
+abbrev pub step : Steps State (List Decl)
+step = steps declarations
+
+abbrev pub run : Room → State → List Lexeme → Result (List Decl) ReadRefusal
+run = run_of step
+
+-- ---- what the parts of the reader do that read declarations
+
+-- A count was read.
+abbrev pub ReadsCount : List Lexeme → List Lexeme → Result ℕ ReadRefusal → Type 0
+ReadsCount old new result =
+    (ds : List Decl) (n : NameId) (p : ℕ)
+    → Goes result (run at_most_200 (Outside (Count ds n p)) old) (λ size.
+    run at_most_200 (Outside (DataEnd ds n p size)) new)
+
+abbrev pub ReadsDecl : {X : Type 0} → (X → Decl) → List Lexeme → List Lexeme
+    → Result X ReadRefusal → Type 0
+ReadsDecl view old new result =
+    (ds : List Decl)
+    → Goes result (run at_most_200 (top ds) old) (λ x.
+    run at_most_200 (top (ds ++ view x ∷ [])) new)
+
+abbrev pub data_decl : code-data.Data → Decl
+data_decl d = Declares (data_of d)
+
+abbrev pub function_decl : code-function.Function → Decl
+function_decl f = Defines (function f)
+
+-- All declarations were read.
+abbrev pub ReadsProgram : List Lexeme → Result Declarations ReadRefusal → Type 0
+ReadsProgram text (Ok found) =
+    (ds : List Decl) × (constructors_of ds ≡ map data_of found.constructors.items)
+    × (functions_of ds ≡ map function found.functions.items)
+    × (run at_most_200 (top []) text ≡ Ok ds)
+ReadsProgram text (Err e) = Fails e (run at_most_200 (top []) text)

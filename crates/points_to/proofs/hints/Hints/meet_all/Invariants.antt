@@ -1,5 +1,0 @@
-use Rattle.std.proofs.Common.{length}
-use Rattle.points_to.proofs.hints.Hints.meet_all.Given as goal
-
-abbrev pub decreases-values : goal.decreases-values
-decreases-values l = length l.left
