@@ -1,3 +1,4 @@
+mod Computed
 pub mod Standing
 pub mod Reading
 pub mod PatOf
@@ -8,3 +9,10 @@ pub mod Faulty
 pub mod Judged
 pub mod Walks
 pub mod Tables
+pub mod Inserted
+pub mod Renames
+pub mod Decided
+pub mod Kept
+pub mod Weights
+pub mod Small
+pub mod Special

@@ -1,8 +1,15 @@
 -- What the definitions of equations, their rules and their trees say by themselves.
-use Rattle.std.specs.Prelude.{◌≡◌, ℕ, List}
-use Rattle.match_compile.specs.Source.{Source}
+use Rattle.std.specs.Prelude.{◌≡◌, ℕ, ◌+◌, ◌*◌, ◌≤◌, List, [], ◌∷◌, ◌++◌, Some}
+use Rattle.core_reader.specs.declared.syntax.Binder.{Binder}
+use Rattle.core_reader.specs.Tree.{Expr}
+use Rattle.core_reader.specs.Size.{program_size}
+use Rattle.match_compile.specs.Source.{Equation, Source}
 use Rattle.match_compile.specs.Grammar.{IsText}
 use Rattle.match_compile.specs.Rules.{IsFirstBroken}
+use Rattle.match_compile.specs.Sizes.{source_size, tests}
+use Rattle.match_compile.specs.Translated.{translated}
+use Rattle.match_compile.specs.Decisions.{decisions_from, StandFor}
+use Rattle.match_compile.specs.Trees.{Job, Row, settled, Tree, IsTree, alone_from, insert}
 
 -- A text stands for the equations of one source at most.
 abbrev pub OneSource : Type 0
@@ -13,3 +20,24 @@ abbrev pub OneFirst : Type 0
 OneFirst =
     (text : List ℕ) (k at k' at' : ℕ) → IsFirstBroken text k at → IsFirstBroken text k' at'
     → (k ≡ k') × (at ≡ at')
+
+-- A row that goes into a tree for others makes it a tree for all of them, in their order.
+abbrev pub RowsGoIn : Type 0
+RowsGoIn =
+    (room n : ℕ) (body : Expr) (bound : List (Binder × ℕ)) (jobs : List Job) (rows : List Row) (t : Tree)
+    (u : Tree × ℕ) → IsTree rows t → insert room t n (settled body bound jobs) ≡ Some u
+    → IsTree (rows ++ settled body bound jobs ∷ []) u.0
+
+-- A row by itself is a tree.
+abbrev pub OneRow : Type 0
+OneRow =
+    (n : ℕ) (body : Expr) (bound : List (Binder × ℕ)) (jobs : List Job)
+    → IsTree (settled body bound jobs ∷ []) (alone_from n (settled body bound jobs)).0
+
+-- The trees of a function stand for its equations, each for some of them, in their order.
+abbrev pub TreesStand : Type 0
+TreesStand = (k : ℕ) (es : List Equation) → StandFor k es (decisions_from k es)
+
+-- The program that equations become is no larger than they are, with 16 for each test.
+abbrev pub IsSmall : Type 0
+IsSmall = (c : Source) → program_size (translated c) ≤ source_size c + 16 * tests c

@@ -2,7 +2,22 @@
 pub mod Source
 pub mod Grammar
 pub mod Parts
+pub mod Heads
 pub mod Rules
+-- equations that have a meaning, their size, their normal form, and what they put out
+pub mod Sound
+pub mod Sizes
+pub mod Form
+pub mod ByEquations
+pub mod Stays
+pub mod Jobs
+-- the trees of tests that equations become
+pub mod Trees
+pub mod Decisions
+pub mod Renamed
+pub mod Translated
+-- examples
+pub mod Examples
 -- laws
 pub mod Laws
 -- what the code keeps, and devices of the proofs

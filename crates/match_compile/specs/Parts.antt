@@ -1,5 +1,5 @@
--- The names and the constructors in patterns, each in text order.
-use Rattle.std.specs.Prelude.{ℕ, suc, List, [], ◌∷◌, ◌++◌}
+-- The names and the constructors in patterns, each in text order, and the number of tests.
+use Rattle.std.specs.Prelude.{ℕ, suc, List, [], ◌∷◌, ◌++◌, ◌+◌}
 use Rattle.core_reader.specs.declared.syntax.Binder.{Binder}
 use Rattle.match_compile.specs.Source.{Pat, Name, Int, Con, Pats, NoPats, AndPat}
 
@@ -27,3 +27,14 @@ abbrev mutual
   pub constructors_of : Pats → List (Binder × ℕ)
   constructors_of NoPats = []
   constructors_of (AndPat p ps) = constructors_in p ++ constructors_of ps
+
+-- the integer and constructor patterns
+abbrev mutual
+  pub tests_in : Pat → ℕ
+  tests_in (Name b) = 0
+  tests_in (Int k at) = 1
+  tests_in (Con c ps) = suc (tests_of ps)
+
+  pub tests_of : Pats → ℕ
+  tests_of NoPats = 0
+  tests_of (AndPat p ps) = tests_in p + tests_of ps

@@ -1,6 +1,9 @@
-//! What the definitions of equations and their rules say by themselves.
+//! What the definitions of equations, their rules and their trees say by themselves.
 
-ghost use Rattle.match_compile.specs.Laws.{OneSource, OneFirst};
+ghost use Rattle.match_compile.specs.Laws.{OneSource, OneFirst, RowsGoIn, OneRow, TreesStand, IsSmall};
+ghost use Rattle.match_compile.specs.Stays.{KnownStays};
+ghost use Rattle.match_compile.specs.Jobs.{Specialises};
+ghost use Rattle.match_compile.specs.Examples.{Examples};
 
 /// A text stands for the equations of one source at most.
 pub fn one_source()
@@ -10,4 +13,39 @@ pub fn one_source()
 /// At most one rule is the first that a text breaks, at one place.
 pub fn one_first()
     ensures { OneFirst }
+{}
+
+/// A row that goes into a tree for others makes it a tree for all of them, in their order.
+pub fn rows_go_in()
+    ensures { RowsGoIn }
+{}
+
+/// A row by itself is a tree.
+pub fn one_row()
+    ensures { OneRow }
+{}
+
+/// The trees of a function stand for its equations, each for some of them, in their order.
+pub fn trees_stand()
+    ensures { TreesStand }
+{}
+
+/// The evaluation of equations leaves each value in the heap as it was.
+pub fn known_stays()
+    ensures { KnownStays }
+{}
+
+/// The program that equations become is no larger than they are, with 16 for each test.
+pub fn is_small()
+    ensures { IsSmall }
+{}
+
+/// A value that is known decides the tests of its name that come first, whatever was tried before.
+pub fn specialises()
+    ensures { Specialises }
+{}
+
+/// What small texts of equations become and put out, computed from the definitions.
+pub fn examples()
+    ensures { Examples }
 {}

@@ -1,0 +1,115 @@
+-- A value that is known decides the tests of its name.
+use Rattle.std.proofs.Common.{◌≡◌, ℕ, suc, ◌+◌, Bool, true, false, cond, List, [], ◌∷◌, ◌++◌, length, Option, Some, None, refl, sym, ap, ◌∙◌, arith}
+use Rattle.std.specs.Prelude.{◌==◌, slice_get}
+use Rattle.seq.proofs.Order.{eq_from}
+use Rattle.core_meaning.specs.Heap.{Value, Known}
+use Rattle.core_meaning.specs.Evaluation.{State, Answer, Gives, NoAlternative, OutOfBound, and_then, Onward, is_con, fields_of, is_int, parameters, force_binding, force, eval}
+use Rattle.match_compile.specs.Form.{Form, Any, Is, Has, Forms, NoForms, AndForm, Equations}
+use Rattle.match_compile.specs.ByEquations.{bare, match, matches, within}
+use Rattle.match_compile.specs.Stays.{state_of, Keeps}
+use Rattle.match_compile.specs.Jobs.{Task, Attempt, attempt, tasks_of, count, meets, attempts, kept_by, decided_by, known_first, with_known, FormFits, TaskFits, AttemptsFit, Specialises}
+use Rattle.match_compile.proofs.Kept.{Stays, same, on, force_stays, known_stays}
+
+-- two ways on that agree from here on
+abbrev Agree : State → (State → Answer) → (State → Answer) → Type 0
+Agree s c c' = (t : State) → Keeps s t → c t ≡ c' t
+
+agree_on : (s t : State) (c c' : State → Answer) → Keeps s t → Agree s c c' → Agree t c c'
+agree_on s t c c' k g u l = g u (on s t u k l)
+
+then_agrees : (s : State) (r : Answer) (go go' : Value → State → Answer) → Keeps s (state_of r) → ((v : Value) → Agree s (go v) (go' v)) → and_then r go ≡ and_then r go'
+then_agrees s (Gives v t) go go' k g = g v t k
+then_agrees s (NoAlternative t) go go' k g = refl
+then_agrees s (OutOfBound t) go go' k g = refl
+
+-- one of two answers
+abbrev choose : Bool → Answer → Answer → Answer
+choose b x y = elim b [ true ↦ x | false ↦ y ]
+
+cases_agree : (b : Bool) (x x' y y' : Answer) → x ≡ x' → y ≡ y' → choose b x y ≡ choose b x' y'
+cases_agree true x x' y y' e f = e
+cases_agree false x x' y y' e f = f
+
+module _ (q : Equations) (onward : Onward) (goes : (t : _) (d : ℕ) → Stays (onward t d)) where
+  mutual
+    match_agrees : (f : Form) (a : ℕ) (bound : List ℕ) (d : ℕ) (s : State) (go go' : List ℕ → State → Answer) (fails fails' : State → Answer) → ((xs : List ℕ) → Agree s (go xs) (go' xs)) → Agree s fails fails'
+        → match q onward f a bound d s go fails ≡ match q onward f a bound d s go' fails'
+    match_agrees Any a bound d s go go' fails fails' g f = g (bound ++ a ∷ []) s (same s)
+    match_agrees (Is k) a bound d s go go' fails fails' g f =
+        then_agrees s (force (bare q) onward a (suc d) s) (λ v s. elim (is_int k v) [ true ↦ go bound s | false ↦ fails s ]) (λ v s. elim (is_int k v) [ true ↦ go' bound s | false ↦ fails' s ])
+        (force_stays q onward goes a (suc d) s) (λ v t l. cases_agree (is_int k v) (go bound t) (go' bound t) (fails t) (fails' t) (g bound t l) (f t l))
+    match_agrees (Has k fs) a bound d s go go' fails fails' g f =
+        then_agrees s (force (bare q) onward a (suc d) s) (λ v s. elim (is_con k v) [ true ↦ matches q onward fs (fields_of v) bound d s go fails | false ↦ fails s ]) (λ v s. elim (is_con k v) [ true ↦ matches q onward fs (fields_of v) bound d s go' fails' | false ↦ fails' s ])
+        (force_stays q onward goes a (suc d) s)
+        (λ v t l. cases_agree (is_con k v) (matches q onward fs (fields_of v) bound d t go fails) (matches q onward fs (fields_of v) bound d t go' fails') (fails t) (fails' t)
+        (matches_agree fs (fields_of v) bound d t go go' fails fails' (λ xs. agree_on s t (go xs) (go' xs) l (g xs)) (agree_on s t fails fails' l f)) (f t l))
+
+    matches_agree : (fs : Forms) (as' bound : List ℕ) (d : ℕ) (s : State) (go go' : List ℕ → State → Answer) (fails fails' : State → Answer) → ((xs : List ℕ) → Agree s (go xs) (go' xs)) → Agree s fails fails'
+        → matches q onward fs as' bound d s go fails ≡ matches q onward fs as' bound d s go' fails'
+    matches_agree NoForms as' bound d s go go' fails fails' g f = g bound s (same s)
+    matches_agree (AndForm p ps) [] bound d s go go' fails fails' g f = f s (same s)
+    matches_agree (AndForm p ps) (a ∷ as') bound d s go go' fails fails' g f =
+        match_agrees p a bound d s (λ xs t. matches q onward ps as' xs d t go fails) (λ xs t. matches q onward ps as' xs d t go' fails') fails fails'
+        (λ xs t l. matches_agree ps as' xs d t go go' fails fails' (λ ys. agree_on s t (go ys) (go' ys) l (g ys)) (agree_on s t fails fails' l f)) f
+
+  meets_agrees : (js : List Task) (bound : List ℕ) (d : ℕ) (s : State) (go : List ℕ → State → Answer) (fails fails' : State → Answer) → Agree s fails fails' → meets q onward js bound d s go fails ≡ meets q onward js bound d s go fails'
+  meets_agrees [] bound d s go fails fails' f = refl
+  meets_agrees (j ∷ js) bound d s go fails fails' f =
+      match_agrees j.1 j.0 bound d s (λ xs t. meets q onward js xs d t go fails) (λ xs t. meets q onward js xs d t go fails') fails fails'
+      (λ xs t l. meets_agrees js xs d t go fails fails' (agree_on s t fails fails' l f)) f
+
+  -- forms for fields are tasks before the others
+  fields_first : (fs : Forms) (as' : List ℕ) (js : List Task) (bound : List ℕ) (d : ℕ) (s : State) (go : List ℕ → State → Answer) (fails : State → Answer) → length as' ≡ count fs
+      → matches q onward fs as' bound d s (λ xs t. meets q onward js xs d t go fails) fails ≡ meets q onward (tasks_of as' fs ++ js) bound d s go fails
+  fields_first NoForms as' js bound d s go fails e = refl
+  fields_first (AndForm f fs) [] js bound d s go fails e = absurd (omega (arith, e))
+  fields_first (AndForm f fs) (a ∷ as') js bound d s go fails e =
+      match_agrees f a bound d s (λ xs t. matches q onward fs as' xs d t (λ xs t. meets q onward js xs d t go fails) fails) (λ xs t. meets q onward (tasks_of as' fs ++ js) xs d t go fails) fails fails
+      (λ xs t l. fields_first fs as' js xs d t go fails (omega (arith, e))) (λ t l. refl)
+
+  abbrev body_of : Attempt → ℕ → List ℕ → State → Answer
+  body_of r d xs s = eval (bare q) onward r.body (parameters xs) d s
+
+  known_value : (a d : ℕ) (v : Value) (s : State) (go : Value → State → Answer) → slice_get s.heap a ≡ Some (Known v) → and_then (force (bare q) onward a d s) go ≡ go v s
+  known_value a d v s go e = ap (λ b. and_then (force_binding (bare q) onward b a d s) go) e
+
+  kept_on : (b : Bool) (r : Attempt) (rest : List Attempt) (d : ℕ) (s : State) → choose b (meets q onward r.tasks r.bound d s (body_of r d) (λ s. attempts q onward rest d s)) (attempts q onward rest d s) ≡ attempts q onward (kept_by b r ++ rest) d s
+  kept_on true r rest d s = refl
+  kept_on false r rest d s = refl
+
+  fitting : (b : Bool) (r : Attempt) (fs : Forms) (as' : List ℕ) (js : List Task) (d : ℕ) (s : State) (fails : State → Answer) → (b ≡ true → length as' ≡ count fs)
+      → choose b (matches q onward fs as' r.bound d s (λ xs t. meets q onward js xs d t (body_of r d) fails) fails) (fails s) ≡ choose b (meets q onward (tasks_of as' fs ++ js) r.bound d s (body_of r d) fails) (fails s)
+  fitting true r fs as' js d s fails e = fields_first fs as' js r.bound d s (body_of r d) fails (e refl)
+  fitting false r fs as' js d s fails e = refl
+
+  -- an attempt whose first task is at the name
+  one_decided : (a : ℕ) (v : Value) (r : Attempt) (f : Form) (js : List Task) (rest : List Attempt) (d : ℕ) (s : State) → r.tasks ≡ (a, f) ∷ js → FormFits v f → slice_get s.heap a ≡ Some (Known v)
+      → meets q onward ((a, f) ∷ js) r.bound d s (body_of r d) (λ s. attempts q onward rest d s) ≡ attempts q onward (decided_by v r f js ++ rest) d s
+  one_decided a v r Any js rest d s is fit e = ap (λ ts. meets q onward ts r.bound d s (body_of r d) (λ s. attempts q onward rest d s)) (sym is)
+  one_decided a v r (Is k) js rest d s is fit e =
+      known_value a (suc d) v s (λ v s. elim (is_int k v) [ true ↦ meets q onward js r.bound d s (body_of r d) (λ s. attempts q onward rest d s) | false ↦ attempts q onward rest d s ]) e
+      ∙ kept_on (is_int k v) (attempt r.body r.bound js) rest d s
+  one_decided a v r (Has k fs) js rest d s is fit e =
+      known_value a (suc d) v s (λ v s. elim (is_con k v) [ true ↦ matches q onward fs (fields_of v) r.bound d s (λ xs t. meets q onward js xs d t (body_of r d) (λ s. attempts q onward rest d s)) (λ s. attempts q onward rest d s) | false ↦ attempts q onward rest d s ]) e
+      ∙ fitting (is_con k v) r fs (fields_of v) js d s (λ s. attempts q onward rest d s) fit
+      ∙ kept_on (is_con k v) (attempt r.body r.bound (tasks_of (fields_of v) fs ++ js)) rest d s
+
+  one_first : (a : ℕ) (v : Value) (r : Attempt) (ts : List Task) (rest : List Attempt) (d : ℕ) (s : State) → r.tasks ≡ ts → TaskFits a v ts → slice_get s.heap a ≡ Some (Known v)
+      → meets q onward ts r.bound d s (body_of r d) (λ s. attempts q onward rest d s) ≡ attempts q onward (known_first a v r ts ++ rest) d s
+  one_first a v r [] rest d s is fit e = ap (λ ts. meets q onward ts r.bound d s (body_of r d) (λ s. attempts q onward rest d s)) (sym is)
+  one_first a v r (j ∷ js) rest d s is fit e = go (j.0 == a) refl
+    where
+      go : (b : Bool) → (j.0 == a) ≡ b → meets q onward (j ∷ js) r.bound d s (body_of r d) (λ s. attempts q onward rest d s) ≡ attempts q onward (cond b (decided_by v r j.1 js) (r ∷ []) ++ rest) d s
+      go false h = ap (λ ts. meets q onward ts r.bound d s (body_of r d) (λ s. attempts q onward rest d s)) (sym is)
+      go true h =
+          let at : j.0 ≡ a = eq_from j.0 a h in
+          one_decided j.0 v r j.1 js rest d s is (fit at) (ap (slice_get s.heap) at ∙ e)
+
+  all_decided : (a : ℕ) (v : Value) (rs : List Attempt) (d : ℕ) (s : State) → AttemptsFit a v rs → slice_get s.heap a ≡ Some (Known v) → attempts q onward rs d s ≡ attempts q onward (with_known a v rs) d s
+  all_decided a v [] d s fit e = refl
+  all_decided a v (r ∷ rs) d s fit e =
+      meets_agrees r.tasks r.bound d s (body_of r d) (λ s. attempts q onward rs d s) (λ s. attempts q onward (with_known a v rs) d s) (λ t l. all_decided a v rs d t fit.1 (l a v e))
+      ∙ one_first a v r r.tasks (with_known a v rs) d s refl fit.0 e
+
+pub specialises : Specialises
+specialises q n a v rs d s fit e = all_decided q (within q n) (known_stays q n) a v rs d s fit e
