@@ -12,8 +12,8 @@ differs name word other = go (bytes_eq name word) refl where
 
 -- a name that none of the forms has
 pub other_name : (ask : Form → Option CommandLine) (name : List ℕ) → name ≢ codes "run" → name ≢ codes "check" → name ≢ codes "list"
-    → name ≢ codes "build" → name ≢ codes "exec" → name ≢ codes "gen" → None ≡ by_name ask name
-other_name ask name run check list build exec gen =
+    → name ≢ codes "build" → name ≢ codes "exec" → name ≢ codes "gen" → name ≢ codes "lift" → None ≡ by_name ask name
+other_name ask name run check list build exec gen lift =
     rw (
       differs name (codes "run") run,
       differs name (codes "check") check,
@@ -21,4 +21,5 @@ other_name ask name run check list build exec gen =
       differs name (codes "build") build,
       differs name (codes "exec") exec,
       differs name (codes "gen") gen,
+      differs name (codes "lift") lift,
     ) refl

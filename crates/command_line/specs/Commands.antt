@@ -9,7 +9,7 @@ use Rattle.command_line.specs.declared.command.Listing.{Listing}
 use Rattle.command_line.specs.declared.command.Listing.TheVariants.{Read, Translate, Eval, Apply, Vectorise, Simplify, Fetch, Copy, Update, Unbox, Raise, Dead, Code}
 use Rattle.command_line.specs.declared.files.Files.{Files}
 use Rattle.command_line.specs.declared.command.Command.{Command}
-use Rattle.command_line.specs.declared.command.Command.TheVariants.{Run, Check, List as Listed, Build, Exec, Gen, Link}
+use Rattle.command_line.specs.declared.command.Command.TheVariants.{Run, Check, List as Listed, Build, Exec, Gen, Link, Lift}
 
 -- what a command line asks for
 pub data CommandLine : Type 0 where
@@ -20,6 +20,7 @@ pub data CommandLine : Type 0 where
   ExecImage : (image : List ℕ) → (steps : ℕ) → CommandLine
   GenRun : (seed size : ℕ) → CommandLine
   LinkFiles : (files : List (List ℕ)) → CommandLine
+  LiftFile : (file : List ℕ) → CommandLine
 
 -- the names of files, in their order
 abbrev pub names_of : Files → List (List ℕ)
@@ -34,6 +35,7 @@ asked_by (Build file cells stack) = BuildFile file.now cells stack
 asked_by (Exec image steps) = ExecImage image.now steps
 asked_by (Gen seed size) = GenRun seed size
 asked_by (Link files) = LinkFiles (names_of files)
+asked_by (Lift file) = LiftFile file.now
 
 -- the passes that a listing can follow
 abbrev pub listing_of : List ℕ → Option Listing
@@ -174,6 +176,10 @@ gen_form = record {
       (option_and_then (λ seed. option_map (GenRun seed) (size_of given)) (seed_of given));
 }
 
+-- `lift FILE`
+abbrev pub lift_form : Form
+lift_form = record { options = []; asks = λ given. of_operand (λ file. Some (LiftFile file)) }
+
 -- `link FILE..`, with 1 to 64 files
 abbrev pub link_form : Form
 link_form = record {
@@ -193,7 +199,8 @@ by_name ask name =
     else (if bytes_eq name (codes "build") then ask build_form
     else (if bytes_eq name (codes "exec") then ask exec_form
     else (if bytes_eq name (codes "gen") then ask gen_form
-    else None)))))
+    else (if bytes_eq name (codes "lift") then ask lift_form
+    else None))))))
 
 -- what parts with options of the form alone ask for
 abbrev pub asked : List Part → Form → Option CommandLine

@@ -2,7 +2,7 @@
 
 ghost use Rattle.std.specs.Prelude.{◌≡◌, map, string_bytes};
 ghost use Rattle.std.specs.Option.{option_map, option_and_then};
-ghost use Rattle.command_line.specs.Commands.{asked_by, asked, command_from, listing_of, run_form, check_form, list_form, build_form, exec_form, gen_form, link_form};
+ghost use Rattle.command_line.specs.Commands.{asked_by, asked, command_from, listing_of, run_form, check_form, list_form, build_form, exec_form, gen_form, lift_form, link_form};
 ghost use Rattle.command_line.specs.Parts.{parts_of};
 ghost use Rattle.command_line.specs.Walk.{said, asked_said, chosen};
 
@@ -84,6 +84,10 @@ pub enum Command<'a> {
     Link {
         files: Files<'a>,
     },
+    /// `lift FILE`: write the text of Core that a text with lambdas and local functions stands for.
+    Lift {
+        file: &'a str,
+    },
 }
 
 /// The most files that are linked.
@@ -137,6 +141,7 @@ impl<'a> Command<'a> {
             "build" => Command::build(arguments),
             "exec" => Command::exec(arguments),
             "gen" => Command::generate(arguments),
+            "lift" => Command::lift(arguments),
             _ => None,
         }
     }
@@ -182,6 +187,25 @@ impl<'a> Command<'a> {
             return None;
         };
         Some(Command::Check { file })
+    }
+
+    /// `lift` with its arguments.
+    fn lift(arguments: Arguments<'a>) -> Option<Command<'a>>
+        ensures { option_map asked_by result ≡ asked_said (said arguments.entry) lift_form }
+    {
+        let Arguments {
+            operand: Some(file),
+            after: None,
+            heap: None,
+            stack: None,
+            steps: None,
+            seed: None,
+            size: None,
+        } = arguments
+        else {
+            return None;
+        };
+        Some(Command::Lift { file })
     }
 
     /// `list` with its arguments.

@@ -100,7 +100,7 @@ fn files_that_are_not_there(rt: HostRuntime) -> Result<(), Fail> {
 
 #[test]
 fn words_that_are_no_command(rt: HostRuntime) -> Result<(), Fail> {
-    let lines: [&[&str]; 17] = [
+    let lines: [&[&str]; 19] = [
         &["grinc"],
         &["grinc", "run"],
         &["grinc", "run", "a", "b"],
@@ -117,6 +117,8 @@ fn words_that_are_no_command(rt: HostRuntime) -> Result<(), Fail> {
         &["grinc", "gen", "--seed", "1"],
         &["grinc", "link"],
         &["grinc", "link", "a", "--steps", "1"],
+        &["grinc", "lift"],
+        &["grinc", "lift", "a", "--steps", "1"],
         &["grinc", "gen", "--seed", "1", "--size", "201"],
     ];
     for words in lines {

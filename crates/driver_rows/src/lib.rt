@@ -20,6 +20,8 @@ mod input_rows;
 #[cfg(test)]
 mod large_rows;
 #[cfg(test)]
+mod lift_rows;
+#[cfg(test)]
 mod link_rows;
 #[cfg(test)]
 mod list_rows;

@@ -1,7 +1,7 @@
 -- What a command line gives where nothing failed, and what it leaves where memory is wanting.
 use Rattle.std.proofs.Common.{◌≡◌, ℕ, List, Option, Some, None, refl}
 use mathlib.Core.Logic.{◌⊎◌, inl, inr}
-use Rattle.command_line.specs.Commands.{CommandLine, RunFile, CheckFile, ListFile, BuildFile, ExecImage, GenRun, LinkFiles}
+use Rattle.command_line.specs.Commands.{CommandLine, RunFile, CheckFile, ListFile, BuildFile, ExecImage, GenRun, LinkFiles, LiftFile}
 use Rattle.command_line.specs.declared.command.Listing.{Listing}
 use Rattle.command_line.specs.declared.command.Listing.TheVariants as listing
 use Rattle.generator.specs.Generated.{generated}
@@ -13,11 +13,12 @@ use Rattle.grin_driver.specs.Answer.{OfOperand, OfOperands, OfFiles, Answers, mo
 use Rattle.grin_driver.specs.After.{ListsAfter}
 use Rattle.grin_driver.specs.Building.{Builds}
 use Rattle.grin_driver.specs.Linking.{Links}
+use Rattle.grin_driver.specs.Lifting.{Lifts}
 use Rattle.grin_driver.specs.Checking.{Checks}
 use Rattle.grin_driver.specs.Execution.{IsUntouched, Execution}
 use Rattle.grin_driver.specs.Outcome.{Outcome}
 use Rattle.grin_driver.specs.Completeness.{OneAccepted, Or, NothingFailed, Gives}
-use Rattle.grin_driver.proofs.Complete.{check_gives, list_gives, build_gives, generation_gives, exec_gives, run_gives, link_gives}
+use Rattle.grin_driver.proofs.Complete.{check_gives, list_gives, build_gives, generation_gives, exec_gives, run_gives, link_gives, lift_gives}
 
 module _ {F I K : Type 0} (f : ShelfChange F) (i : SourceChange I) (o : SinkChange K) where
   module _ (n : NothingFailed f i o) where
@@ -61,6 +62,8 @@ module _ {F I K : Type 0} (f : ShelfChange F) (i : SourceChange I) (o : SinkChan
     command_gives one (Some (GenRun seed size)) status h = generation_gives o n.out (generated seed size) one status h.0
     command_gives one (Some (LinkFiles files)) status h =
         of_texts most_of_text (o.new ≡ o.old) files (λ texts status. Links o texts status) status _ (λ texts. link_gives o n.out texts status) h.0
+    command_gives one (Some (LiftFile file)) status h =
+        of_bytes most_of_text (o.new ≡ o.old) file (λ text status. Lifts o text status) status _ (λ text. lift_gives o n.out text status) h.0
 
   -- ---- want of memory
 
@@ -94,3 +97,5 @@ module _ {F I K : Type 0} (f : ShelfChange F) (i : SourceChange I) (o : SinkChan
   memory_untouched (Some (GenRun seed size)) h = h.0.1
   memory_untouched (Some (LinkFiles files)) (inl h, same) = h.1
   memory_untouched (Some (LinkFiles files)) (inr h, same) = h.2
+  memory_untouched (Some (LiftFile file)) (inl h, same) = h.1
+  memory_untouched (Some (LiftFile file)) (inr h, same) = h.2

@@ -11,6 +11,7 @@ use Rattle.arity_check.specs.Program.{Program}
 use Rattle.arity_check.specs.Broken.{Broken}
 use Rattle.elf32.specs.Rules.{KeepsBelow}
 use Rattle.core_link.specs.Rules as linking
+use Rattle.lambda_lift.specs.Rules as lifting
 use Rattle.grin_io.specs.Changes.{SourceChange, SinkChange}
 use Rattle.grin_io.specs.Causes.{Rose}
 use Rattle.grin_stages.specs.Stage.{Fits, HasExpandedSize}
@@ -29,6 +30,7 @@ use Rattle.grin_driver.specs.CodeListing.{ListsCode}
 use Rattle.grin_driver.specs.After.{ListsAfter}
 use Rattle.grin_driver.specs.Building.{Builds}
 use Rattle.grin_driver.specs.Linking.{Links}
+use Rattle.grin_driver.specs.Lifting.{Lifts}
 use Rattle.grin_driver.specs.Checking.{Checks}
 use Rattle.grin_driver.specs.Execution.{status_of, Execution}
 use Rattle.grin_driver.specs.Outcome.{IsNotRun, Outcome}
@@ -149,6 +151,18 @@ link_gives o well texts WriteFault h = absurd (well h.2.2.rose)
 link_gives o well texts (Refused k number) h = inr (λ u. absurd (u h.0.2.group k h.0.0 h.0.1 h.0.2.broken))
 link_gives o well texts OutOfMemory h = inl refl
 link_gives o well texts _ h = absurd h
+
+unlifted_broken : (text : List ℕ) (k at : ℕ) → lifting.IsUnbroken text → lifting.IsFirstBroken text k at → ⊥
+unlifted_broken text k at u (lifting.Unread h) = u.read k at h.broken
+unlifted_broken text k at u (lifting.Unlifted read broken first) = u.lifted k at broken
+
+pub lift_gives : {K : Type 0} (o : SinkChange K) → (Rose (o.faults o.old) (o.faults o.new) → ⊥) → (text : List ℕ) (status : Status) → Lifts o text status
+    → (status ≡ OutOfMemory) ⊎ (lifting.IsUnbroken text → status ≡ Done)
+lift_gives o well text Done h = inr (λ u. refl)
+lift_gives o well text WriteFault h = absurd (well h.2.2.rose)
+lift_gives o well text (Refused k at) h = inr (λ u. absurd (unlifted_broken text k at u h.0))
+lift_gives o well text OutOfMemory h = inl refl
+lift_gives o well text _ h = absurd h
 
 -- ---- the statuses of a run
 

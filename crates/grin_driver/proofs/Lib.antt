@@ -15,4 +15,5 @@ pub mod Commands
 pub mod Codes
 pub mod Listings
 pub mod Linked
+pub mod Lifted
 pub mod Ranges

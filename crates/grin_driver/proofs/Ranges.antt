@@ -7,7 +7,7 @@ use Rattle.std.specs.Str.Parse.{digits_value}
 use Rattle.std.proofs.lemmas.Bool.Decides.{nat_tests}
 use Rattle.command_line.specs.Numbers.{is_number}
 use Rattle.command_line.specs.Parts.{Part, parts_of}
-use Rattle.command_line.specs.Commands.{CommandLine, RunFile, ListFile, BuildFile, ExecImage, GenRun, LinkFiles, Form, Given, option_number, cells_of, stack_of, steps_of, run_form, check_form, list_form, build_form, exec_form, gen_form, link_form, of_operand, without_operand, asked, command_from, command_of, operands, values, takes_only, only, is_empty, seed_of, size_of}
+use Rattle.command_line.specs.Commands.{CommandLine, RunFile, ListFile, BuildFile, ExecImage, GenRun, LinkFiles, Form, Given, option_number, cells_of, stack_of, steps_of, run_form, check_form, list_form, build_form, exec_form, gen_form, lift_form, link_form, of_operand, without_operand, asked, command_from, command_of, operands, values, takes_only, only, is_empty, seed_of, size_of}
 use Rattle.grin_driver.specs.Answer.{IsWithin}
 
 -- ---- of what may be none
@@ -61,6 +61,9 @@ runs_within given operands = of_any _ operands (λ file.
 checks_within : (given : Given) (operands : List (List ℕ)) → IfSome (check_form.asks given operands) IsWithin
 checks_within given operands = of_any _ operands (λ file. tt)
 
+lifts_within : (given : Given) (operands : List (List ℕ)) → IfSome (lift_form.asks given operands) IsWithin
+lifts_within given operands = of_any _ operands (λ file. tt)
+
 lists_within : (given : Given) (operands : List (List ℕ)) → IfSome (list_form.asks given operands) IsWithin
 lists_within given operands = of_any _ operands (λ file. some_map (ListFile file) (λ after. Unit {0}) IsWithin _ (some_any _) (λ after n. tt))
 
@@ -99,7 +102,8 @@ from_within name parts =
     (some_either IsWithin (bytes_eq name (codes "list")) _ _ (asked_within parts list_form lists_within)
     (some_either IsWithin (bytes_eq name (codes "build")) _ _ (asked_within parts build_form builds_within)
     (some_either IsWithin (bytes_eq name (codes "exec")) _ _ (asked_within parts exec_form execs_within)
-    (some_either IsWithin (bytes_eq name (codes "gen")) _ None (asked_within parts gen_form gens_within) tt))))))
+    (some_either IsWithin (bytes_eq name (codes "gen")) _ _ (asked_within parts gen_form gens_within)
+    (some_either IsWithin (bytes_eq name (codes "lift")) _ None (asked_within parts lift_form lifts_within) tt)))))))
 
 commands_within : (words : List (List ℕ)) → IfSome (command_of words) IsWithin
 commands_within [] = tt

@@ -3,7 +3,9 @@ use Rattle.std.proofs.Common.{◌≡◌, ℕ, ◌<◌, List, length, refl, subst
 use mathlib.Core.Logic.{inl, inr}
 use Rattle.core_reader.specs.Tree as tree
 use Rattle.core_reader.proofs.Unbroken.{unbroken_is_readable}
-use Rattle.core_reader.specs.Text.{IsFirstUnread, TextTooLong, NoLater}
+use Rattle.core_reader.specs.declared.dialect.Dialect.{Dialect}
+use Rattle.core_reader.specs.ProgramsOf.{Language}
+use Rattle.core_reader.specs.RulesOf.{IsFirstUnread, TextTooLong, NoLater}
 use Rattle.arity_check.specs.Program.{Program}
 use Rattle.arity_check.specs.Accepted.{IsFirstBroken, IsValid}
 use Rattle.arity_check.specs.First as check
@@ -49,19 +51,21 @@ accepted_is_valid text source p a = record { program = source; readable = unbrok
 
 -- ---- texts that are too long
 
-too_long : (text : List ℕ) → 1048576 < length text → IsFirstUnread text 5 1048576
-too_long text long = record { broken = TextTooLong long; first = λ k at h. inl refl }
-
 five_first : (k at at' : ℕ) → NoLater k at 5 at' → k ≡ 5
 five_first k at at' (inl h) = h
 five_first k at at' (inr h) = absurd (h.0 refl)
 
--- of a text that is too long so much of its front is too long
-pub unread_long : (front text : List ℕ) → 1048576 < length front → 1048576 < length text → (k at : ℕ) → IsFirstUnread front k at → IsFirstUnread text k at
-unread_long front text short long k at h =
-    let five : k ≡ 5 = five_first k at 1048576 (h.first 5 1048576 (TextTooLong short)) in
-    let limit : at ≡ 1048576 = at_five front k at h.broken five in
-    subst (λ n. IsFirstUnread text n at) (sym five) (subst (λ n. IsFirstUnread text 5 n) (sym limit) (too_long text long))
+-- a text of any language
+module _ {P : Type 0} {d : Dialect} {Derives : Language P} where
+  too_long : (text : List ℕ) → 1048576 < length text → IsFirstUnread d Derives text 5 1048576
+  too_long text long = record { broken = TextTooLong long; first = λ k at h. inl refl }
+
+  -- of a text that is too long so much of its front is too long
+  pub unread_long : (front text : List ℕ) → 1048576 < length front → 1048576 < length text → (k at : ℕ) → IsFirstUnread d Derives front k at → IsFirstUnread d Derives text k at
+  unread_long front text short long k at h =
+      let five : k ≡ 5 = five_first k at 1048576 (h.first 5 1048576 (TextTooLong short)) in
+      let limit : at ≡ 1048576 = at_five front k at h.broken five in
+      subst (λ n. IsFirstUnread d Derives text n at) (sym five) (subst (λ n. IsFirstUnread d Derives text 5 n) (sym limit) (too_long text long))
 
 pub refused_long : (front text : List ℕ) → 1048576 < length front → 1048576 < length text → (k at : ℕ) → IsRefusedBy front k at → IsRefusedBy text k at
 refused_long front text short long k at (Unread _ _ h) = Unread k at (unread_long front text short long k at h)

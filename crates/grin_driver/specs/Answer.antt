@@ -1,7 +1,7 @@
 -- What each status says of the words of a command line.
 use Rattle.std.specs.Prelude.{◌≡◌, ◌⊎◌, ℕ, min, List, length, map, take, Option, Some, None}
 use Rattle.std.specs.List.{AllZip}
-use Rattle.command_line.specs.Commands.{CommandLine, RunFile, CheckFile, ListFile, BuildFile, ExecImage, GenRun, LinkFiles}
+use Rattle.command_line.specs.Commands.{CommandLine, RunFile, CheckFile, ListFile, BuildFile, ExecImage, GenRun, LinkFiles, LiftFile}
 use Rattle.grin_io.specs.Content.{file_named}
 use Rattle.grin_io.specs.Changes.{Told, ShelfChange, SourceChange, SinkChange}
 use Rattle.grin_driver.specs.declared.status.Status.{Status}
@@ -14,6 +14,7 @@ use Rattle.grin_driver.specs.After.{ListsAfter}
 use Rattle.grin_driver.specs.Building.{Builds}
 use Rattle.grin_driver.specs.Execution.{IsUntouched, Execution}
 use Rattle.grin_driver.specs.Linking.{Links}
+use Rattle.grin_driver.specs.Lifting.{Lifts}
 use Rattle.generator.specs.Generated.{generated}
 use Rattle.grin_driver.specs.Generating.{Generates}
 
@@ -74,6 +75,7 @@ OfNamed Holds (BuildFile file cells stack) = Holds file
 OfNamed Holds (ExecImage image steps) = Holds image
 OfNamed Holds (GenRun seed size) = Unit {0}
 OfNamed Holds (LinkFiles files) = OfEach Holds files
+OfNamed Holds (LiftFile file) = Holds file
 
 -- what `run` and `build` ask of an image is within the limits
 abbrev pub IsWithin : CommandLine → Type 0
@@ -113,3 +115,5 @@ module _ {F I K : Type 0} (f : ShelfChange F) (i : SourceChange I) (o : SinkChan
   Answers (Some (LinkFiles files)) status =
       OfOperands f most_of_text (o.new ≡ o.old) files (λ texts status. Links o texts status) status
       × (i.new ≡ i.old)
+  Answers (Some (LiftFile file)) status =
+      FromText file (λ text status. Lifts o text status) status

@@ -5,8 +5,9 @@ use Rattle.core_reader.specs.Tree as tree
 use Rattle.core_reader.specs.Text as reader
 use Rattle.arity_check.specs.Program.{Program}
 use Rattle.core_link.specs.Rules as linking
+use Rattle.lambda_lift.specs.Rules as lifting
 use Rattle.elf32.specs.Rules.{KeepsBelow}
-use Rattle.command_line.specs.Commands.{CommandLine, RunFile, CheckFile, ListFile, BuildFile, ExecImage, GenRun, LinkFiles}
+use Rattle.command_line.specs.Commands.{CommandLine, RunFile, CheckFile, ListFile, BuildFile, ExecImage, GenRun, LinkFiles, LiftFile}
 use Rattle.command_line.specs.declared.command.Listing.{Listing}
 use Rattle.command_line.specs.declared.command.Listing.TheVariants.{Read, Translate}
 use Rattle.generator.specs.Generated.{generated}
@@ -104,3 +105,5 @@ module _ {F : Type 0} (f : ShelfChange F) where
   Gives (Some (LinkFiles files)) status =
       (status ≡ OutOfMemory)
       ⊎ OfFiles f most_of_text files (λ texts. linking.IsUnbroken texts → status ≡ Done)
+  Gives (Some (LiftFile file)) status =
+      Or f most_of_text file status (λ text. lifting.IsUnbroken text → status ≡ Done)

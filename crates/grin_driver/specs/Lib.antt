@@ -10,6 +10,7 @@ pub mod CodeListing
 pub mod After
 pub mod Building
 pub mod Linking
+pub mod Lifting
 pub mod Generating
 pub mod Execution
 pub mod Answer

@@ -4,11 +4,13 @@ ghost use Rattle.std.specs.Prelude.{◌≡◌, ◌≤◌, Some, IfSome};
 ghost use Rattle.grin_io.specs.Changes.{of_shelf, of_source, of_sink};
 ghost use Rattle.command_line.specs.Commands.{command_of, asked_by, names_of};
 ghost use Rattle.core_link.specs.Laws.{OrderIsFree, StillUnbroken, OneModuleKeeps};
+ghost use Rattle.lambda_lift.specs.Laws.{LiftingKeeps};
 ghost use Rattle.grin_compile.specs.Limits.{InRange};
 ghost use Rattle.grin_driver.specs.Outcome.{Outcome};
 ghost use Rattle.grin_driver.specs.Checking.{Checks};
 ghost use Rattle.grin_driver.specs.Building.{Builds};
 ghost use Rattle.grin_driver.specs.Linking.{Links};
+ghost use Rattle.grin_driver.specs.Lifting.{Lifts};
 ghost use Rattle.grin_driver.specs.After.{ListsAfter};
 ghost use Rattle.grin_driver.specs.Execution.{Execution};
 ghost use Rattle.grin_driver.specs.Reading.{OfEach};
@@ -22,6 +24,7 @@ use crate::check::check_text;
 use crate::exec::exec_image;
 use crate::generate::generate;
 use crate::laws::one_accepted_program;
+use crate::lift::lift_text;
 use crate::link::link_texts;
 use crate::list::list_after;
 use crate::reading::{read_file, read_files};
@@ -31,6 +34,7 @@ use command_line::{Command, Files, Line, Listing};
 use core_link::laws::{one_module_keeps, order_is_free, still_unbroken};
 use grin_compile::Options;
 use grin_io::{Shelf, Sink, Source};
+use lambda_lift::laws::lifting_keeps;
 use std::alloc::Global;
 
 /// The most bytes that are read of a text: one more than those of the longest one.
@@ -174,6 +178,21 @@ fn link_files<F: Shelf, K: Sink>(
     }
 }
 
+/// Lifts the text of a file, and puts the text of Core that it stands for.
+fn lift_file<F: Shelf, K: Sink>(alloc: Global, file: &str, shelf: &mut F, out: &mut K) -> Status
+    requires { F.permitted file.now }
+    ensures answer { OfOperand (of_shelf F.content F.faults shelf.old shelf.new) most_of_text
+        (out.new ≡ out.old) file.now (λ text status.
+        Lifts (of_sink K.put_gives K.taken K.faults out.old out.new) text status) result }
+    ensures later { (F.faults shelf.old ≤ F.faults shelf.new)
+        × (K.faults out.old ≤ K.faults out.new) }
+{
+    match read_file(alloc, shelf, file, MOST_OF_TEXT) {
+        Ok(text) => lift_text(alloc, text.as_slice(), out),
+        Err(status) => status,
+    }
+}
+
 /// Runs a command.
 fn run_command<F: Shelf, I: Source, K: Sink>(
     alloc: Global,
@@ -216,6 +235,7 @@ fn run_command<F: Shelf, I: Source, K: Sink>(
         Command::Exec { image, steps } => exec_file(alloc, image, *steps, shelf, input, out),
         Command::Gen { seed, size } => generate(alloc, *seed, *size, out),
         Command::Link { files } => link_files(alloc, files, shelf, out),
+        Command::Lift { file } => lift_file(alloc, file, shelf, out),
     }
 }
 
@@ -244,8 +264,9 @@ fn run_line<F: Shelf, I: Source, K: Sink>(
 ///
 /// `run FILE` compiles a text and runs it on the input, `check FILE` puts the line of its program,
 /// `list FILE` lists it, `build FILE` puts its image, and `exec IMAGE` runs an executable on the
-/// input; `gen` runs a generated text and puts its summary, and `link FILE..` puts the text that
-/// modules are together. A file is read to its end, or up to the first byte past the longest one. A
+/// input; `gen` runs a generated text and puts its summary, `link FILE..` puts the text that
+/// modules are together, and `lift FILE` the text of Core that a text with lambdas and local
+/// functions stands for. A file is read to its end, or up to the first byte past the longest one. A
 /// fault of `err` changes no status.
 pub fn grinc_main<F: Shelf, I: Source, K: Sink, E: Sink>(
     alloc: Global,
@@ -266,6 +287,7 @@ pub fn grinc_main<F: Shelf, I: Source, K: Sink, E: Sink>(
         → Gives (of_shelf F.content F.faults shelf.old shelf.new) (command_of line.now) result }
     ensures memory { result ≡ OutOfMemory → out.new ≡ out.old }
     ensures linking { OrderIsFree × (StillUnbroken × OneModuleKeeps) }
+    ensures lifting { LiftingKeeps }
     ensures later { (F.faults shelf.old ≤ F.faults shelf.new)
         × ((I.faults input.old ≤ I.faults input.new) × (K.faults out.old ≤ K.faults out.new)) }
 {
@@ -275,6 +297,8 @@ pub fn grinc_main<F: Shelf, I: Source, K: Sink, E: Sink>(
     order_is_free();
     still_unbroken();
     one_module_keeps();
+    // A law of what is lifted.
+    lifting_keeps();
     let status = run_line(alloc, line, shelf, input, out);
     status.tell(err);
     status

@@ -10,6 +10,7 @@ mod exec;
 mod generate;
 mod image;
 pub mod laws;
+mod lift;
 mod link;
 mod list;
 mod note;

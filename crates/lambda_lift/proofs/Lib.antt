@@ -16,3 +16,16 @@ pub mod Entered
 -- the whole
 pub mod Program
 pub mod Whole
+-- the code
+pub mod Leaving
+pub mod Folding
+pub mod Gathers
+pub mod Members
+pub mod Grown
+pub mod ByNames
+pub mod Broadness
+pub mod Judged
+pub mod NewNames
+pub mod Readably
+pub mod Assembled
+pub mod Answered

@@ -4,7 +4,7 @@ use Rattle.core_reader.specs.declared.dialect.Dialect.TheVariants.{Lambdas}
 use Rattle.lambda_reader.specs.Tree.{Program}
 use Rattle.core_reader.specs.TokensOf.{Piece, IsTokens}
 use Rattle.lambda_reader.specs.Programs.{IsText, IsFirstUnread, IsRead}
-pub use Rattle.lambda_reader.specs.Reserved.{IsReserved}
+use Rattle.lambda_reader.specs.Reserved.{IsReserved}
 use Rattle.lambda_lift.specs.Free.{free}
 use Rattle.lambda_lift.specs.Abstractions.{Abstraction, abstractions}
 

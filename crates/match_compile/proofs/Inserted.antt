@@ -26,7 +26,7 @@ special_append p h places (r ∷ rs) qs =
 int_same : (k j : ℤ) → int_eq k j ≡ true → k ≡ j
 int_same k j e = grind (e, arith)
 
-same_is : (g h : Head) → same_head g h ≡ true → g ≡ h
+pub same_is : (g h : Head) → same_head g h ≡ true → g ≡ h
 same_is (Integer k) (Integer j) e = ap Integer (int_same k j e)
 same_is (Integer k) (Constructor d) e = absurd cc
 same_is (Constructor c) (Integer j) e = absurd cc
@@ -35,7 +35,7 @@ same_is (Constructor c) (Constructor d) e = ap Constructor (eq_from c d e)
 int_self : (k : ℤ) → int_eq k k ≡ true
 int_self k = grind arith
 
-same_self : (h : Head) → same_head h h ≡ true
+pub same_self : (h : Head) → same_head h h ≡ true
 same_self (Integer k) = int_self k
 same_self (Constructor c) = eq_self c
 
@@ -115,7 +115,7 @@ test_counts (Int k at) h e = refl
 test_counts (Con c ps) h e = refl
 
 -- a test fewer is left behind the first one
-fewer : (body : Expr) (bound : List (Binder × ℕ)) (j : Job) (js : List Job) (places : List ℕ) (h : Head) (k : ℕ) → head_of j.1 ≡ Some h → tests_left (j ∷ js) ≤ suc k → tests_left (opened (row body bound (j ∷ js)) j.1 places).jobs ≤ k
+pub fewer : (body : Expr) (bound : List (Binder × ℕ)) (j : Job) (js : List Job) (places : List ℕ) (h : Head) (k : ℕ) → head_of j.1 ≡ Some h → tests_left (j ∷ js) ≤ suc k → tests_left (opened (row body bound (j ∷ js)) j.1 places).jobs ≤ k
 fewer body bound j js places h k e l =
     let a = settled_tests body bound (jobs_at places (fields_of j.1) ++ js) in
     let b = tests_append (jobs_at places (fields_of j.1)) js in
@@ -123,13 +123,13 @@ fewer body bound j js places h k e l =
     let d = test_counts j.1 h e in
     omega (arith, a, b, c, d, l)
 
-first_test : (j : Job) (js : List Job) → test_at j.0 (j ∷ js) ≡ Some j.1
+pub first_test : (j : Job) (js : List Job) → test_at j.0 (j ∷ js) ≡ Some j.1
 first_test j js = ap (λ b. cond b (Some j.1) None) (eq_self j.0)
 
 known_first : (h : Head) (places : List ℕ) (t : Tree) → has_head h (AndBranch h places t NoBranch) ≡ true
 known_first h places t = ap (λ b. b || false) (same_self h)
 
-no_tests : (j : Job) (js : List Job) (h : Head) → head_of j.1 ≡ Some h → tests_left (j ∷ js) ≤ 0 → ⊥
+pub no_tests : (j : Job) (js : List Job) (h : Head) → head_of j.1 ≡ Some h → tests_left (j ∷ js) ≤ 0 → ⊥
 no_tests j js h e l = let d = test_counts j.1 h e in omega (arith, d, l)
 
 pub alone_tree : (k n : ℕ) (body : Expr) (bound : List (Binder × ℕ)) (js : List Job) → IsSettled js → tests_left js ≤ k → IsTree (row body bound js ∷ []) (alone k n (row body bound js)).0
@@ -280,23 +280,23 @@ record Taken (p : ℕ) (rs : List Row) (r : Row) (bs bs' : Branches) : Type 0 wh
 abbrev pub at_head : Option (Branches × ℕ) → Bool → Option (Branches × ℕ)
 at_head o b = elim b [ true ↦ o | false ↦ None ]
 
-by_kind : (P : Type 0) (o : Option (Branches × ℕ)) (v : Branches × ℕ) → (o ≡ Some v → P) → (b : Bool) → at_head o b ≡ Some v → P
-by_kind P o v take true f = take f
-by_kind P o v take false f = absurd cc
+by_kind : (P : Type 0) (o : Option (Branches × ℕ)) (v : Branches × ℕ) (b : Bool) → (b ≡ true → o ≡ Some v → P) → at_head o b ≡ Some v → P
+by_kind P o v true take f = take refl f
+by_kind P o v false take f = absurd cc
 
 abbrev pub at_pat : (Head → Option (Branches × ℕ)) → Option Head → Option (Branches × ℕ)
 at_pat go o = elim o [ None ↦ None | Some h ↦ go h ]
 
-by_test_head : (P : Type 0) (bs : Branches) (n : ℕ) (r : Row) (v : Branches × ℕ) (pat : Pat) → ((h : Head) → head_of pat ≡ Some h → insert_branch pat h bs n r ≡ Some v → P)
+by_test_head : (P : Type 0) (bs : Branches) (n : ℕ) (r : Row) (v : Branches × ℕ) (pat : Pat) → ((h : Head) → head_of pat ≡ Some h → fits h bs ≡ true → insert_branch pat h bs n r ≡ Some v → P)
     → (o : Option Head) → head_of pat ≡ o → at_pat (λ h. at_head (insert_branch pat h bs n r) (fits h bs)) o ≡ Some v → P
 by_test_head P bs n r v pat take None e f = absurd cc
-by_test_head P bs n r v pat take (Some h) e f = by_kind P (insert_branch pat h bs n r) v (take h e) (fits h bs) f
+by_test_head P bs n r v pat take (Some h) e f = by_kind P (insert_branch pat h bs n r) v (fits h bs) (take h e) f
 
 abbrev pub at_test : (Pat → Option (Branches × ℕ)) → Option Pat → Option (Branches × ℕ)
 at_test go o = elim o [ None ↦ None | Some pat ↦ go pat ]
 
 -- a row that goes to a branch begins with a test
-pub by_test : (P : Type 0) (p : ℕ) (bs : Branches) (n : ℕ) (r : Row) (v : Branches × ℕ) → ((pat : Pat) (h : Head) → test_at p r.jobs ≡ Some pat → head_of pat ≡ Some h → insert_branch pat h bs n r ≡ Some v → P)
+pub by_test : (P : Type 0) (p : ℕ) (bs : Branches) (n : ℕ) (r : Row) (v : Branches × ℕ) → ((pat : Pat) (h : Head) → test_at p r.jobs ≡ Some pat → head_of pat ≡ Some h → fits h bs ≡ true → insert_branch pat h bs n r ≡ Some v → P)
     → (o : Option Pat) → test_at p r.jobs ≡ o → at_test (λ pat. at_pat (λ h. at_head (insert_branch pat h bs n r) (fits h bs)) (head_of pat)) o ≡ Some v → P
 by_test P p bs n r v take None t f = absurd cc
 by_test P p bs n r v take (Some pat) t f = by_test_head P bs n r v pat (λ h e. take pat h t e) (head_of pat) refl f
@@ -344,7 +344,7 @@ mutual
       into_default r b as' l f (insert (pred room) t n r) u e (λ v h. inserted (pred room) t n r s i v h)
   inserted room (Case p bs NoDefault) n r s (OfCase {r = q} {rs = rs} b as' (AllGo l)) u e =
       into_case (pred room) n r s b as' l (at_test (λ pat. at_pat (λ h. at_head (insert_branch pat h bs n r) (fits h bs)) (head_of pat)) (test_at p r.jobs)) u e
-      (λ v f. by_test (Taken p (q ∷ rs) r bs v.0) p bs n r v (λ pat h test head g. record { pat = pat; head = h; test = test; is_head = head; went = inserted_branch pat h bs n r as' test head (none_else p (q ∷ rs) h bs l) v g }) (test_at p r.jobs) refl f)
+      (λ v f. by_test (Taken p (q ∷ rs) r bs v.0) p bs n r v (λ pat h test head k g. record { pat = pat; head = h; test = test; is_head = head; went = inserted_branch pat h bs n r as' test head (none_else p (q ∷ rs) h bs l) v g }) (test_at p r.jobs) refl f)
 
   pub inserted_branch : (pat : Pat) (h : Head) (bs : Branches) (n : ℕ) (r : Row) {p : ℕ} {rs : List Row} → AreBranches p rs bs → test_at p r.jobs ≡ Some pat → head_of pat ≡ Some h → NoneElse p rs h bs
       → (v : Branches × ℕ) → insert_branch pat h bs n r ≡ Some v → Went p rs h r bs v.0

@@ -16,3 +16,12 @@ pub mod Kept
 pub mod Weights
 pub mod Small
 pub mod Special
+pub mod NamedAs
+pub mod Grouped
+pub mod Sown
+pub mod Bodies
+pub mod Placed
+pub mod Walked
+pub mod Composed
+pub mod Breaks
+pub mod AsRead

@@ -157,7 +157,7 @@ mutual
   weight_with room (Case p bs (ATree t)) n r u e = into_default p bs t (row_paid r) (insert (pred room) t n r) u e (λ v h. weight_with (pred room) t n r v h)
   weight_with room (Case p bs NoDefault) n r u e =
       into_case p bs n r (pred room) (at_test (λ pat. at_pat (λ h. at_head (insert_branch pat h bs n r) (fits h bs)) (head_of pat)) (test_at p r.jobs)) u e
-      (λ v f. by_test (branches_weight v.0 ≤ branches_weight bs + row_paid r) p bs n r v (λ pat h test head g. branch_weight_with pat h bs n r p test head v g) (test_at p r.jobs) refl f)
+      (λ v f. by_test (branches_weight v.0 ≤ branches_weight bs + row_paid r) p bs n r v (λ pat h test head k g. branch_weight_with pat h bs n r p test head v g) (test_at p r.jobs) refl f)
 
   branch_weight_with : (pat : Pat) (h : Head) (bs : Branches) (n : ℕ) (r : Row) (p : ℕ) → test_at p r.jobs ≡ Some pat → head_of pat ≡ Some h → (v : Branches × ℕ) → insert_branch pat h bs n r ≡ Some v → branches_weight v.0 ≤ branches_weight bs + row_paid r
   branch_weight_with pat h NoBranch n r p test e v f =

@@ -3,9 +3,11 @@ use Rattle.std.specs.Prelude.{◌≡◌, ℕ, ◌+◌, ◌*◌, ◌≤◌, List,
 use Rattle.core_reader.specs.declared.syntax.Binder.{Binder}
 use Rattle.core_reader.specs.Tree.{Expr}
 use Rattle.core_reader.specs.Size.{program_size}
+use Rattle.arity_check.specs.Broken as program
 use Rattle.match_compile.specs.Source.{Equation, Source}
 use Rattle.match_compile.specs.Grammar.{IsText}
-use Rattle.match_compile.specs.Rules.{IsFirstBroken}
+use Rattle.match_compile.specs.Rules.{IsUnbroken, IsFirstBroken}
+use Rattle.match_compile.specs.Sound.{IsSound}
 use Rattle.match_compile.specs.Sizes.{source_size, tests}
 use Rattle.match_compile.specs.Translated.{translated}
 use Rattle.match_compile.specs.Decisions.{decisions_from, StandFor}
@@ -41,3 +43,10 @@ TreesStand = (k : ℕ) (es : List Equation) → StandFor k es (decisions_from k 
 -- The program that equations become is no larger than they are, with 16 for each test.
 abbrev pub IsSmall : Type 0
 IsSmall = (c : Source) → program_size (translated c) ≤ source_size c + 16 * tests c
+
+-- Equations that break no rule, of which each as a function of its own is in a program that breaks
+-- none, become a program that breaks no rule but the one on its size.
+abbrev pub BreaksOnlySize : Type 0
+BreaksOnlySize =
+    (text : List ℕ) (c : Source) → IsText text c → IsUnbroken text → IsSound c → (k at : ℕ)
+    → program.Broken (translated c) k at → k ≡ 35

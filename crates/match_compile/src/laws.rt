@@ -1,6 +1,6 @@
 //! What the definitions of equations, their rules and their trees say by themselves.
 
-ghost use Rattle.match_compile.specs.Laws.{OneSource, OneFirst, RowsGoIn, OneRow, TreesStand, IsSmall};
+ghost use Rattle.match_compile.specs.Laws.{OneSource, OneFirst, RowsGoIn, OneRow, TreesStand, IsSmall, BreaksOnlySize};
 ghost use Rattle.match_compile.specs.Stays.{KnownStays};
 ghost use Rattle.match_compile.specs.Jobs.{Specialises};
 ghost use Rattle.match_compile.specs.Examples.{Examples};
@@ -38,6 +38,12 @@ pub fn known_stays()
 /// The program that equations become is no larger than they are, with 16 for each test.
 pub fn is_small()
     ensures { IsSmall }
+{}
+
+/// Equations that break no rule, of which each as a function of its own is in a program that breaks
+/// none, become a program that breaks no rule but the one on its size.
+pub fn breaks_only_size()
+    ensures { BreaksOnlySize }
 {}
 
 /// A value that is known decides the tests of its name that come first, whatever was tried before.

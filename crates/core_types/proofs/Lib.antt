@@ -1,0 +1,13 @@
+pub mod TreeOf
+pub mod SourceReading
+pub mod Taking
+pub mod Parts
+pub mod EachKind
+pub mod Texts
+pub mod Firsts
+pub mod Walks
+pub mod Unknowns
+pub mod Again
+pub mod Partial
+pub mod Judged
+pub mod Checked

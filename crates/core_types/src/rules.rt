@@ -1,0 +1,95 @@
+//! The rules that a program with types has to keep.
+
+ghost use Rattle.std.specs.Prelude.{◌≡◌, OnOk, IfOk, IfErr};
+ghost use Rattle.core_reader.specs.Tree.{program as program_of};
+ghost use Rattle.core_reader.specs.Readable.{IsReadable};
+ghost use Rattle.arity_check.specs.Tables.{known};
+ghost use Rattle.core_types.specs.Source.{erased};
+ghost use Rattle.core_types.specs.SourceOf.{source_of};
+ghost use Rattle.core_types.specs.Text.{IsText};
+ghost use Rattle.core_types.specs.Refused.{IsFirstFault, IsCause, IsUnbrokenText};
+ghost use Rattle.core_types.specs.Found.{declared_first, declared_fault};
+
+use crate::declared::{signatures_again, types_again, unknown_types};
+use crate::exhaustive::partial_cases;
+use crate::lists::has_list;
+use crate::places::sooner;
+use crate::refusal::TypeFault;
+use crate::source::Source;
+use crate::text::read_source;
+use arity_check::globals::Globals;
+use arity_check::order::Order;
+use arity_check::program::first_refusal;
+use std::alloc::{AllocError, Global};
+
+/// The first of the rules 81, 82 and 85 that a program breaks, by place.
+fn declared(
+    alloc: Global,
+    globals: &Globals,
+    source: &Source,
+) -> Result<Option<(u8, u32)>, AllocError>
+    ensures { IfOk result (λ found. found ≡ declared_first (known globals.now)
+        (source_of source.now).types (source_of source.now).signatures) }
+{
+    let types = source.types.as_slice();
+    let signatures = source.signatures.as_slice();
+    let duplicate = types_again(alloc, globals, types)?;
+    let unknown = unknown_types(alloc, globals, types, signatures)?;
+    let signed = signatures_again(alloc, globals, signatures)?;
+    Ok(sooner(sooner(sooner(None, 81, duplicate), 82, unknown), 85, signed))
+}
+
+/// The refusal by one of these rules.
+fn fault(rule: u8, at: u32) -> TypeFault
+    ensures { result ≡ declared_fault rule at }
+{
+    if rule == 81 {
+        return TypeFault::DuplicateType(at);
+    }
+    if rule == 82 {
+        return TypeFault::UnknownType(at);
+    }
+    TypeFault::BadSignature(at)
+}
+
+/// The first rule that a program breaks.
+fn first_broken(alloc: Global, source: &Source) -> Result<Option<TypeFault>, AllocError>
+    requires erased { program_of source.now.core ≡ erased (source_of source.now) }
+    requires readable { IsReadable (erased (source_of source.now)) }
+    ensures { IfOk result (λ fault. IsFirstFault (source_of source.now) fault) }
+{
+    let globals = Globals::new(alloc, &source.core)?;
+    let refusal = first_refusal(alloc, Order::Check, &source.core, &globals)?;
+    if let Some(refusal) = refusal {
+        return Ok(Some(TypeFault::Unchecked(refusal)));
+    }
+    let found = declared(alloc, &globals, source)?;
+    if let Some((rule, at)) = found {
+        return Ok(Some(fault(rule, at)));
+    }
+    let types = source.types.as_slice();
+    if !has_list(&globals, types) {
+        return Ok(Some(TypeFault::ListType));
+    }
+    let partial = partial_cases(alloc, types, source.core.functions.as_slice())?;
+    match partial {
+        Some(at) => Ok(Some(TypeFault::NotExhaustive(at))),
+        None => Ok(None),
+    }
+}
+
+/// The program with types that a text stands for, or the first rule that the text breaks. Want of
+/// memory may come in place of each answer.
+pub fn check_source(alloc: Global, text: &[u8]) -> Result<Source, TypeFault>
+    ensures found { IfOk result (λ s. IsText text.now (source_of s)) }
+    ensures erased { IfOk result (λ s. program_of s.core ≡ erased (source_of s)) }
+    ensures unbroken { OnOk result (IsUnbrokenText text.now) }
+    ensures refused { IfErr result (IsCause text.now) }
+{
+    let source = read_source(alloc, text)?;
+    let broken = first_broken(alloc, &source)?;
+    match broken {
+        Some(fault) => Err(fault),
+        None => Ok(source),
+    }
+}

@@ -1,0 +1,38 @@
+-- The lifted program, from the functions that were made and the names that were added.
+use Rattle.std.proofs.Common.{◌≡◌, ℕ, List, [], ◌++◌, map, length, refl, ap, ◌∙◌, arith}
+use Rattle.std.proofs.lemmas.List.{map-append}
+use Rattle.core_reader.specs.declared.syntax.Data as code-data
+use Rattle.core_reader.specs.declared.syntax.Function as code
+use Rattle.core_reader.specs.Tree as core
+use Rattle.lambda_reader.specs.declared.syntax.Function as text
+use Rattle.lambda_reader.specs.Tree.{Program}
+use Rattle.lambda_reader.specs.Code.{function}
+use Rattle.lambda_lift.specs.Abstractions.{Abstraction, in_functions}
+use Rattle.lambda_lift.specs.Lifted.{lifted_functions, lifted_bodies, lifted_names, lifted}
+use Rattle.lambda_lift.specs.Gathered.{of_names}
+use Rattle.lambda_lift.specs.Growing.{grows}
+use Rattle.lambda_lift.specs.Choosing.{text_of}
+use Rattle.lambda_lift.proofs.ByNames.{lifted_same}
+use Rattle.lambda_lift.proofs.Grown.{made_count}
+
+grows_first : (c : Program) (xs : List Abstraction) → grows c [] xs ≡ lifted_functions c 0 xs
+unfolding grows
+grows_first c xs = refl
+
+module _ (names : List (List ℕ)) (constructors : List code-data.Data) (functions : List text.Function) where
+  abbrev d : Program
+  d = of_names names
+
+  abbrev xs : List Abstraction
+  xs = in_functions d (map function functions)
+
+  pub assembled : (start made bodies all : List code.Function) (count : ℕ) (new : List (List ℕ)) → start ≡ []
+      → map core.function made ≡ grows d (map core.function start) xs → map core.function bodies ≡ lifted_bodies d (length start) (map function functions)
+      → count ≡ length made → all ≡ bodies ++ made → new ≡ names ++ lifted_names 0 count
+      → record { names = new; constructors = map core.data_of constructors; functions = map core.function all } ≡ lifted (text_of names constructors functions)
+  assembled start made bodies all count new none m b n a e =
+      let grown : map core.function made ≡ grows d [] xs = m ∙ ap (λ s. grows d (map core.function s) xs) none in
+      let many : count ≡ length xs = omega (arith, n, made_count d [] made xs grown) in
+      let functions' : map core.function all ≡ lifted_bodies d 0 (map function functions) ++ lifted_functions d 0 xs =
+      ap (map core.function) a ∙ map-append core.function bodies made ∙ (λ i. (b ∙ ap (λ s. lifted_bodies d (length s) (map function functions)) none) i ++ (grown ∙ grows_first d xs) i) in
+      lifted_same (text_of names constructors functions) new (map core.function all) (e ∙ ap (λ n. names ++ lifted_names 0 n) many) functions'

@@ -1,0 +1,47 @@
+-- What the refusals of lifting name.
+use Rattle.std.specs.Prelude.{ℕ, List}
+use Rattle.core_reader.specs.declared.refusal.ReadRefusal.{ReadRefusal}
+use Rattle.core_reader.specs.declared.refusal.ReadRefusal.TheVariants as from
+use Rattle.lambda_lift.specs.declared.refusal.LiftRefusal.{LiftRefusal}
+use Rattle.lambda_lift.specs.declared.refusal.LiftRefusal.TheVariants.{BadByte, Syntax, NumberRange, TooDeep, TextTooLong, TooManyParameters, ReservedLift, Memory}
+use Rattle.lambda_lift.specs.Rules.{IsFirstBroken}
+
+-- the number of the broken rule
+abbrev pub rule : LiftRefusal → ℕ
+rule (BadByte at) = 1
+rule (Syntax at) = 2
+rule (NumberRange at) = 3
+rule (TooDeep at) = 4
+rule TextTooLong = 5
+rule (TooManyParameters at) = 61
+rule (ReservedLift at) = 62
+rule (Memory e) = 0
+
+abbrev pub place : LiftRefusal → ℕ
+place (BadByte at) = at
+place (Syntax at) = at
+place (NumberRange at) = at
+place (TooDeep at) = at
+place TextTooLong = 1048576
+place (TooManyParameters at) = at
+place (ReservedLift at) = at
+place (Memory e) = 0
+
+abbrev pub unread : ReadRefusal → LiftRefusal
+unread (from.BadByte at) = BadByte at
+unread (from.Syntax at) = Syntax at
+unread (from.NumberRange at) = NumberRange at
+unread (from.TooDeep at) = TooDeep at
+unread from.TextTooLong = TextTooLong
+unread (from.Memory e) = Memory e
+
+-- the rule and the place that a refusal names
+abbrev pub IsCause : List ℕ → LiftRefusal → Type 0
+IsCause text (BadByte at) = IsFirstBroken text 1 at
+IsCause text (Syntax at) = IsFirstBroken text 2 at
+IsCause text (NumberRange at) = IsFirstBroken text 3 at
+IsCause text (TooDeep at) = IsFirstBroken text 4 at
+IsCause text TextTooLong = IsFirstBroken text 5 1048576
+IsCause text (TooManyParameters at) = IsFirstBroken text 61 at
+IsCause text (ReservedLift at) = IsFirstBroken text 62 at
+IsCause text (Memory e) = Unit {0}

@@ -1,0 +1,114 @@
+//! Lambda lifting of a text.
+
+ghost use Rattle.std.specs.Prelude.{◌≡◌, ◌++◌, codes, decimal, All, OnOk, IfOk, IfErr};
+ghost use Rattle.core_reader.specs.Tree.{program};
+ghost use Rattle.core_reader.specs.Different.{AreDifferent};
+ghost use Rattle.core_reader.specs.Readable.{IsReadable};
+ghost use Rattle.lambda_reader.specs.Tree.{Program};
+ghost use Rattle.lambda_reader.specs.Programs.{IsText};
+ghost use Rattle.lambda_lift.specs.Lifted.{lifted, lifted_names};
+ghost use Rattle.lambda_lift.specs.Rules.{IsUnbroken};
+ghost use Rattle.lambda_lift.specs.Refusal.{IsCause};
+ghost use Rattle.lambda_lift.specs.Choosing.{refused_by, text_of, IsFree};
+
+use crate::lifted::bodies;
+use crate::refusal::LiftRefusal;
+use crate::rules::first_too_broad;
+use crate::words::Words;
+use core_reader::{Core, Data, Names};
+use itoa::Buffer;
+use lambda_reader::{Function, read_lambdas};
+use seq::Seq;
+use std::alloc::{AllocError, Global};
+
+/// Which of the rules 61 and 62 is broken first, by the first places where they are broken.
+fn refused_by(too_broad: Option<u32>, reserved: Option<u32>) -> Option<LiftRefusal>
+    ensures { result ≡ refused_by too_broad reserved }
+{
+    match too_broad {
+        None => match reserved {
+            None => None,
+            Some(at) => Some(LiftRefusal::ReservedLift(at)),
+        },
+        Some(place) => match reserved {
+            None => Some(LiftRefusal::TooManyParameters(place)),
+            Some(at) => Some(if at < place {
+                LiftRefusal::ReservedLift(at)
+            } else {
+                LiftRefusal::TooManyParameters(place)
+            }),
+        },
+    }
+}
+
+/// The name of the lifted function of this number.
+fn name_text(alloc: Global, number: u32) -> Result<Seq<u8>, AllocError>
+    ensures { IfOk result (λ text. text ≡ codes "lift'" ++ decimal number) }
+{
+    let mut buffer = Buffer::new();
+    let mut text = Vec::from_slice(alloc, b"lift'")?;
+    text.extend_from_slice(buffer.format(number).as_bytes())?;
+    Ok(Seq::from_vec(text))
+}
+
+/// Names with those of so many lifted functions behind them.
+fn with_lifted(alloc: Global, names: Names, count: usize) -> Result<Names, AllocError>
+    requires different { AreDifferent names }
+    requires unreserved { All IsFree names }
+    ensures { IfOk result (λ all. all ≡ names ++ lifted_names 0 count) }
+{
+    let Ok(count) = u32::try_from(count) else {
+        return Err(AllocError);
+    };
+    let mut entries = names.into_vec();
+    for number in 0..count {
+        entries.push(name_text(alloc, number)?)?;
+    }
+    Ok(Names::from_vec(entries))
+}
+
+/// The lifted program of a text.
+fn lifted(
+    alloc: Global,
+    words: Words,
+    constructors: Seq<Data>,
+    functions: Seq<Function>,
+) -> Result<Core, AllocError>
+    requires different { AreDifferent words }
+    requires unreserved { All IsFree words }
+    ensures { IfOk result (λ core. program core ≡ lifted (text_of words constructors functions)) }
+{
+    let mut made = Seq::new(alloc);
+    let mut all = bodies(alloc, &words, &mut made, functions)?;
+    let count = made.len();
+    all.append(made)?;
+    let names = with_lifted(alloc, words.into_names(), count)?;
+    Ok(Core {
+        names,
+        constructors,
+        functions: all,
+    })
+}
+
+/// The program of Core in which each lambda and each local function of a text is a function of its
+/// own, or the first rule that the text breaks: of the rules 1 to 5, and where it breaks none of
+/// these, of 61 and 62 by place, and at one place by number. Want of memory may come in place of
+/// each answer.
+pub fn lift(alloc: Global, text: &[u8]) -> Result<Core, LiftRefusal>
+    ensures lifted { IfOk result (λ core. (c : Program) × IsText text.now c × (program core ≡ lifted c)) }
+    ensures unbroken { OnOk result (IsUnbroken text.now) }
+    ensures readable { IfOk result (λ core. IsReadable (program core)) }
+    ensures refused { IfErr result (IsCause text.now) }
+{
+    let found = read_lambdas(alloc, text)?;
+    let program = found.program;
+    let words = Words::new(alloc, program.names)?;
+    let too_broad = first_too_broad(alloc, &words, program.functions.as_slice())?;
+    match refused_by(too_broad, found.reserved) {
+        Some(refusal) => Err(refusal),
+        None => {
+            let core = lifted(alloc, words, program.constructors, program.functions)?;
+            Ok(core)
+        }
+    }
+}

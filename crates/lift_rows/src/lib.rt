@@ -1,0 +1,5 @@
+//! Rows that `lift` is tried on.
+#![tactic(auto)]
+
+#[cfg(test)]
+mod tests;

@@ -1,0 +1,15 @@
+//! First-order terms that stand as nodes in a vector, and the most general solution of equations
+//! between them.
+#![tactic(auto)]
+
+pub mod classes;
+mod joining;
+mod pieces;
+mod solution;
+pub mod term;
+mod walk;
+
+pub use classes::Classes;
+pub use pieces::{Piece, pieces_of};
+pub use solution::{first_unsolved, solve};
+pub use term::{Symbol, Term};
