@@ -38,7 +38,7 @@ use Rattle.match_compile.specs.Translated.{with_nameless, pattern_of, is_called,
 use Rattle.match_compile.proofs.Decided.{by_insert}
 use Rattle.match_compile.proofs.Inserted.{same_self}
 use Rattle.match_compile.proofs.NamedAs.{IsApart, main_apart, int_apart, nil_apart, cons_apart, primitive_apart, text_of_spread, translated_text, named_text, named_by, same_named, new_apart, is_in}
-use Rattle.match_compile.proofs.Grouped.{all_are, all_in, rows_fewer, total, each_name, function_names, names_append, firsts_names, arity_behind, differ_names}
+use Rattle.match_compile.proofs.Grouped.{all_are, all_in, rows_fewer, total, each_name, function_names, name_among, names_append, firsts_names, arity_behind, differ_names}
 use Rattle.match_compile.proofs.Bodies.{in_functions, functions_in, IsRenamed, Renamed, StandsBefore, stands_renamed, contains_renamed, renamed_count, stands_readable, has_readable, Fair, fair_renamed}
 use Rattle.match_compile.proofs.Sown.{Stood}
 use Rattle.match_compile.proofs.Placed.{WasRead, IsGood, spread_is}
@@ -101,11 +101,6 @@ item_named : (gs : List Function) {x : ℕ} → In x (function_names gs) → (i 
 item_named [] h = none_in h
 item_named (g ∷ gs) here = (0, g, refl, refl)
 item_named (g ∷ gs) (there h) = let r = item_named gs h in (suc r.0, r.1, r.2, r.3)
-
-name_among : (gs : List Function) {g : Function} → In g gs → In g.name (function_names gs)
-name_among [] h = none_in h
-name_among (g ∷ gs) here = here
-name_among (d ∷ gs) (there h) = there (name_among gs h)
 
 -- an old name of a function of equations is that of one of them
 spread_named : (n : ℕ) (before : List Equation) (new : ℕ) (es : List Equation) {x : ℕ} → n ≤ new → x < n → In x (function_names (spread_functions before new es)) → (e : Equation) × In e es × (e.name ≡ x)

@@ -2,7 +2,7 @@
 -- patterns; and the trees of each, by their names and numbers.
 use Rattle.std.proofs.Common.{◌≡◌, ℕ, zero, suc, ◌+◌, ◌<◌, ◌≤◌, Bool, true, false, List, [], ◌∷◌, ◌++◌, map, length, refl, sym, ap, subst, ◌∙◌, append_assoc, arith, Option, Some, None, inl, inr}
 use Rattle.std.specs.Prelude.{◌≢◌, ◌==◌, slice_get, if◌then◌else◌}
-use Rattle.seq.specs.Lists.{AllOf, In, here, there}
+use Rattle.seq.specs.Lists.{AllOf, In, here, there, sum_of}
 use Rattle.seq.proofs.Lists.{some_is, all_append, all_get, map_append}
 use Rattle.seq.proofs.Order.{eq_from, eq_true, differs_from, same_or_not}
 use Rattle.seq.proofs.Member.{none_in}
@@ -32,6 +32,14 @@ all_of P [] h i = none_in i
 all_of P (y ∷ xs) h here = h.0
 all_of P (y ∷ xs) h (there i) = all_of P xs h.1 i
 
+pub front_all : {X : Type 0} (P : X → Type 0) (xs ys : List X) → AllOf P (xs ++ ys) → AllOf P xs
+front_all P [] ys h = tt
+front_all P (x ∷ xs) ys h = (h.0, front_all P xs ys h.1)
+
+pub back_all : {X : Type 0} (P : X → Type 0) (xs ys : List X) → AllOf P (xs ++ ys) → AllOf P ys
+back_all P [] ys h = h
+back_all P (x ∷ xs) ys h = back_all P xs ys h.1
+
 -- no number stands twice
 abbrev pub Differ : List ℕ → Type 0
 Differ [] = Unit {0}
@@ -51,11 +59,11 @@ differ_at (z ∷ xs) (suc i) zero x y d lt e f = absurd (omega (arith, lt))
 differ_at (z ∷ xs) (suc i) (suc j) x y d lt e f = differ_at xs i j x y d.1 (omega (arith, lt)) e f
 
 -- numbers between two, each above the one before it
-abbrev Climbs : ℕ → ℕ → List ℕ → Type 0
+abbrev pub Climbs : ℕ → ℕ → List ℕ → Type 0
 Climbs lo hi [] = lo ≤ hi
 Climbs lo hi (n ∷ ns) = (lo ≤ n) × Climbs (suc n) hi ns
 
-from_lower : (a lo hi : ℕ) (ns : List ℕ) → a ≤ lo → Climbs lo hi ns → Climbs a hi ns
+pub from_lower : (a lo hi : ℕ) (ns : List ℕ) → a ≤ lo → Climbs lo hi ns → Climbs a hi ns
 from_lower a lo hi [] le h = omega (arith, le, h)
 from_lower a lo hi (n ∷ ns) le h = let l = h.0 in (omega (arith, le, l), h.1)
 
@@ -67,7 +75,7 @@ climb_on : (a b d : ℕ) (xs ys : List ℕ) → Climbs a b xs → Climbs b d ys 
 climb_on a b d [] ys h k = from_lower a b d ys h k
 climb_on a b d (x ∷ xs) ys h k = (h.0, climb_on (suc x) b d xs ys h.1 k)
 
-all_above : (lo hi : ℕ) (ns : List ℕ) → Climbs lo hi ns → AllOf (λ n. lo ≤ n) ns
+pub all_above : (lo hi : ℕ) (ns : List ℕ) → Climbs lo hi ns → AllOf (λ n. lo ≤ n) ns
 all_above lo hi [] h = tt
 all_above lo hi (n ∷ ns) h = let l = h.0 in (l, all_are (λ m. suc n ≤ m) (λ m. lo ≤ m) (λ m k. omega (arith, l, k)) ns (all_above (suc n) hi ns h.1))
 
@@ -286,7 +294,7 @@ decided_first d k (e ∷ es) =
     (λ t i. let r = decided_first (grown d t) (suc k) es in record { head = r.head; tail = r.tail; is = r.is; name = r.name })
     (record { head = d; tail = decided (begun k e) (suc k) es; is = refl; name = refl })
 
-abbrev numbers_of : List Decision → List ℕ
+abbrev pub numbers_of : List Decision → List ℕ
 numbers_of [] = []
 numbers_of (d ∷ ds) = d.number ∷ numbers_of ds
 
@@ -307,7 +315,7 @@ decisions_climb k (e ∷ es) = to_higher k (suc k + length es) (k + length (e �
 tail_climbs : (lo hi : ℕ) (d : Decision) (ds : List Decision) → Climbs lo hi (numbers_of (d ∷ ds)) → Climbs lo hi (numbers_of ds)
 tail_climbs lo hi d ds h = let l = h.0 in from_lower lo (suc d.number) hi (numbers_of ds) (omega (arith, l)) h.1
 
-abbrev other_numbers : List (List Decision) → List ℕ
+abbrev pub other_numbers : List (List Decision) → List ℕ
 other_numbers [] = []
 other_numbers ([] ∷ fs) = other_numbers fs
 other_numbers ((d ∷ ds) ∷ fs) = numbers_of ds ++ other_numbers fs
@@ -321,10 +329,9 @@ rows_fewer (e ∷ es) = go (tests_of e.pats == 0) (rows_fewer es)
     go false l = omega (arith, l)
 
 abbrev pub total : List (List Equation) → ℕ
-total [] = 0
-total (f ∷ fs) = length f + total fs
+total fs = sum_of (map length fs)
 
-others_climb : (k : ℕ) (fs : List (List Equation)) → Climbs k (k + total fs) (other_numbers (all_decisions k fs))
+pub others_climb : (k : ℕ) (fs : List (List Equation)) → Climbs k (k + total fs) (other_numbers (all_decisions k fs))
 others_climb k [] = omega arith
 others_climb k (f ∷ fs) = go (decisions_from k (rows f)) (decisions_climb k (rows f)) (to_higher (k + length f) (k + length f + total fs) (k + total (f ∷ fs)) (other_numbers (all_decisions (k + length f) fs)) (omega arith) (others_climb (k + length f) fs))
   where
@@ -344,10 +351,20 @@ pub names_append : (xs ys : List Function) → function_names (xs ++ ys) ≡ fun
 names_append [] ys = refl
 names_append (x ∷ xs) ys = ap (λ w. x.name ∷ w) (names_append xs ys)
 
+pub name_among : (gs : List Function) {g : Function} → In g gs → In g.name (function_names gs)
+name_among [] h = none_in h
+name_among (g ∷ gs) here = here
+name_among (d ∷ gs) (there h) = there (name_among gs h)
+
 pub name_at : (fs : List Function) (i : ℕ) {f : Function} → slice_get fs i ≡ Some f → slice_get (function_names fs) i ≡ Some f.name
 name_at [] i e = absurd cc
 name_at (g ∷ fs) zero {f = f} e = ap (λ (h : Function). Some h.name) (some_is e)
 name_at (g ∷ fs) (suc i) e = name_at fs i e
+
+pub below_all : (n : ℕ) (fs : List (List Equation)) → AllOf (AllOf (λ (e : Equation). e.name < n)) fs → AllOf (λ x. x < n) (first_names fs)
+below_all n [] h = tt
+below_all n ([] ∷ fs) h = below_all n fs h.1
+below_all n ((e ∷ es) ∷ fs) h = (h.0.0, below_all n fs h.1)
 
 module _ (c : Source) where
   each_names : (ds : List Decision) → function_names (each_of c ds) ≡ map (equation_name c) (numbers_of ds)
@@ -370,7 +387,7 @@ module _ (c : Source) where
           ap (λ (w : List Decision). function_names (first_of c w ++ firsts c (all_decisions (k + length (e ∷ es)) fs))) r.is
           ∙ (λ i. r.name i ∷ ih i)
 
-  equation_apart : (m n : ℕ) → equation_name c m ≡ equation_name c n → m ≡ n
+  pub equation_apart : (m n : ℕ) → equation_name c m ≡ equation_name c n → m ≡ n
   equation_apart m n e = omega (arith, e)
 
   module _ (unbroken : (k at : ℕ) → Broken c k at → ⊥) where
@@ -386,11 +403,6 @@ module _ (c : Source) where
           where
             heads : {f : Equation} {fs : List Equation} → e ∷ es ≡ f ∷ fs → e ≡ f
             heads h = cc
-
-    below_all : (n : ℕ) (fs : List (List Equation)) → AllOf (AllOf (λ (e : Equation). e.name < n)) fs → AllOf (λ x. x < n) (first_names fs)
-    below_all n [] h = tt
-    below_all n ([] ∷ fs) h = below_all n fs h.1
-    below_all n ((e ∷ es) ∷ fs) h = (h.0.0, below_all n fs h.1)
 
     -- no two functions of the program have one name
     pub names_differ : AllOf (λ (e : Equation). e.name < length c.names) c.equations → Differ (function_names (translated c).functions)

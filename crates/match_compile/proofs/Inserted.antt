@@ -12,7 +12,7 @@ use Rattle.match_compile.specs.Parts.{count, tests_in, tests_of}
 use Rattle.match_compile.specs.Heads.{Head, Integer, Constructor, same_head}
 use Rattle.match_compile.specs.Trees.{Job, Row, row, settled, IsSettled, jobs_at, head_of, fields_of, Tree, Body, Case, Branches, NoBranch, AndBranch, Default, NoDefault, ATree, can_fail, branches_fail, default_fails, has_head, test_at, later, opened, special_by, accepts, special, specialised, Goes, Leaves, NoneLeft, Stays, Leads, Begins, IsTree, OfBody, OfCase, AreBranches, NoneOf, OneOf, IsDefault, AllGo, OthersStay, places_from, tests_left, one_branch, by_head, alone, alone_from, fits, in_default, in_branch, in_later, new_branch, or_default, pred, most_chained, insert, insert_branch}
 
-or_false : (a b : Bool) → (a || b) ≡ false → (a ≡ false) × (b ≡ false)
+pub or_false : (a b : Bool) → (a || b) ≡ false → (a ≡ false) × (b ≡ false)
 or_false true b e = absurd cc
 or_false false b e = (refl, e)
 
@@ -91,7 +91,7 @@ settled_is body bound ((p, Name b) ∷ js) = settled_is body (bound ++ (b, p) �
 settled_is body bound ((p, Int k at) ∷ js) = (Integer k, refl)
 settled_is body bound ((p, Con c ps) ∷ js) = (Constructor c.name.0, refl)
 
-zero_plus : (n : ℕ) → n ≡ 0 + n
+pub zero_plus : (n : ℕ) → n ≡ 0 + n
 zero_plus n = omega arith
 
 settled_tests : (body : Expr) (bound : List (Binder × ℕ)) (js : List Job) → tests_left (settled body bound js).jobs ≡ tests_left js
@@ -186,7 +186,7 @@ or_either : (a b c : Bool) → (a || b) ≡ true → (b ≡ true → c ≡ true)
 or_either true b c e f = refl
 or_either false b c e f = f e
 
-or_neither : (a b : Bool) → a ≡ false → b ≡ false → (a || b) ≡ false
+pub or_neither : (a b : Bool) → a ≡ false → b ≡ false → (a || b) ≡ false
 or_neither true b e f = absurd cc
 or_neither false b e f = f
 

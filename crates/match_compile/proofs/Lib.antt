@@ -25,3 +25,4 @@ pub mod Walked
 pub mod Composed
 pub mod Breaks
 pub mod AsRead
+pub mod Single

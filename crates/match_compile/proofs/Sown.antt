@@ -20,7 +20,7 @@ use Rattle.match_compile.specs.Decisions.{Decision, row_of, begun, grown, decide
 use Rattle.match_compile.specs.Translated.{bound_at, is_name, all_bind, branches_bind}
 use Rattle.match_compile.proofs.Inserted.{some_is, same_is, settled_is, fewer, no_tests, first_test, at_head, at_pat, at_test, branch_by, by_test}
 use Rattle.match_compile.proofs.Decided.{by_insert}
-use Rattle.match_compile.proofs.Grouped.{Differ, all_are, all_of, all_in, rows_all, functions_all, OneName, functions_one, same_count}
+use Rattle.match_compile.proofs.Grouped.{front_all, back_all, Differ, all_are, all_of, all_in, rows_all, functions_all, OneName, functions_one, same_count}
 
 abbrev pub NotIn : ℕ → List ℕ → Type 0
 NotIn p ps = In p ps → ⊥
@@ -48,14 +48,6 @@ differ_join : (ps ys ks : List ℕ) → Differ ps → Differ ys → AllOf (λ p.
 differ_join [] ys ks d e n k = e
 differ_join (p ∷ ps) ys ks d e n k =
     (all_append (λ y. y ≢ p) ps ys d.0 (all_are (λ y. In y ks) (λ y. y ≢ p) (λ y i q. n.0 (subst (λ z. In z ks) q i)) ys k), differ_join ps ys ks d.1 e n.1 k)
-
-front_all : {X : Type 0} (P : X → Type 0) (xs ys : List X) → AllOf P (xs ++ ys) → AllOf P xs
-front_all P [] ys h = tt
-front_all P (x ∷ xs) ys h = (h.0, front_all P xs ys h.1)
-
-back_all : {X : Type 0} (P : X → Type 0) (xs ys : List X) → AllOf P (xs ++ ys) → AllOf P ys
-back_all P [] ys h = h
-back_all P (x ∷ xs) ys h = back_all P xs ys h.1
 
 -- places of fields in the place of the one that is looked at
 differ_open : (xs ps ys ks : List ℕ) (p : ℕ) → Differ (xs ++ p ∷ ys) → Differ ps → AllOf (λ p. NotIn p ks) ps → AllOf (λ y. In y ks) (xs ++ p ∷ ys) → Differ (xs ++ (ps ++ ys))

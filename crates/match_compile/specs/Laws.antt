@@ -1,5 +1,6 @@
 -- What the definitions of equations, their rules and their trees say by themselves.
-use Rattle.std.specs.Prelude.{◌≡◌, ℕ, ◌+◌, ◌*◌, ◌≤◌, List, [], ◌∷◌, ◌++◌, Some}
+use Rattle.std.specs.Prelude.{◌≡◌, ℕ, ◌+◌, ◌*◌, ◌≤◌, true, ◌||◌, List, [], ◌∷◌, ◌++◌, map, length, Some}
+use Rattle.seq.specs.Lists.{sum_of}
 use Rattle.core_reader.specs.declared.syntax.Binder.{Binder}
 use Rattle.core_reader.specs.Tree.{Expr}
 use Rattle.core_reader.specs.Size.{program_size}
@@ -8,9 +9,10 @@ use Rattle.match_compile.specs.Source.{Equation, Source}
 use Rattle.match_compile.specs.Grammar.{IsText}
 use Rattle.match_compile.specs.Rules.{IsUnbroken, IsFirstBroken}
 use Rattle.match_compile.specs.Sound.{IsSound}
-use Rattle.match_compile.specs.Sizes.{source_size, tests}
+use Rattle.match_compile.specs.Sizes.{source_size, tests, functions, is_simple, is_plain}
 use Rattle.match_compile.specs.Translated.{translated}
 use Rattle.match_compile.specs.Decisions.{decisions_from, StandFor}
+use Rattle.match_compile.specs.OneFunction.{IsOneFunction}
 use Rattle.match_compile.specs.Trees.{Job, Row, settled, Tree, IsTree, alone_from, insert}
 
 -- A text stands for the equations of one source at most.
@@ -50,3 +52,11 @@ abbrev pub BreaksOnlySize : Type 0
 BreaksOnlySize =
     (text : List ℕ) (c : Source) → IsText text c → IsUnbroken text → IsSound c → (k at : ℕ)
     → program.Broken (translated c) k at → k ≡ 35
+
+-- A function that is simple, or one equation of names alone, becomes one function.
+abbrev pub SimpleStaysOne : Type 0
+SimpleStaysOne =
+    (text : List ℕ) (c : Source) → IsText text c → IsUnbroken text
+    → (before after : List (List Equation)) (es : List Equation)
+    → functions c.equations ≡ before ++ es ∷ after → (is_simple es || is_plain es) ≡ true
+    → IsOneFunction c (length before) (sum_of (map length before)) es

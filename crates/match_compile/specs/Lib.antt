@@ -16,6 +16,7 @@ pub mod Trees
 pub mod Decisions
 pub mod Renamed
 pub mod Translated
+pub mod OneFunction
 -- examples
 pub mod Examples
 -- laws

@@ -1,6 +1,6 @@
 //! What the definitions of equations, their rules and their trees say by themselves.
 
-ghost use Rattle.match_compile.specs.Laws.{OneSource, OneFirst, RowsGoIn, OneRow, TreesStand, IsSmall, BreaksOnlySize};
+ghost use Rattle.match_compile.specs.Laws.{OneSource, OneFirst, RowsGoIn, OneRow, TreesStand, IsSmall, BreaksOnlySize, SimpleStaysOne};
 ghost use Rattle.match_compile.specs.Stays.{KnownStays};
 ghost use Rattle.match_compile.specs.Jobs.{Specialises};
 ghost use Rattle.match_compile.specs.Examples.{Examples};
@@ -44,6 +44,11 @@ pub fn is_small()
 /// none, become a program that breaks no rule but the one on its size.
 pub fn breaks_only_size()
     ensures { BreaksOnlySize }
+{}
+
+/// A function that is simple, or one equation of names alone, becomes one function.
+pub fn simple_stays_one()
+    ensures { SimpleStaysOne }
 {}
 
 /// A value that is known decides the tests of its name that come first, whatever was tried before.

@@ -1,0 +1,12 @@
+pub mod Types
+pub mod Sound
+pub mod Printed
+pub mod Readings
+pub mod Constructors
+pub mod Flats
+pub mod Scopes
+pub mod Cases
+pub mod Terms
+pub mod Lists
+pub mod Fields
+pub mod Whole
