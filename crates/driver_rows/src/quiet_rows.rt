@@ -1,7 +1,7 @@
 //! Programs whose input tells nothing of the bytes that it gives, as the standard input.
 
 ghost use Rattle.std.specs.Prelude.{◌≡◌, ℕ, [], None};
-ghost use Rattle.grin_driver.specs.declared.status.Status.TheVariants.{Exited, Trapped};
+ghost use Rattle.text_commands.specs.declared.status.Status.TheVariants.{Exited, Trapped};
 ghost use Rattle.rv32_machine.specs.declared.machine.TrapKind.{TrapKind};
 
 use grin_driver::{Status, run_text};

@@ -10,12 +10,13 @@ use Rattle.grin_compile.specs.Limits.{whole_words}
 use Rattle.grin_compile.specs.Stages.{passes, AreStages}
 use Rattle.grin_compile.specs.Made.{Made}
 use Rattle.grin_compile.specs.Compilation.{IsCompilation, later}
-use Rattle.grin_driver.specs.declared.status.Status.{Status}
-use Rattle.grin_driver.specs.declared.status.Status.TheVariants.{Done, Refused, OutOfMemory, WriteFault}
-use Rattle.grin_driver.specs.Text.{IsAccepted}
+use Rattle.text_commands.specs.declared.status.Status.{Status}
+use Rattle.text_commands.specs.Text.{IsAccepted}
 use Rattle.grin_driver.specs.CodeListing.{code_listing, IsCodeOf, IsCodeListing, ListsCode}
 use Rattle.grin_driver.specs.Building.{Builds}
-use Rattle.grin_driver.proofs.Texts.{accepted_short}
+use Rattle.grin_driver.specs.Outcome.{IsImageOf, IsNotRun}
+use Rattle.text_commands.proofs.Texts.{accepted_short}
+use Rattle.text_commands.proofs.Written.{writes_as}
 use Rattle.grin_driver.proofs.Outcomes.{not_run_long}
 
 -- the words of a compiled program are the code of an image that is made of it
@@ -51,15 +52,11 @@ listing_of text cells stack code bytes of is = record { file = of.file; from = o
 
 module _ {K : Type 0} (o : SinkChange K) (front text : List ℕ) (cells stack : ℕ) (short : 1048576 < length front) (long : 1048576 < length text) where
   pub lists_code_long : (status : Status) → ListsCode o front cells stack status → ListsCode o text cells stack status
-  lists_code_long (Refused k at) h = (not_run_long front text short long k at h.0, h.1)
-  lists_code_long OutOfMemory h = h
-  lists_code_long Done h = accepted_short front h.1.from.source h.1.from.program short h.1.from.accepted
-  lists_code_long WriteFault h = accepted_short front h.1.from.source h.1.from.program short h.1.from.accepted
-  lists_code_long _ h = absurd h
+  lists_code_long status h =
+      writes_as (λ text. IsCodeListing text cells stack) IsNotRun o front text (λ bytes made. accepted_short front made.from.source made.from.program short made.from.accepted)
+      (not_run_long front text short long) status h
 
   pub builds_long : (status : Status) → Builds o front cells stack status → Builds o text cells stack status
-  builds_long (Refused k at) h = (not_run_long front text short long k at h.0, h.1)
-  builds_long OutOfMemory h = h
-  builds_long Done h = accepted_short front h.1.source h.1.program short h.1.accepted
-  builds_long WriteFault h = accepted_short front h.1.source h.1.program short h.1.accepted
-  builds_long _ h = absurd h
+  builds_long status h =
+      writes_as (λ text. IsImageOf text cells stack) IsNotRun o front text (λ file made. accepted_short front made.source made.program short made.accepted)
+      (not_run_long front text short long) status h

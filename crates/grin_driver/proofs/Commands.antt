@@ -6,19 +6,22 @@ use Rattle.command_line.specs.declared.command.Listing.{Listing}
 use Rattle.command_line.specs.declared.command.Listing.TheVariants as listing
 use Rattle.generator.specs.Generated.{generated}
 use Rattle.grin_io.specs.Changes.{ShelfChange, SourceChange, SinkChange}
-use Rattle.grin_driver.specs.declared.status.Status.{Status}
-use Rattle.grin_driver.specs.declared.status.Status.TheVariants.{OutOfMemory, ReadFault}
-use Rattle.grin_driver.specs.Reading.{IsUnread}
-use Rattle.grin_driver.specs.Answer.{OfOperand, OfOperands, OfFiles, Answers, most_of_text, most_of_image}
+use Rattle.text_commands.specs.declared.status.Status.{Status}
+use Rattle.text_commands.specs.declared.status.Status.TheVariants.{OutOfMemory, ReadFault}
+use Rattle.text_commands.specs.Reading.{IsUnread}
+use Rattle.text_commands.specs.Operands.{OfOperand, OfOperands, OfFiles, most_of_text}
+use Rattle.grin_driver.specs.Answer.{Answers, most_of_image}
 use Rattle.grin_driver.specs.After.{ListsAfter}
 use Rattle.grin_driver.specs.Building.{Builds}
-use Rattle.grin_driver.specs.Linking.{Links}
-use Rattle.grin_driver.specs.Lifting.{Lifts}
-use Rattle.grin_driver.specs.Checking.{Checks}
+use Rattle.text_commands.specs.Linking.{Links}
+use Rattle.text_commands.specs.Lifting.{Lifts}
+use Rattle.text_commands.specs.Checking.{Checks}
 use Rattle.grin_driver.specs.Execution.{IsUntouched, Execution}
 use Rattle.grin_driver.specs.Outcome.{Outcome}
-use Rattle.grin_driver.specs.Completeness.{OneAccepted, Or, NothingFailed, Gives}
-use Rattle.grin_driver.proofs.Complete.{check_gives, list_gives, build_gives, generation_gives, exec_gives, run_gives, link_gives, lift_gives}
+use Rattle.text_commands.specs.Text.{OneAccepted}
+use Rattle.grin_driver.specs.Completeness.{Or, NothingFailed, Gives}
+use Rattle.text_commands.proofs.Gives.{check_gives, link_gives, lift_gives}
+use Rattle.grin_driver.proofs.Complete.{list_gives, build_gives, generation_gives, exec_gives, run_gives}
 
 module _ {F I K : Type 0} (f : ShelfChange F) (i : SourceChange I) (o : SinkChange K) where
   module _ (n : NothingFailed f i o) where

@@ -2,16 +2,8 @@
 use Rattle.std.proofs.Common.{◌≡◌, ℕ, zero, suc, ◌<◌, ◌≤◌, List, refl, subst, arith}
 use mathlib.Core.Logic.{◌⊎◌, inl, inr}
 use Rattle.core_reader.specs.Tree as tree
-use Rattle.core_reader.specs.Text as reader
-use Rattle.core_reader.specs.Text.{IsFirstUnread}
-use Rattle.core_reader.proofs.OnlyOne.{one_program}
-use Rattle.arity_check.specs.One.{OneNormalForm}
-use Rattle.arity_check.specs.Normal.{IsNormalForm}
 use Rattle.arity_check.specs.Program.{Program}
-use Rattle.arity_check.specs.Broken.{Broken}
 use Rattle.elf32.specs.Rules.{KeepsBelow}
-use Rattle.core_link.specs.Rules as linking
-use Rattle.lambda_lift.specs.Rules as lifting
 use Rattle.grin_io.specs.Changes.{SourceChange, SinkChange}
 use Rattle.grin_io.specs.Causes.{Rose}
 use Rattle.grin_stages.specs.Stage.{Fits, HasExpandedSize}
@@ -22,34 +14,22 @@ use Rattle.grin_opt.specs.declared.pass.PassName.{PassName}
 use Rattle.grin_opt.specs.declared.pass.PassName.TheVariants.{Translate}
 use Rattle.command_line.specs.declared.command.Listing.{Listing}
 use Rattle.command_line.specs.declared.command.Listing.TheVariants as listing
-use Rattle.grin_driver.specs.declared.status.Status.{Status}
-use Rattle.grin_driver.specs.declared.status.Status.TheVariants.{Done, Refused, NoAlternative, HeapFull, StackFull, StepLimit, OutOfMemory, ReadFault, WriteFault}
-use Rattle.grin_driver.specs.Text.{IsRefusedBy, Unread, Unaccepted, IsAccepted}
-use Rattle.grin_driver.specs.Listing.{IsLargeText, IsNotListed, Lists, Prints}
-use Rattle.grin_driver.specs.CodeListing.{ListsCode}
+use Rattle.text_commands.specs.declared.status.Status.{Status}
+use Rattle.text_commands.specs.declared.status.Status.TheVariants.{Done, Refused, NoAlternative, HeapFull, StackFull, StepLimit, OutOfMemory, ReadFault, WriteFault}
+use Rattle.text_commands.specs.Text.{IsAccepted, IsAcceptable, OneAccepted}
+use Rattle.text_commands.proofs.Gives.{not_refused, print_gives}
+use Rattle.text_commands.proofs.Written.{writes_gives}
+use Rattle.grin_driver.specs.Listing.{IsListing, IsLargeText, IsNotListed, Lists}
+use Rattle.grin_driver.specs.CodeListing.{IsCodeListing, ListsCode}
 use Rattle.grin_driver.specs.After.{ListsAfter}
 use Rattle.grin_driver.specs.Building.{Builds}
-use Rattle.grin_driver.specs.Linking.{Links}
-use Rattle.grin_driver.specs.Lifting.{Lifts}
-use Rattle.grin_driver.specs.Checking.{Checks}
 use Rattle.grin_driver.specs.Execution.{status_of, Execution}
-use Rattle.grin_driver.specs.Outcome.{IsNotRun, Outcome}
+use Rattle.grin_driver.specs.Outcome.{IsImageOf, IsNotRun, Outcome}
 use Rattle.grin_driver.specs.Generating.{Generates}
-use Rattle.grin_driver.specs.Completeness.{IsAcceptable, IsCompilable, OneAccepted, IsListable, IsStop, IsEnd, IsGenerationsEnd}
+use Rattle.grin_driver.specs.Completeness.{IsCompilable, IsListable, IsStop, IsEnd, IsGenerationsEnd}
 use Rattle.grin_driver.proofs.Outcomes.{rule_below}
 
--- ---- accepted texts are not refused
-
-pub accepted_once : OneNormalForm → OneAccepted
-accepted_once one text source source' p p' a b =
-    let same : source ≡ source' = one_program text source source' a.stands b.stands in
-    (same, one source' p p' (subst (λ (s : tree.Program). IsNormalForm s p) same a.normal) b.normal)
-
-pub not_refused : (text : List ℕ) (source : tree.Program) (p : Program) → IsAccepted text source p → (k at : ℕ) → IsRefusedBy text k at → ⊥
-not_refused text source p a k at (Unread _ _ h) = a.read k at h.broken
-not_refused text source p a k at (Unaccepted _ _ q u t h) =
-    let same : q ≡ source = one_program text q source t a.stands in
-    a.unbroken k at (subst (λ (s : tree.Program). Broken s k at) same h.broken)
+-- ---- programs that fit are not too large
 
 not_large : OneAccepted → (text : List ℕ) (source : tree.Program) (p : Program) → IsAccepted text source p → Fits p → (size : ℕ) → IsLargeText text size → ⊥
 not_large one text source p a fits size large =
@@ -66,57 +46,27 @@ runnable one text c k at (inr h) = not_large one text c.source c.program c.accep
 -- ---- the statuses of a text that is put out
 
 module _ {K : Type 0} (o : SinkChange K) (well : Rose (o.faults o.old) (o.faults o.new) → ⊥) (text : List ℕ) where
-  pub check_gives : (status : Status) → Checks o text status → (status ≡ OutOfMemory) ⊎ (IsAcceptable text → status ≡ Done)
-  check_gives Done h = inr (λ a. refl)
-  check_gives WriteFault h = absurd (well h.1.2.rose)
-  check_gives (Refused k at) h = inr (λ a. absurd (not_refused text a.source a.program a.accepted k at h.0))
-  check_gives OutOfMemory h = inl refl
-  check_gives _ h = absurd h
-
-  print_gives : (status : Status) → Prints o text status → (status ≡ OutOfMemory) ⊎ (reader.IsUnbroken text → status ≡ Done)
-  print_gives Done h = inr (λ a. refl)
-  print_gives WriteFault h = absurd (well h.2.2.rose)
-  print_gives (Refused k at) h = inr (λ a. absurd (a k at h.0.broken))
-  print_gives OutOfMemory h = inl refl
-  print_gives _ h = absurd h
-
   translate_gives : (status : Status) → Lists o text Translate status → (status ≡ OutOfMemory) ⊎ (IsAcceptable text → status ≡ Done)
-  translate_gives Done h = inr (λ a. refl)
-  translate_gives WriteFault h = absurd (well h.2.2.rose)
-  translate_gives (Refused k at) h = inr (λ a. absurd (listed a h.0)) where
-    listed : IsAcceptable text → IsNotListed text Translate k at → ⊥
-    listed a (inl g) = not_refused text a.source a.program a.accepted k at g
-    listed a (inr g) = g.1 refl
-  translate_gives OutOfMemory h = inl refl
-  translate_gives _ h = absurd h
+  translate_gives status h = writes_gives (λ text. IsListing text Translate) (λ text. IsNotListed text Translate) o well text listed status h where
+    listed : (k at : ℕ) → IsAcceptable text → IsNotListed text Translate k at → ⊥
+    listed k at a (inl g) = not_refused text a.source a.program a.accepted k at g
+    listed k at a (inr g) = g.1 refl
 
   module _ (one : OneAccepted) where
     stage_gives : (after : PassName) (status : Status) → Lists o text after status → (status ≡ OutOfMemory) ⊎ (IsCompilable text → status ≡ Done)
-    stage_gives after Done h = inr (λ a. refl)
-    stage_gives after WriteFault h = absurd (well h.2.2.rose)
-    stage_gives after (Refused k at) h = inr (λ a. absurd (listed a h.0)) where
-      listed : IsCompilable text → IsNotListed text after k at → ⊥
-      listed a (inl g) = not_refused text a.source a.program a.accepted k at g
-      listed a (inr g) = not_large one text a.source a.program a.accepted a.fits at g.2
-    stage_gives after OutOfMemory h = inl refl
-    stage_gives after _ h = absurd h
+    stage_gives after status h = writes_gives (λ text. IsListing text after) (λ text. IsNotListed text after) o well text listed status h where
+      listed : (k at : ℕ) → IsCompilable text → IsNotListed text after k at → ⊥
+      listed k at a (inl g) = not_refused text a.source a.program a.accepted k at g
+      listed k at a (inr g) = not_large one text a.source a.program a.accepted a.fits at g.2
 
     code_gives : (cells stack : ℕ) (status : Status) → ListsCode o text cells stack status → (status ≡ OutOfMemory) ⊎ (IsCompilable text → status ≡ Done)
-    code_gives cells stack Done h = inr (λ a. refl)
-    code_gives cells stack WriteFault h = absurd (well h.2.2.rose)
-    code_gives cells stack (Refused k at) h = inr (λ a. absurd (runnable one text a k at h.0))
-    code_gives cells stack OutOfMemory h = inl refl
-    code_gives cells stack _ h = absurd h
+    code_gives cells stack status h = writes_gives (λ text. IsCodeListing text cells stack) IsNotRun o well text (λ k at a. runnable one text a k at) status h
 
     pub build_gives : (cells stack : ℕ) (status : Status) → Builds o text cells stack status → (status ≡ OutOfMemory) ⊎ (IsCompilable text → status ≡ Done)
-    build_gives cells stack Done h = inr (λ a. refl)
-    build_gives cells stack WriteFault h = absurd (well h.2.2.rose)
-    build_gives cells stack (Refused k at) h = inr (λ a. absurd (runnable one text a k at h.0))
-    build_gives cells stack OutOfMemory h = inl refl
-    build_gives cells stack _ h = absurd h
+    build_gives cells stack status h = writes_gives (λ text. IsImageOf text cells stack) IsNotRun o well text (λ k at a. runnable one text a k at) status h
 
     pub list_gives : (after : Listing) (status : Status) → ListsAfter o text after status → (status ≡ OutOfMemory) ⊎ (IsListable after text → status ≡ Done)
-    list_gives listing.Read status h = print_gives status h
+    list_gives listing.Read status h = print_gives o well text status h
     list_gives listing.Translate status h = translate_gives status h
     list_gives listing.Eval status h = stage_gives _ status h
     list_gives listing.Apply status h = stage_gives _ status h
@@ -141,28 +91,6 @@ module _ {K : Type 0} (o : SinkChange K) (well : Rose (o.faults o.old) (o.faults
     generation_gives StepLimit h = inr (λ a. tt)
     generation_gives OutOfMemory h = inl refl
     generation_gives _ h = absurd h.0.1.1
-
--- ---- the statuses of modules
-
-pub link_gives : {K : Type 0} (o : SinkChange K) → (Rose (o.faults o.old) (o.faults o.new) → ⊥) → (texts : List (List ℕ)) (status : Status) → Links o texts status
-    → (status ≡ OutOfMemory) ⊎ (linking.IsUnbroken texts → status ≡ Done)
-link_gives o well texts Done h = inr (λ u. refl)
-link_gives o well texts WriteFault h = absurd (well h.2.2.rose)
-link_gives o well texts (Refused k number) h = inr (λ u. absurd (u h.0.2.group k h.0.0 h.0.1 h.0.2.broken))
-link_gives o well texts OutOfMemory h = inl refl
-link_gives o well texts _ h = absurd h
-
-unlifted_broken : (text : List ℕ) (k at : ℕ) → lifting.IsUnbroken text → lifting.IsFirstBroken text k at → ⊥
-unlifted_broken text k at u (lifting.Unread h) = u.read k at h.broken
-unlifted_broken text k at u (lifting.Unlifted read broken first) = u.lifted k at broken
-
-pub lift_gives : {K : Type 0} (o : SinkChange K) → (Rose (o.faults o.old) (o.faults o.new) → ⊥) → (text : List ℕ) (status : Status) → Lifts o text status
-    → (status ≡ OutOfMemory) ⊎ (lifting.IsUnbroken text → status ≡ Done)
-lift_gives o well text Done h = inr (λ u. refl)
-lift_gives o well text WriteFault h = absurd (well h.2.2.rose)
-lift_gives o well text (Refused k at) h = inr (λ u. absurd (unlifted_broken text k at u h.0))
-lift_gives o well text OutOfMemory h = inl refl
-lift_gives o well text _ h = absurd h
 
 -- ---- the statuses of a run
 

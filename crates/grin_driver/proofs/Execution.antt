@@ -10,8 +10,8 @@ use Rattle.rv32_machine.specs.Steps.{Stand, IsAt, start_of, state_of}
 use Rattle.rv32_machine.specs.Runs.{End, Going, Exited, Stopped, StandsAt, run, Answered, Interrupted}
 use Rattle.rv32_machine.specs.declared.machine.Stop.{Stop}
 use Rattle.rv32_machine.specs.declared.machine.Stop.TheVariants.{Steps, Exit, Trap}
-use Rattle.grin_driver.specs.declared.status.Status.{Status}
-use Rattle.grin_driver.specs.declared.status.Status.TheVariants.{Refused, OutOfMemory}
+use Rattle.text_commands.specs.declared.status.Status.{Status}
+use Rattle.text_commands.specs.declared.status.Status.TheVariants.{Refused, OutOfMemory}
 use Rattle.grin_driver.specs.Execution.{IsUnloadable, shown_number, status_of, stop_at, OfGiven, Stops, Fails, Executes, Execution}
 use Rattle.elf32.proofs.Chain.{below40}
 

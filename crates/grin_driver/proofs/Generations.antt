@@ -13,8 +13,8 @@ use Rattle.rv32_machine.proofs.Loops.{pieces_are_the_output}
 use Rattle.rv32_machine.specs.declared.machine.Stop.{Stop}
 use Rattle.rv32_machine.specs.declared.machine.Stop.TheVariants.{Steps, Exit, Trap}
 use Rattle.grin_compile.specs.Limits.{HeapOver, StackOver, frame_bound, steps_each}
-use Rattle.grin_driver.specs.declared.status.Status.{Status}
-use Rattle.grin_driver.specs.declared.status.Status.TheVariants.{Done, Refused, NoAlternative, HeapFull, StackFull, StepLimit, OutOfMemory, ReadFault, WriteFault}
+use Rattle.text_commands.specs.declared.status.Status.{Status}
+use Rattle.text_commands.specs.declared.status.Status.TheVariants.{Done, Refused, NoAlternative, HeapFull, StackFull, StepLimit, OutOfMemory, ReadFault, WriteFault}
 use Rattle.grin_driver.specs.Execution.{OfGiven, Stops, Execution, status_of}
 use Rattle.grin_driver.specs.Outcome.{named}
 use Rattle.grin_driver.specs.Generating.{IsDefaultImageOf, Ended, IsOutput, WritesTooMuch, IsUndone, seen_of, status_by}

@@ -1,12 +1,7 @@
-pub mod Files
-pub mod InTurn
-pub mod Texts
 pub mod Fronts
 pub mod Unread
 pub mod Outcomes
 pub mod Execution
-pub mod Checks
-pub mod Putting
 pub mod Stores
 pub mod Generations
 pub mod Summaries
@@ -14,6 +9,4 @@ pub mod Complete
 pub mod Commands
 pub mod Codes
 pub mod Listings
-pub mod Linked
-pub mod Lifted
 pub mod Ranges

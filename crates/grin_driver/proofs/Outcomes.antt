@@ -24,13 +24,13 @@ use Rattle.rv32_machine.specs.declared.machine.Stop.{Stop}
 use Rattle.rv32_machine.specs.declared.machine.Stop.TheVariants.{Steps, Exit, Trap}
 use Rattle.rv32_steps.specs.Seen.{seen, finish_of}
 use Rattle.grin_compile.specs.Limits.{HeapOver, StackOver, frame_bound, steps_each, whole_words}
-use Rattle.grin_driver.specs.declared.status.Status.{Status}
-use Rattle.grin_driver.specs.declared.status.Status.TheVariants.{Refused, OutOfMemory, ReadFault, WriteFault}
+use Rattle.text_commands.specs.declared.status.Status.{Status}
+use Rattle.text_commands.specs.declared.status.Status.TheVariants.{Refused, OutOfMemory, ReadFault, WriteFault}
 use Rattle.grin_driver.specs.Listing.{IsUnlisted}
 use Rattle.rv32_machine.proofs.Sources.{itself}
 use Rattle.grin_driver.specs.Execution.{OfGiven, Stops, Fails, Execution, IsUnloadable, stop_at, status_of}
 use Rattle.grin_driver.specs.Outcome.{IsNotRun, IsImageOf, IsUnmade, named, RunsTo, Breaks, Says, Runs, Outcome}
-use Rattle.grin_driver.proofs.Texts.{refused_long, accepted_short}
+use Rattle.text_commands.proofs.Texts.{refused_long, accepted_short}
 use Rattle.grin_driver.proofs.Fronts.{took_output, gave_used, took_front}
 use Rattle.grin_driver.proofs.Unread.{takes_no_byte}
 

@@ -4,11 +4,11 @@ use Rattle.std.proofs.lemmas.List.{length-map}
 use Rattle.core_reader.specs.Size.{program_size}
 use Rattle.arity_check.specs.Program.{function, program}
 use Rattle.grin_io.specs.Changes.{SinkChange}
-use Rattle.grin_driver.specs.declared.accept.Accepted.{Accepted}
+use Rattle.text_commands.specs.declared.accept.Accepted.{Accepted}
 use mathlib.Core.Logic.{inl, inr}
-use Rattle.grin_driver.specs.declared.status.Status.{Status}
-use Rattle.grin_driver.specs.declared.status.Status.TheVariants.{Done, Refused, OutOfMemory, WriteFault}
-use Rattle.grin_driver.specs.Text.{IsAcceptedAs, IsUnaccepted}
+use Rattle.text_commands.specs.declared.status.Status.{Status}
+use Rattle.text_commands.specs.declared.status.Status.TheVariants.{Done, Refused, OutOfMemory, WriteFault}
+use Rattle.text_commands.specs.Text.{IsAcceptedAs, IsUnaccepted}
 use Rattle.grin_driver.specs.Outcome.{IsUnmade}
 use Rattle.grin_driver.specs.Generating.{summary, IsDefaultImageOf, IsOutput, IsUndone, IsSummary, IsUnsummed, Generates}
 use Rattle.seq.specs.Lists.{sum_of}

@@ -4,8 +4,9 @@ use Rattle.command_line.specs.declared.command.Listing.{Listing}
 use Rattle.command_line.specs.declared.command.Listing.TheVariants as listing
 use Rattle.grin_opt.specs.declared.pass.PassName.TheVariants.{Translate, Eval, Apply, Vectorise, Simplify, Fetch, Copy, Update, Unbox, Raise, Dead}
 use Rattle.grin_io.specs.Changes.{SinkChange}
-use Rattle.grin_driver.specs.declared.status.Status.{Status}
-use Rattle.grin_driver.specs.Listing.{Lists, Prints}
+use Rattle.text_commands.specs.declared.status.Status.{Status}
+use Rattle.grin_driver.specs.Listing.{Lists}
+use Rattle.text_commands.specs.Printing.{Prints}
 use Rattle.grin_driver.specs.CodeListing.{ListsCode}
 
 -- The canonical text, a stage, or the code, which is that of the image with the heap and the stack

@@ -4,11 +4,10 @@ use Rattle.rv32_isa.specs.declared.instr.Instr.{Instr}
 use Rattle.rv32_isa.specs.Table.{instr_of}
 use Rattle.rv32_isa.specs.Text.{text_of}
 use Rattle.rv32_layout.specs.Places.{AllDecode}
-use Rattle.grin_io.specs.Changes.{SinkChange, TookAll, BrokeOff}
-use Rattle.grin_driver.specs.declared.status.Status.{Status}
-use Rattle.grin_driver.specs.declared.status.Status.TheVariants.{Done, Refused, OutOfMemory, WriteFault}
+use Rattle.grin_io.specs.Changes.{SinkChange}
+use Rattle.text_commands.specs.declared.status.Status.{Status}
 use Rattle.grin_driver.specs.Outcome.{IsNotRun, IsImageOf}
-use Rattle.grin_driver.specs.Putting.{OfPieces}
+use Rattle.text_commands.specs.Writing.{Writes}
 
 -- ---- the lines
 
@@ -65,10 +64,5 @@ pub record IsCodeListing (text : List ℕ) (cells stack : ℕ) (bytes : List ℕ
 -- pieces, and none at a refusal or for want of memory.
 abbrev pub ListsCode :
     {K : Type 0} → SinkChange K → (text : List ℕ) → (cells stack : ℕ) → Status → Type 0
-ListsCode o text cells stack Done =
-    (bytes : List ℕ) × IsCodeListing text cells stack bytes × OfPieces bytes (TookAll o)
-ListsCode o text cells stack WriteFault =
-    (bytes : List ℕ) × IsCodeListing text cells stack bytes × OfPieces bytes (BrokeOff o)
-ListsCode o text cells stack (Refused rule number) = IsNotRun text rule number × (o.new ≡ o.old)
-ListsCode o text cells stack OutOfMemory = o.new ≡ o.old
-ListsCode o text cells stack _ = ⊥
+ListsCode o text cells stack status =
+    Writes (λ text. IsCodeListing text cells stack) IsNotRun o text status

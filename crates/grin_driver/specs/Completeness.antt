@@ -14,31 +14,20 @@ use Rattle.generator.specs.Generated.{generated}
 use Rattle.grin_io.specs.Causes.{Rose}
 use Rattle.grin_io.specs.Changes.{ShelfChange, SourceChange, SinkChange}
 use Rattle.grin_stages.specs.Stage.{Fits}
-use Rattle.grin_driver.specs.declared.status.Status.{Status}
-use Rattle.grin_driver.specs.declared.status.Status.TheVariants.{Done, Refused, Usage, NoAlternative, HeapFull, StackFull, StepLimit, Exited, Trapped, OutOfMemory}
-use Rattle.grin_driver.specs.Text.{IsAccepted}
-use Rattle.grin_driver.specs.Answer.{OfFile, OfFiles, most_of_text, most_of_image}
+use Rattle.text_commands.specs.declared.status.Status.{Status}
+use Rattle.text_commands.specs.declared.status.Status.TheVariants.{Done, Refused, Usage, NoAlternative, HeapFull, StackFull, StepLimit, Exited, Trapped, OutOfMemory}
+use Rattle.text_commands.specs.Text.{IsAccepted, IsAcceptable}
+use Rattle.text_commands.specs.Operands.{OfFile, OfFiles, most_of_text}
+use Rattle.grin_driver.specs.Answer.{most_of_image}
 
 -- ---- texts
 
--- the text breaks none of the rules of reading and checking
-pub record IsAcceptable (text : List ℕ) : Type 0 where
-  pub source : tree.Program
-  pub program : Program
-  pub accepted : IsAccepted text source program
-
--- nor rule 36
+-- the text breaks none of the rules of reading and checking, nor rule 36
 pub record IsCompilable (text : List ℕ) : Type 0 where
   pub source : tree.Program
   pub program : Program
   pub accepted : IsAccepted text source program
   pub fits : Fits program
-
--- a text that breaks no rule stands for one program, of one normal form
-abbrev pub OneAccepted : Type 0
-OneAccepted =
-    (text : List ℕ) (source source' : tree.Program) (p p' : Program)
-    → IsAccepted text source p → IsAccepted text source' p' → (source ≡ source') × (p ≡ p')
 
 -- the rules that a listing needs unbroken
 abbrev pub IsListable : Listing → List ℕ → Type 0

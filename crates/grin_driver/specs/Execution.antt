@@ -12,8 +12,8 @@ use Rattle.rv32_machine.specs.Steps.{start_of}
 use Rattle.rv32_machine.specs.Runs.{End, Going, Exited as exited, Stopped, run, pieces, used, AsksForMore}
 use Rattle.rv32_machine.specs.declared.machine.Stop.{Stop}
 use Rattle.rv32_machine.specs.declared.machine.Stop.TheVariants.{Steps, Exit, Trap}
-use Rattle.grin_driver.specs.declared.status.Status.{Status}
-use Rattle.grin_driver.specs.declared.status.Status.TheVariants.{Done, Refused, StepLimit, Exited, Trapped, OutOfMemory, ReadFault, WriteFault}
+use Rattle.text_commands.specs.declared.status.Status.{Status}
+use Rattle.text_commands.specs.declared.status.Status.TheVariants.{Done, Refused, StepLimit, Exited, Trapped, OutOfMemory, ReadFault, WriteFault}
 
 -- the number that is shown of a refusal: that of the program header, where it names one
 abbrev pub shown_number : ElfRefusal → ℕ

@@ -9,8 +9,8 @@ use Rattle.headline.specs.Carries.{Finish, runs, exits, Seen, Comes, Reaches}
 use Rattle.rv32_steps.specs.Seen.{seen}
 use Rattle.grin_io.specs.Changes.{SinkChange, TookAll, BrokeOff}
 use Rattle.grin_compile.specs.Limits.{HeapOver, StackOver, frame_bound, steps_each}
-use Rattle.grin_driver.specs.declared.status.Status.{Status}
-use Rattle.grin_driver.specs.declared.status.Status.TheVariants.{Done, Refused, NoAlternative, HeapFull, StackFull, StepLimit, OutOfMemory, WriteFault}
+use Rattle.text_commands.specs.declared.status.Status.{Status}
+use Rattle.text_commands.specs.declared.status.Status.TheVariants.{Done, Refused, NoAlternative, HeapFull, StackFull, StepLimit, OutOfMemory, WriteFault}
 use Rattle.grin_driver.specs.Outcome.{IsNotRun, IsImageOf}
 use Rattle.seq.specs.Lists.{sum_of}
 

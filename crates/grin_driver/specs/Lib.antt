@@ -1,16 +1,8 @@
-pub mod Statuses
-pub mod Telling
-pub mod Reading
-pub mod Text
-pub mod Putting
 pub mod Outcome
-pub mod Checking
 pub mod Listing
 pub mod CodeListing
 pub mod After
 pub mod Building
-pub mod Linking
-pub mod Lifting
 pub mod Generating
 pub mod Execution
 pub mod Answer

@@ -1,21 +1,16 @@
 -- What each status says of a text that is listed.
 use Rattle.std.specs.Prelude.{◌≡◌, ◌≢◌, ◌⊎◌, ◌<◌, ℕ, List}
 use Rattle.core_reader.specs.Tree as tree
-use Rattle.core_reader.specs.Text.{IsText, IsFirstUnread, IsUnbroken}
-use Rattle.core_print.specs.Canonical.{canonical}
 use Rattle.arity_check.specs.Program.{Program}
 use Rattle.grin_syntax.specs.Tree as grin
 use Rattle.grin_syntax.specs.Listing as grin_listing
 use Rattle.grin_opt.specs.declared.pass.PassName.{PassName}
 use Rattle.grin_opt.specs.declared.pass.PassName.TheVariants.{Translate}
 use Rattle.grin_stages.specs.Stage.{IsStage, Fits, HasExpandedSize}
-use Rattle.grin_io.specs.Changes.{SinkChange, TookAll, BrokeOff}
-use Rattle.grin_driver.specs.declared.status.Status.{Status}
-use Rattle.grin_driver.specs.declared.status.Status.TheVariants.{Done, Refused, OutOfMemory, WriteFault}
-use Rattle.grin_driver.specs.Text.{IsRefusedBy, IsAccepted}
-use Rattle.grin_driver.specs.Putting.{OfPieces}
-
--- ---- a stage
+use Rattle.grin_io.specs.Changes.{SinkChange}
+use Rattle.text_commands.specs.declared.status.Status.{Status}
+use Rattle.text_commands.specs.Text.{IsRefusedBy, IsAccepted}
+use Rattle.text_commands.specs.Writing.{IsUnwritten, Writes}
 
 -- The text breaks no rule, and these bytes are the listing of its program's stage. Rule 36 is one
 -- of the rules behind the translation.
@@ -45,37 +40,11 @@ IsNotListed text after rule number =
 
 -- why a text has no listing
 abbrev pub IsUnlisted : (text : List ℕ) → (after : PassName) → Status → Type 0
-IsUnlisted text after (Refused rule number) = IsNotListed text after rule number
-IsUnlisted text after OutOfMemory = Unit {0}
-IsUnlisted text after _ = ⊥
+IsUnlisted text after status = IsUnwritten (λ text. IsNotListed text after) text status
 
 -- The status of a text that is listed, and what became of the sink: puts of the listing's pieces,
 -- and none at a refusal or for want of memory.
 abbrev pub Lists : {K : Type 0} → SinkChange K → (text : List ℕ)
     → (after : PassName) → Status → Type 0
-Lists o text after Done = (bytes : List ℕ) × IsListing text after bytes × OfPieces bytes (TookAll o)
-Lists o text after WriteFault =
-    (bytes : List ℕ) × IsListing text after bytes × OfPieces bytes (BrokeOff o)
-Lists o text after (Refused rule number) = IsNotListed text after rule number × (o.new ≡ o.old)
-Lists o text after OutOfMemory = o.new ≡ o.old
-Lists o text after _ = ⊥
-
--- ---- the canonical text
-
--- the text breaks none of the rules of reading, and these bytes are the canonical text of its
--- program
-pub record IsCanonicalText (text bytes : List ℕ) : Type 0 where
-  pub source : tree.Program
-  pub unbroken : IsUnbroken text
-  pub stands : IsText text source
-  pub is_canonical : bytes ≡ canonical source
-
--- The status of a text whose canonical text is put, and what became of the sink: puts of that
--- text's pieces, and none at a refusal or for want of memory.
-abbrev pub Prints : {K : Type 0} → SinkChange K → (text : List ℕ) → Status → Type 0
-Prints o text Done = (bytes : List ℕ) × IsCanonicalText text bytes × OfPieces bytes (TookAll o)
-Prints o text WriteFault =
-    (bytes : List ℕ) × IsCanonicalText text bytes × OfPieces bytes (BrokeOff o)
-Prints o text (Refused rule number) = IsFirstUnread text rule number × (o.new ≡ o.old)
-Prints o text OutOfMemory = o.new ≡ o.old
-Prints o text _ = ⊥
+Lists o text after status =
+    Writes (λ text. IsListing text after) (λ text. IsNotListed text after) o text status

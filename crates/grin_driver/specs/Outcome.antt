@@ -13,9 +13,10 @@ use Rattle.rv32_machine.specs.declared.machine.Stop.TheVariants.{Steps, Exit}
 use Rattle.grin_stages.specs.Stage.{Fits}
 use Rattle.grin_compile.specs.Limits.{HeapOver, StackOver, frame_bound, steps_each, whole_words}
 use Rattle.grin_compile.specs.Made.{Made}
-use Rattle.grin_driver.specs.declared.status.Status.{Status}
-use Rattle.grin_driver.specs.declared.status.Status.TheVariants.{Done, Refused, NoAlternative, HeapFull, StackFull, StepLimit, Exited, OutOfMemory, ReadFault, WriteFault}
-use Rattle.grin_driver.specs.Text.{IsRefusedBy, IsAccepted}
+use Rattle.text_commands.specs.declared.status.Status.{Status}
+use Rattle.text_commands.specs.declared.status.Status.TheVariants.{Done, Refused, NoAlternative, HeapFull, StackFull, StepLimit, Exited, OutOfMemory, ReadFault, WriteFault}
+use Rattle.text_commands.specs.Text.{IsRefusedBy, IsAccepted}
+use Rattle.text_commands.specs.Writing.{IsUnwritten}
 use Rattle.grin_driver.specs.Listing.{IsLargeText}
 use Rattle.grin_driver.specs.Execution.{Stops, Fails, IsUntouched}
 
@@ -37,9 +38,7 @@ pub record IsImageOf (text : List ℕ) (cells stack : ℕ) (file : List ℕ) : T
 
 -- why no image is made of a text
 abbrev pub IsUnmade : (text : List ℕ) → Status → Type 0
-IsUnmade text (Refused rule number) = IsNotRun text rule number
-IsUnmade text OutOfMemory = Unit {0}
-IsUnmade text _ = ⊥
+IsUnmade text status = IsUnwritten IsNotRun text status
 
 -- the status of a run by that of its image: three exits have names of their own
 abbrev pub named : Status → Status

@@ -6,11 +6,11 @@ ghost use Rattle.grin_compile.specs.Limits.{InRange};
 ghost use Rattle.grin_driver.specs.Building.{Builds};
 
 use crate::image::compiled;
-use crate::pieces::put_pieces;
-use crate::status::Status;
 use grin_compile::Options;
 use grin_io::Sink;
 use std::alloc::Global;
+use text_commands::pieces::put_pieces;
+use text_commands::status::Status;
 
 /// Compiles a text to an image with so many cells and bytes of stack, and puts the image in pieces
 /// of 4,096 bytes. The stack is rounded down to a multiple of four. All memory is had before the

@@ -8,12 +8,12 @@ ghost use Rattle.grin_driver.specs.Outcome.{IsUnmade};
 ghost use Rattle.grin_driver.specs.CodeListing.{hex_digit, hex_word, shown, code_line, code_listing, IsCodeListing, ListsCode};
 
 use crate::image::{DEFAULTS, compiled};
-use crate::pieces::put_pieces;
-use crate::status::Status;
 use grin_compile::Options;
 use grin_io::Sink;
 use rv32_isa::{decode, show};
 use std::alloc::{AllocError, Global};
+use text_commands::pieces::put_pieces;
+use text_commands::status::Status;
 
 /// The address of the first word of the code.
 const FIRST: u32 = 65_536;

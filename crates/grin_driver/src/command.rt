@@ -2,43 +2,37 @@
 
 ghost use Rattle.std.specs.Prelude.{◌≡◌, ◌≤◌, Some, IfSome};
 ghost use Rattle.grin_io.specs.Changes.{of_shelf, of_source, of_sink};
-ghost use Rattle.command_line.specs.Commands.{command_of, asked_by, names_of};
+ghost use Rattle.command_line.specs.Commands.{command_of, asked_by};
 ghost use Rattle.core_link.specs.Laws.{OrderIsFree, StillUnbroken, OneModuleKeeps};
 ghost use Rattle.lambda_lift.specs.Laws.{LiftingKeeps};
 ghost use Rattle.grin_compile.specs.Limits.{InRange};
 ghost use Rattle.grin_driver.specs.Outcome.{Outcome};
-ghost use Rattle.grin_driver.specs.Checking.{Checks};
 ghost use Rattle.grin_driver.specs.Building.{Builds};
-ghost use Rattle.grin_driver.specs.Linking.{Links};
-ghost use Rattle.grin_driver.specs.Lifting.{Lifts};
 ghost use Rattle.grin_driver.specs.After.{ListsAfter};
 ghost use Rattle.grin_driver.specs.Execution.{Execution};
-ghost use Rattle.grin_driver.specs.Reading.{OfEach};
-ghost use Rattle.grin_driver.specs.Answer.{OfOperand, OfOperands, Answers, IsWithin, OfNamed, most_of_text, most_of_image};
-ghost use Rattle.grin_driver.specs.Telling.{IsTold};
+ghost use Rattle.text_commands.specs.Operands.{OfOperand, most_of_text};
+ghost use Rattle.grin_driver.specs.Answer.{Answers, IsWithin, OfNamed, most_of_image};
+ghost use Rattle.text_commands.specs.Telling.{IsTold};
 ghost use Rattle.grin_driver.specs.Completeness.{NothingFailed, Gives};
-ghost use Rattle.grin_driver.specs.declared.status.Status.TheVariants.{OutOfMemory};
+ghost use Rattle.text_commands.specs.declared.status.Status.TheVariants.{OutOfMemory};
 
 use crate::build::build_text;
-use crate::check::check_text;
 use crate::exec::exec_image;
 use crate::generate::generate;
-use crate::laws::one_accepted_program;
-use crate::lift::lift_text;
-use crate::link::link_texts;
 use crate::list::list_after;
-use crate::reading::{read_file, read_files};
 use crate::run::run_text;
-use crate::status::Status;
-use command_line::{Command, Files, Line, Listing};
+use command_line::{Command, Line, Listing};
 use core_link::laws::{one_module_keeps, order_is_free, still_unbroken};
 use grin_compile::Options;
 use grin_io::{Shelf, Sink, Source};
 use lambda_lift::laws::lifting_keeps;
 use std::alloc::Global;
-
-/// The most bytes that are read of a text: one more than those of the longest one.
-const MOST_OF_TEXT: usize = 1_048_577;
+use text_commands::laws::one_accepted_program;
+use text_commands::lift::Lift;
+use text_commands::operands::{check_file, link_files};
+use text_commands::reading::{MOST_OF_TEXT, read_file};
+use text_commands::status::Status;
+use text_commands::writing::write_file;
 
 /// The most bytes that are read of an image: one more than those of the longest one.
 const MOST_OF_IMAGE: usize = 1_342_177_281;
@@ -70,21 +64,6 @@ fn run_file<F: Shelf, I: Source, K: Sink>(
             let Options { cells, stack } = options;
             run_text(alloc, text.as_slice(), cells, stack, steps, input, out)
         }
-        Err(status) => status,
-    }
-}
-
-/// Checks the text of a file, and puts the line of its program.
-fn check_file<F: Shelf, K: Sink>(alloc: Global, file: &str, shelf: &mut F, out: &mut K) -> Status
-    requires { F.permitted file.now }
-    ensures answer { OfOperand (of_shelf F.content F.faults shelf.old shelf.new) most_of_text
-        (out.new ≡ out.old) file.now (λ text status.
-        Checks (of_sink K.put_gives K.taken K.faults out.old out.new) text status) result }
-    ensures later { (F.faults shelf.old ≤ F.faults shelf.new)
-        × (K.faults out.old ≤ K.faults out.new) }
-{
-    match read_file(alloc, shelf, file, MOST_OF_TEXT) {
-        Ok(text) => check_text(alloc, text.as_slice(), out),
         Err(status) => status,
     }
 }
@@ -158,41 +137,6 @@ fn exec_file<F: Shelf, I: Source, K: Sink>(
     }
 }
 
-/// Links the texts of files, and puts the text of the program that they are together.
-fn link_files<F: Shelf, K: Sink>(
-    alloc: Global,
-    files: &Files<'_>,
-    shelf: &mut F,
-    out: &mut K,
-) -> Status
-    requires { OfEach F.permitted (names_of files.now) }
-    ensures answer { OfOperands (of_shelf F.content F.faults shelf.old shelf.new) most_of_text
-        (out.new ≡ out.old) (names_of files.now) (λ texts status.
-        Links (of_sink K.put_gives K.taken K.faults out.old out.new) texts status) result }
-    ensures later { (F.faults shelf.old ≤ F.faults shelf.new)
-        × (K.faults out.old ≤ K.faults out.new) }
-{
-    match read_files(alloc, shelf, files, MOST_OF_TEXT) {
-        Ok(texts) => link_texts(alloc, &texts, out),
-        Err(status) => status,
-    }
-}
-
-/// Lifts the text of a file, and puts the text of Core that it stands for.
-fn lift_file<F: Shelf, K: Sink>(alloc: Global, file: &str, shelf: &mut F, out: &mut K) -> Status
-    requires { F.permitted file.now }
-    ensures answer { OfOperand (of_shelf F.content F.faults shelf.old shelf.new) most_of_text
-        (out.new ≡ out.old) file.now (λ text status.
-        Lifts (of_sink K.put_gives K.taken K.faults out.old out.new) text status) result }
-    ensures later { (F.faults shelf.old ≤ F.faults shelf.new)
-        × (K.faults out.old ≤ K.faults out.new) }
-{
-    match read_file(alloc, shelf, file, MOST_OF_TEXT) {
-        Ok(text) => lift_text(alloc, text.as_slice(), out),
-        Err(status) => status,
-    }
-}
-
 /// Runs a command.
 fn run_command<F: Shelf, I: Source, K: Sink>(
     alloc: Global,
@@ -235,7 +179,7 @@ fn run_command<F: Shelf, I: Source, K: Sink>(
         Command::Exec { image, steps } => exec_file(alloc, image, *steps, shelf, input, out),
         Command::Gen { seed, size } => generate(alloc, *seed, *size, out),
         Command::Link { files } => link_files(alloc, files, shelf, out),
-        Command::Lift { file } => lift_file(alloc, file, shelf, out),
+        Command::Lift { file } => write_file(alloc, &Lift, file, shelf, out),
     }
 }
 

@@ -5,11 +5,11 @@ ghost use Rattle.elf32.specs.Rules.{Refuses};
 ghost use Rattle.grin_io.specs.Changes.{of_source, of_sink};
 ghost use Rattle.grin_driver.specs.Execution.{Executes, Execution, IsUnloaded, status_of};
 
-use crate::status::{Status, refused};
 use elf32::{ElfRefusal, Loaded, read};
 use grin_io::{Fault, Sink, Source};
 use rv32_machine::{Machine, Stop};
 use std::alloc::Global;
+use text_commands::status::{Status, refused};
 
 /// The status for bytes that are no executable.
 fn unloadable(refusal: &ElfRefusal) -> Status

@@ -6,17 +6,17 @@ ghost use Rattle.generator.specs.Generated.{generated};
 ghost use Rattle.grin_driver.specs.Generating.{summary, Generates, IsDefaultImageOf, IsOutput, IsUndone, IsSummary, IsUnsummed};
 ghost use Rattle.seq.specs.Lists.{sum_of};
 
-use crate::accept::accept;
 use crate::exec::exec_image;
 use crate::image::DEFAULTS;
 use crate::list::unstaged;
-use crate::note::Note;
 use crate::run::named;
-use crate::status::Status;
 use generator::generated;
 use grin_compile::compile;
 use grin_io::{MemSink, Sink, SureSource};
 use std::alloc::Global;
+use text_commands::accept::accept;
+use text_commands::note::Note;
+use text_commands::status::Status;
 
 /// The instructions that a generated program may take.
 const STEPS: u64 = 1_000_000_000;

@@ -5,11 +5,11 @@ ghost use Rattle.grin_compile.specs.Limits.{InRange};
 ghost use Rattle.grin_driver.specs.Outcome.{IsImageOf, IsUnmade};
 ghost use Rattle.grin_driver.specs.CodeListing.{IsCodeOf};
 
-use crate::accept::accept;
 use crate::list::unstaged;
-use crate::status::Status;
 use grin_compile::{Compiled, Options, compile};
 use std::alloc::Global;
+use text_commands::accept::accept;
+use text_commands::status::Status;
 
 /// The heap and the stack of an image where the command line says none.
 pub(crate) const DEFAULTS: Options = Options {

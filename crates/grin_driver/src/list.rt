@@ -6,22 +6,22 @@ ghost use Rattle.arity_check.specs.Program.{Program};
 ghost use Rattle.grin_io.specs.Changes.{of_sink};
 ghost use Rattle.grin_opt.specs.declared.pass.PassName.{PassName as PassName'};
 ghost use Rattle.grin_stages.specs.Stage.{IsTooLarge};
-ghost use Rattle.grin_driver.specs.Listing.{IsListing, IsUnlisted, Lists, IsCanonicalText, Prints};
+ghost use Rattle.grin_driver.specs.Listing.{IsListing, IsUnlisted, Lists};
 ghost use Rattle.grin_driver.specs.After.{ListsAfter};
-ghost use Rattle.grin_driver.specs.Text.{IsNotRead, IsAccepted};
+ghost use Rattle.text_commands.specs.Text.{IsAccepted};
 
-use crate::accept::{accept, unread};
 use crate::code::list_code;
-use crate::pieces::put_pieces;
-use crate::status::Status;
 use command_line::Listing;
-use core_print::print;
-use core_reader::read;
 use grin_io::Sink;
 use grin_opt::PassName;
 use grin_stages::{CompileRefusal, stage};
 use grin_syntax::list;
 use std::alloc::Global;
+use text_commands::accept::accept;
+use text_commands::pieces::put_pieces;
+use text_commands::print::Canonical;
+use text_commands::status::Status;
+use text_commands::writing::write_text;
 
 /// The listing of a text's program after a pass, or why there is none.
 fn listed(alloc: Global, text: &[u8], after: PassName) -> Result<Vec<u8>, Status>
@@ -69,36 +69,6 @@ pub fn list_text<K: Sink>(alloc: Global, text: &[u8], after: PassName, out: &mut
     }
 }
 
-/// The canonical text of a text's program, or why there is none.
-fn canonical(alloc: Global, text: &[u8]) -> Result<Vec<u8>, Status>
-    ensures canonical { IfOk result (λ bytes. IsCanonicalText text.now bytes.items) }
-    ensures unprinted { IfErr result (IsNotRead text.now) }
-{
-    let core = match read(alloc, text) {
-        Ok(core) => core,
-        Err(refusal) => return Err(unread(&refusal)),
-    };
-    match print(alloc, &core) {
-        Ok(bytes) => Ok(bytes),
-        Err(_) => Err(Status::OutOfMemory),
-    }
-}
-
-/// Puts the canonical text of a text's program, in pieces of 4,096 bytes. The text need only be
-/// read, not checked.
-fn print_text<K: Sink>(alloc: Global, text: &[u8], out: &mut K) -> Status
-    ensures prints { Prints (of_sink K.put_gives K.taken K.faults out.old out.new) text.now result }
-    ensures later { K.faults out.old ≤ K.faults out.new }
-{
-    match canonical(alloc, text) {
-        Ok(bytes) => match put_pieces(bytes.as_slice(), out) {
-            Ok(()) => Status::Done,
-            Err(_) => Status::WriteFault,
-        },
-        Err(status) => status,
-    }
-}
-
 /// Lists a text's program after what the command line says.
 pub(crate) fn list_after<K: Sink>(alloc: Global, text: &[u8], after: Listing, out: &mut K) -> Status
     ensures lists { ListsAfter (of_sink K.put_gives K.taken K.faults out.old out.new) text.now after
@@ -106,7 +76,7 @@ pub(crate) fn list_after<K: Sink>(alloc: Global, text: &[u8], after: Listing, ou
     ensures later { K.faults out.old ≤ K.faults out.new }
 {
     match after {
-        Listing::Read => print_text(alloc, text, out),
+        Listing::Read => write_text(alloc, &Canonical, text, out),
         Listing::Translate => list_text(alloc, text, PassName::Translate, out),
         Listing::Eval => list_text(alloc, text, PassName::Eval, out),
         Listing::Apply => list_text(alloc, text, PassName::Apply, out),

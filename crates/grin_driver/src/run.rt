@@ -7,10 +7,10 @@ ghost use Rattle.grin_driver.specs.Outcome.{named, Outcome};
 
 use crate::exec::exec_image;
 use crate::image::compiled;
-use crate::status::Status;
 use grin_compile::Options;
 use grin_io::{Sink, Source};
 use std::alloc::Global;
+use text_commands::status::Status;
 
 /// The status of a text whose image ended so: the exits 3, 4 and 5 say why.
 pub(crate) fn named(status: Status) -> Status

@@ -1,10 +1,10 @@
 -- The trees of a function stand for its equations.
-use Rattle.std.proofs.Common.{◌≡◌, ℕ, suc, ◌+◌, List, [], ◌∷◌, ◌++◌, map, length, refl, sym, ap, subst, ◌∙◌, append_assoc, length-append, arith, Option, Some, None}
+use Rattle.std.proofs.Common.{◌≡◌, ℕ, suc, ◌+◌, List, [], ◌∷◌, ◌++◌, length, refl, sym, subst, append_assoc, length-append, arith, Option, Some, None}
 use Rattle.std.proofs.lemmas.List.{map-append}
 use Rattle.match_compile.specs.Source.{Equation}
 use Rattle.match_compile.specs.Parts.{count}
-use Rattle.match_compile.specs.Trees.{Row, settled, jobs_at, places_from, Tree, IsTree, most_chained, insert}
-use Rattle.match_compile.specs.Decisions.{Decision, row_of, begun, grown, decided, decisions_from, IsFirst, IsOf, StandFor, NoneLeft, More}
+use Rattle.match_compile.specs.Trees.{jobs_at, places_from, Tree, IsTree, most_chained, insert}
+use Rattle.match_compile.specs.Decisions.{Decision, row_of, begun, grown, decided, IsFirst, IsOf, StandFor, NoneLeft, More}
 use Rattle.match_compile.specs.Laws.{TreesStand}
 use Rattle.match_compile.proofs.Inserted.{alone_is, settled_is, inserted}
 

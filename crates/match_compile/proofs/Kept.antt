@@ -1,15 +1,15 @@
--- The evaluation of equations leaves each value in the heap as it was: an update is of a name that
--- waited when its force began.
-use Rattle.std.proofs.Common.{◌≡◌, ℕ, zero, suc, max, Bool, true, false, List, [], ◌∷◌, ◌++◌, map, length, Option, Some, None, refl, sym, ap, ◌∙◌}
+-- The evaluation of equations takes no name from the heap and leaves each value as it was: an update is
+-- of a name that waited when its force began.
+use Rattle.std.proofs.Common.{◌≡◌, ℕ, zero, suc, max, Bool, true, false, List, [], ◌∷◌, ◌++◌, map, length, Option, Some, None, refl, sym, ap, ◌∙◌, arith, length-append}
 use Rattle.std.specs.Prelude.{ℤ, pos, nat_lt, slice_get, slice_set, if◌then◌else◌}
-use Rattle.seq.proofs.Lists.{get_left}
+use Rattle.seq.proofs.Lists.{get_left, length_set}
 use Rattle.arity_check.specs.declared.normal.Flat.{Flat}
 use Rattle.arity_check.specs.declared.normal.Flat.TheVariants as flat
-use Rattle.arity_check.specs.Program.{Program, Term, App, Let, Case, Branches, NoMore, OnCon, OnInt, OnAny}
+use Rattle.arity_check.specs.Program.{Term, App, Let, Case, Branches, NoMore, OnCon, OnInt, OnAny}
 use Rattle.core_meaning.specs.Heap.{Value, Int, Con, Part, Delayed, Call, Apply, Prim, Global, Input, Binding, Known, Waiting, Heap, Env, with_local, with_locals}
 use Rattle.core_meaning.specs.Evaluation.{State, Answer, Gives, NoAlternative, OutOfBound, and_then, with_number, is_con, fields_of, is_int, spend_of, append, update, taken, Onward, force_binding, force, give, give_all, apply, prim, form, eval, select, parameters, next_byte, with_group, binding, params}
 use Rattle.match_compile.specs.Form.{Form, Any, Is, Has, Forms, NoForms, AndForm, Row, Equations}
-use Rattle.match_compile.specs.ByEquations.{bare, rows_of, match, matches, tries, enter, within}
+use Rattle.match_compile.specs.ByEquations.{bare, rows_of, match, matches, tries, within}
 use Rattle.match_compile.specs.Stays.{state_of, Keeps, KnownStays}
 
 -- what goes on from each state keeps its values
@@ -17,13 +17,13 @@ abbrev pub Stays : (State → Answer) → Type 0
 Stays c = (s : State) → Keeps s (state_of (c s))
 
 pub same : (s : State) → Keeps s s
-same s a v e = e
+same s = (omega arith, λ a v e. e)
 
 pub on : (s t u : State) → Keeps s t → Keeps t u → Keeps s u
-on s t u f g a v e = g a v (f a v e)
+on s t u f g = (let h = f.0 in let i = g.0 in omega (arith, h, i), λ a v e. g.1 a v (f.1 a v e))
 
 appended : (s : State) (bindings : Heap) → Keeps s (append s bindings)
-appended s bindings a v e = get_left s.heap bindings a (Known v) e
+appended s bindings = (let l = length-append s.heap bindings in omega (arith, l), λ a v e. get_left s.heap bindings a (Known v) e)
 
 waits_not_known : (t : Delayed) (v : Value) → ◌≡◌ {A = Option Binding} (Some (Waiting t)) (Some (Known v)) → ⊥
 waits_not_known t v e = absurd cc
@@ -37,8 +37,8 @@ set_other (z ∷ xs) (suc a) zero x y n e = e
 set_other (z ∷ xs) (suc a) (suc b) x y n e = set_other xs a b x y (λ k. n (ap suc k)) e
 
 updated : (s t : State) (a : ℕ) (d : Delayed) (v : Value) → slice_get s.heap a ≡ Some (Waiting d) → Keeps s t → Keeps s (update t a v)
-updated s t a d v waits k b w e =
-    set_other t.heap a b (Known v) (Known w) (λ i. waits_not_known d w (sym waits ∙ ap (slice_get s.heap) i ∙ e)) (k b w e)
+updated s t a d v waits k =
+    (let h = k.0 in let l = length_set t.heap a (Known v) in omega (arith, h, l), λ b w e. set_other t.heap a b (Known v) (Known w) (λ i. waits_not_known d w (sym waits ∙ ap (slice_get s.heap) i ∙ e)) (k.1 b w e))
 
 then_stays : (s : State) (r : Answer) (go : Value → State → Answer) → Keeps s (state_of r) → ((v : Value) → Stays (go v)) → Keeps s (state_of (and_then r go))
 then_stays s (Gives v t) go k g = on s t (state_of (go v t)) k (g v t)

@@ -1,15 +1,14 @@
 -- The program that equations become is no larger than they are, with 16 for each test.
-use Rattle.std.proofs.Common.{◌≡◌, ℕ, zero, suc, ◌+◌, ◌*◌, ◌≤◌, Bool, true, false, List, [], ◌∷◌, ◌++◌, map, length, refl, sym, ap, subst, ◌∙◌, arith, Option, Some, None}
+use Rattle.std.proofs.Common.{◌≡◌, ℕ, suc, ◌+◌, ◌*◌, ◌≤◌, Bool, true, false, List, [], ◌∷◌, ◌++◌, map, length, refl, sym, ap, subst, ◌∙◌, arith, Option, Some, None}
 use Rattle.std.specs.Prelude.{◌==◌, nat_le, if◌then◌else◌, sum_by}
 use Rattle.std.proofs.lemmas.List.Sums.{sum_by-cons, sum_by-append}
 use Rattle.std.proofs.lemmas.Bool.Decides.{nat_tests}
 use Rattle.seq.specs.Lists.{numbers_from}
 use Rattle.seq.proofs.Counted.{length_numbers}
 use Rattle.core_reader.specs.declared.syntax.Binder.{Binder}
-use Rattle.core_reader.specs.declared.syntax.Pattern.TheVariants as pattern
 use Rattle.core_reader.specs.Tree.{Term, Terms, NoTerms, AndTerm, Bind, Expr, App, Let, Alts, NoAlts, AndAlt, Function}
 use Rattle.core_reader.specs.Tree as core
-use Rattle.core_reader.specs.Size.{term_size, terms_size, bind_size, pattern_size, expr_size, alts_size, function_size, program_size}
+use Rattle.core_reader.specs.Size.{term_size, terms_size, bind_size, pattern_size, expr_size, alts_size, function_size}
 use Rattle.arity_check.specs.Scope.{Scope}
 use Rattle.arity_check.specs.Pieces.{binders_of, bound_by}
 use Rattle.match_compile.specs.Source.{Equation, Source}
@@ -17,9 +16,9 @@ use Rattle.match_compile.specs.Parts.{tests_of}
 use Rattle.match_compile.specs.Heads.{Head, Integer, Constructor}
 use Rattle.match_compile.specs.Sizes.{equation_size, source_size, tests, joined, functions, rows}
 use Rattle.match_compile.specs.Trees.{Tree, Body, Case, Branches, NoBranch, AndBranch, Default, NoDefault, ATree}
-use Rattle.match_compile.specs.Decisions.{Decision, decisions_from, all_decisions, decisions}
+use Rattle.match_compile.specs.Decisions.{Decision, all_decisions, decisions}
 use Rattle.match_compile.specs.Renamed.{name_for, hidden, renamed_term, renamed_terms, renamed_bind, renamed_expr, renamed_alts}
-use Rattle.match_compile.specs.Translated.{taken, binder, with_fields, binders, pattern_of, otherwise, expr_of, alts_of, default_of, with_params, arguments, call, is_called, function_of, equation_name, next_of, first_of, each_of, others_of, firsts, others, translated}
+use Rattle.match_compile.specs.Translated.{taken, binder, with_fields, binders, pattern_of, expr_of, alts_of, default_of, with_params, arguments, call, is_called, function_of, equation_name, next_of, first_of, each_of, others_of, firsts, others}
 use Rattle.match_compile.specs.Laws.{IsSmall}
 use Rattle.match_compile.proofs.Weights.{weight, branches_weight, default_weight, cost, costs, whole, wholes, decisions_cost}
 

@@ -1,5 +1,5 @@
 -- A value that is known decides the tests of its name.
-use Rattle.std.proofs.Common.{◌≡◌, ℕ, suc, ◌+◌, Bool, true, false, cond, List, [], ◌∷◌, ◌++◌, length, Option, Some, None, refl, sym, ap, ◌∙◌, arith}
+use Rattle.std.proofs.Common.{◌≡◌, ℕ, suc, Bool, true, false, cond, List, [], ◌∷◌, ◌++◌, length, Some, refl, sym, ap, ◌∙◌, arith}
 use Rattle.std.specs.Prelude.{◌==◌, slice_get}
 use Rattle.seq.proofs.Order.{eq_from}
 use Rattle.core_meaning.specs.Heap.{Value, Known}
@@ -9,6 +9,12 @@ use Rattle.match_compile.specs.ByEquations.{bare, match, matches, within}
 use Rattle.match_compile.specs.Stays.{state_of, Keeps}
 use Rattle.match_compile.specs.Jobs.{Task, Attempt, attempt, tasks_of, count, meets, attempts, kept_by, decided_by, known_first, with_known, FormFits, TaskFits, AttemptsFit, Specialises}
 use Rattle.match_compile.proofs.Kept.{Stays, same, on, force_stays, known_stays}
+
+-- some of the attempts whose first task is at the name are decided
+pub data SomeDecided (a : ℕ) (v : Value) : List Attempt → List Attempt → Type 0 where
+  NoneDecided : SomeDecided a v [] []
+  OneStays : {r : Attempt} {rs rs' : List Attempt} → SomeDecided a v rs rs' → SomeDecided a v (r ∷ rs) (r ∷ rs')
+  OneDecided : {r : Attempt} {rs rs' out : List Attempt} (f : Form) (js : List Task) → r.tasks ≡ (a, f) ∷ js → FormFits v f → out ≡ decided_by v r f js ++ rs' → SomeDecided a v rs rs' → SomeDecided a v (r ∷ rs) out
 
 -- two ways on that agree from here on
 abbrev Agree : State → (State → Answer) → (State → Answer) → Type 0
@@ -59,7 +65,7 @@ module _ (q : Equations) (onward : Onward) (goes : (t : _) (d : ℕ) → Stays (
       (λ xs t l. meets_agrees js xs d t go fails fails' (agree_on s t fails fails' l f)) f
 
   -- forms for fields are tasks before the others
-  fields_first : (fs : Forms) (as' : List ℕ) (js : List Task) (bound : List ℕ) (d : ℕ) (s : State) (go : List ℕ → State → Answer) (fails : State → Answer) → length as' ≡ count fs
+  pub fields_first : (fs : Forms) (as' : List ℕ) (js : List Task) (bound : List ℕ) (d : ℕ) (s : State) (go : List ℕ → State → Answer) (fails : State → Answer) → length as' ≡ count fs
       → matches q onward fs as' bound d s (λ xs t. meets q onward js xs d t go fails) fails ≡ meets q onward (tasks_of as' fs ++ js) bound d s go fails
   fields_first NoForms as' js bound d s go fails e = refl
   fields_first (AndForm f fs) [] js bound d s go fails e = absurd (omega (arith, e))
@@ -67,10 +73,10 @@ module _ (q : Equations) (onward : Onward) (goes : (t : _) (d : ℕ) → Stays (
       match_agrees f a bound d s (λ xs t. matches q onward fs as' xs d t (λ xs t. meets q onward js xs d t go fails) fails) (λ xs t. meets q onward (tasks_of as' fs ++ js) xs d t go fails) fails fails
       (λ xs t l. fields_first fs as' js xs d t go fails (omega (arith, e))) (λ t l. refl)
 
-  abbrev body_of : Attempt → ℕ → List ℕ → State → Answer
+  abbrev pub body_of : Attempt → ℕ → List ℕ → State → Answer
   body_of r d xs s = eval (bare q) onward r.body (parameters xs) d s
 
-  known_value : (a d : ℕ) (v : Value) (s : State) (go : Value → State → Answer) → slice_get s.heap a ≡ Some (Known v) → and_then (force (bare q) onward a d s) go ≡ go v s
+  pub known_value : (a d : ℕ) (v : Value) (s : State) (go : Value → State → Answer) → slice_get s.heap a ≡ Some (Known v) → and_then (force (bare q) onward a d s) go ≡ go v s
   known_value a d v s go e = ap (λ b. and_then (force_binding (bare q) onward b a d s) go) e
 
   kept_on : (b : Bool) (r : Attempt) (rest : List Attempt) (d : ℕ) (s : State) → choose b (meets q onward r.tasks r.bound d s (body_of r d) (λ s. attempts q onward rest d s)) (attempts q onward rest d s) ≡ attempts q onward (kept_by b r ++ rest) d s
@@ -94,22 +100,30 @@ module _ (q : Equations) (onward : Onward) (goes : (t : _) (d : ℕ) → Stays (
       ∙ fitting (is_con k v) r fs (fields_of v) js d s (λ s. attempts q onward rest d s) fit
       ∙ kept_on (is_con k v) (attempt r.body r.bound (tasks_of (fields_of v) fs ++ js)) rest d s
 
-  one_first : (a : ℕ) (v : Value) (r : Attempt) (ts : List Task) (rest : List Attempt) (d : ℕ) (s : State) → r.tasks ≡ ts → TaskFits a v ts → slice_get s.heap a ≡ Some (Known v)
-      → meets q onward ts r.bound d s (body_of r d) (λ s. attempts q onward rest d s) ≡ attempts q onward (known_first a v r ts ++ rest) d s
-  one_first a v r [] rest d s is fit e = ap (λ ts. meets q onward ts r.bound d s (body_of r d) (λ s. attempts q onward rest d s)) (sym is)
-  one_first a v r (j ∷ js) rest d s is fit e = go (j.0 == a) refl
-    where
-      go : (b : Bool) → (j.0 == a) ≡ b → meets q onward (j ∷ js) r.bound d s (body_of r d) (λ s. attempts q onward rest d s) ≡ attempts q onward (cond b (decided_by v r j.1 js) (r ∷ []) ++ rest) d s
-      go false h = ap (λ ts. meets q onward ts r.bound d s (body_of r d) (λ s. attempts q onward rest d s)) (sym is)
-      go true h =
-          let at : j.0 ≡ a = eq_from j.0 a h in
-          one_decided j.0 v r j.1 js rest d s is (fit at) (ap (slice_get s.heap) at ∙ e)
+  pub some_decided : (a : ℕ) (v : Value) (rs rs' : List Attempt) → SomeDecided a v rs rs' → (d : ℕ) (s : State) → slice_get s.heap a ≡ Some (Known v) → attempts q onward rs d s ≡ attempts q onward rs' d s
+  some_decided a v rs rs' NoneDecided d s e = refl
+  some_decided a v rs rs' (OneStays {r = r} {rs = ss} {rs' = ss'} h) d s e =
+      meets_agrees r.tasks r.bound d s (body_of r d) (λ s. attempts q onward ss d s) (λ s. attempts q onward ss' d s) (λ t l. some_decided a v ss ss' h d t (l.1 a v e))
+  some_decided a v rs rs' (OneDecided {r = r} {rs = ss} {rs' = ss'} f js is fit out h) d s e =
+      meets_agrees r.tasks r.bound d s (body_of r d) (λ s. attempts q onward ss d s) (λ s. attempts q onward ss' d s) (λ t l. some_decided a v ss ss' h d t (l.1 a v e))
+      ∙ ap (λ ts. meets q onward ts r.bound d s (body_of r d) (λ s. attempts q onward ss' d s)) is
+      ∙ one_decided a v r f js ss' d s is fit e
+      ∙ ap (λ w. attempts q onward w d s) (sym out)
 
-  all_decided : (a : ℕ) (v : Value) (rs : List Attempt) (d : ℕ) (s : State) → AttemptsFit a v rs → slice_get s.heap a ≡ Some (Known v) → attempts q onward rs d s ≡ attempts q onward (with_known a v rs) d s
-  all_decided a v [] d s fit e = refl
-  all_decided a v (r ∷ rs) d s fit e =
-      meets_agrees r.tasks r.bound d s (body_of r d) (λ s. attempts q onward rs d s) (λ s. attempts q onward (with_known a v rs) d s) (λ t l. all_decided a v rs d t fit.1 (l a v e))
-      ∙ one_first a v r r.tasks (with_known a v rs) d s refl fit.0 e
+-- all that begin at the name
+first_decided : (a : ℕ) (v : Value) (r : Attempt) (ts : List Task) (rs rs' : List Attempt) → r.tasks ≡ ts → TaskFits a v ts → SomeDecided a v rs rs' → SomeDecided a v (r ∷ rs) (known_first a v r ts ++ rs')
+first_decided a v r [] rs rs' is fit h = OneStays h
+first_decided a v r (j ∷ js) rs rs' is fit h = go (j.0 == a) refl
+  where
+    go : (b : Bool) → (j.0 == a) ≡ b → SomeDecided a v (r ∷ rs) (cond b (decided_by v r j.1 js) (r ∷ []) ++ rs')
+    go false e = OneStays h
+    go true e =
+        let at : j.0 ≡ a = eq_from j.0 a e in
+        OneDecided j.1 js (is ∙ ap (λ (b : ℕ). (b, j.1) ∷ js) at) (fit at) refl h
+
+all_decided : (a : ℕ) (v : Value) (rs : List Attempt) → AttemptsFit a v rs → SomeDecided a v rs (with_known a v rs)
+all_decided a v [] fit = NoneDecided
+all_decided a v (r ∷ rs) fit = first_decided a v r r.tasks rs (with_known a v rs) refl fit.0 (all_decided a v rs fit.1)
 
 pub specialises : Specialises
-specialises q n a v rs d s fit e = all_decided q (within q n) (known_stays q n) a v rs d s fit e
+specialises q n a v rs d s fit e = some_decided q (within q n) (known_stays q n) a v rs (with_known a v rs) (all_decided a v rs fit) d s e

@@ -1,6 +1,6 @@
 -- How large the trees of equations are: what a row adds to a tree is paid by its body and its tests.
 use Rattle.std.proofs.Common.{◌≡◌, ℕ, zero, suc, ◌+◌, ◌*◌, ◌≤◌, Bool, true, false, cond, List, [], ◌∷◌, ◌++◌, length, refl, sym, ap, subst, ◌∙◌, arith, Option, Some, None, inl, inr}
-use Rattle.std.specs.Prelude.{◌==◌, if◌then◌else◌}
+use Rattle.std.specs.Prelude.{◌==◌}
 use Rattle.seq.proofs.Truth.{two_ways}
 use Rattle.seq.proofs.Counted.{length_numbers}
 use Rattle.core_reader.specs.declared.syntax.Binder.{Binder}

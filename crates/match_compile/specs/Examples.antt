@@ -1,5 +1,5 @@
 -- Small texts of equations with what they become and put out, computed from the definitions.
-use Rattle.std.specs.Prelude.{◌≡◌, ℕ, true, false, List, [], ◌∷◌, codes, pos}
+use Rattle.std.specs.Prelude.{◌≡◌, ℕ, false, List, [], ◌∷◌, codes, pos}
 use Rattle.core_reader.specs.declared.syntax.Binder.{Binder}
 use Rattle.core_reader.specs.declared.syntax.Pattern.TheVariants as pattern
 use Rattle.core_reader.specs.Grammar.{name_id}
@@ -9,10 +9,10 @@ use Rattle.arity_check.specs.declared.normal.Con as constructors
 use Rattle.arity_check.specs.declared.normal.Var.TheVariants as var
 use Rattle.arity_check.specs.declared.normal.Flat.TheVariants as flat
 use Rattle.arity_check.specs.Program as normal
-use Rattle.core_meaning.specs.Forcing.{End, Done, Unaccepted}
+use Rattle.core_meaning.specs.Forcing.{Done, Unaccepted}
 use Rattle.match_compile.specs.Source.{Pats, NoPats, AndPat, Equation, Source}
 use Rattle.match_compile.specs.Source as pat
-use Rattle.match_compile.specs.Sizes.{functions, source_size, tests, most_equations, is_simple, is_plain}
+use Rattle.match_compile.specs.Sizes.{source_size, tests, most_equations, is_simple, is_plain}
 use Rattle.match_compile.specs.Form.{Forms, Any, Is, Has, NoForms, AndForm, Row, Rows, Equations}
 use Rattle.match_compile.specs.ByEquations.{printed}
 use Rattle.match_compile.specs.Translated.{translated}

@@ -1,6 +1,6 @@
 -- The normal form of equations: patterns by the numbers of their constructors, and each body in the
 -- normal form of programs, where the names of its patterns are the locals from 0 on.
-use Rattle.std.specs.Prelude.{◌≡◌, ℕ, ℤ, List, [], ◌∷◌, ◌++◌, map, length, codes, Option, Some, slice_get}
+use Rattle.std.specs.Prelude.{◌≡◌, ℕ, ℤ, List, [], ◌∷◌, ◌++◌, map, length, codes, Some, slice_get}
 use Rattle.std.specs.List.{position, range_with_len}
 use Rattle.core_reader.specs.declared.syntax.Binder.{Binder}
 use Rattle.core_reader.specs.Tree.{Function, Program}

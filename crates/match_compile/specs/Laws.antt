@@ -5,12 +5,18 @@ use Rattle.core_reader.specs.declared.syntax.Binder.{Binder}
 use Rattle.core_reader.specs.Tree.{Expr}
 use Rattle.core_reader.specs.Size.{program_size}
 use Rattle.arity_check.specs.Broken as program
+use Rattle.arity_check.specs.Program as normal
+use Rattle.core_meaning.specs.Told.{of_core}
 use Rattle.match_compile.specs.Source.{Equation, Source}
 use Rattle.match_compile.specs.Grammar.{IsText}
 use Rattle.match_compile.specs.Rules.{IsUnbroken, IsFirstBroken}
 use Rattle.match_compile.specs.Sound.{IsSound}
 use Rattle.match_compile.specs.Sizes.{source_size, tests, functions, is_simple, is_plain}
 use Rattle.match_compile.specs.Translated.{translated}
+use Rattle.match_compile.specs.Form.{Equations}
+use Rattle.match_compile.specs.ByEquations.{of_equations}
+use Rattle.match_compile.specs.Within.{Within, InStep}
+use Rattle.match_compile.specs.Decides.{AreServed}
 use Rattle.match_compile.specs.Decisions.{decisions_from, StandFor}
 use Rattle.match_compile.specs.OneFunction.{IsOneFunction}
 use Rattle.match_compile.specs.Trees.{Job, Row, settled, Tree, IsTree, alone_from, insert}
@@ -60,3 +66,15 @@ SimpleStaysOne =
     → (before after : List (List Equation)) (es : List Equation)
     → functions c.equations ≡ before ++ es ∷ after → (is_simple es || is_plain es) ≡ true
     → IsOneFunction c (length before) (sum_of (map length before)) es
+
+-- A program whose functions serve equations puts out what they do, and needs no more units for one
+-- of theirs than the functions that serve one function at most.
+abbrev pub ServedWithin : Type 0
+ServedWithin =
+    (q : Equations) (most : ℕ) (p : normal.Program) → AreServed q most p
+    → Within most (of_equations q) (of_core p)
+
+-- Where each function is served by one, they put out the same within the same units.
+abbrev pub ServedInStep : Type 0
+ServedInStep =
+    (q : Equations) (p : normal.Program) → AreServed q 1 p → InStep (of_equations q) (of_core p)

@@ -11,6 +11,9 @@ pub mod Form
 pub mod ByEquations
 pub mod Stays
 pub mod Jobs
+pub mod Within
+pub mod Alike
+pub mod Decides
 -- the trees of tests that equations become
 pub mod Trees
 pub mod Decisions

@@ -1,5 +1,5 @@
 -- How large equations are, and which functions are simple.
-use Rattle.std.specs.Prelude.{ℕ, zero, suc, ◌+◌, ◌*◌, ◌==◌, max, Bool, true, false, not, ◌&&◌, ◌||◌, cond, ℤ, List, [], ◌∷◌, length, sum_by, if◌then◌else◌}
+use Rattle.std.specs.Prelude.{ℕ, suc, ◌+◌, ◌*◌, ◌==◌, max, Bool, true, false, not, ◌&&◌, cond, List, [], ◌∷◌, length, sum_by, if◌then◌else◌}
 use Rattle.core_reader.specs.Size.{expr_size}
 use Rattle.match_compile.specs.Parts.{tests_of}
 use Rattle.match_compile.specs.Heads.{Head, Integer, Constructor, same_head, same_kind}

@@ -1,5 +1,5 @@
 -- The program of Core that equations become: each tree is a function of nested cases.
-use Rattle.std.specs.Prelude.{ℕ, zero, suc, ◌+◌, ◌-◌, ◌==◌, nat_lt, nat_le, max, Bool, true, false, ◌&&◌, ◌||◌, List, [], ◌∷◌, ◌++◌, map, length, codes, decimal, Option, Some, None, if◌then◌else◌}
+use Rattle.std.specs.Prelude.{ℕ, ◌+◌, ◌-◌, ◌==◌, nat_lt, nat_le, max, Bool, true, false, ◌&&◌, ◌||◌, List, [], ◌∷◌, ◌++◌, map, length, codes, decimal, Option, Some, None, if◌then◌else◌}
 use Rattle.std.specs.List.{position, range_with_len, position_or_len}
 use Rattle.std.specs.Str.{bytes_eq}
 use Rattle.seq.specs.Lists.{numbers_from}
@@ -11,7 +11,6 @@ use Rattle.core_reader.specs.Tree.{Terms, NoTerms, AndTerm, Expr, App, Case, Alt
 use Rattle.core_reader.specs.Tree as core
 use Rattle.arity_check.specs.declared.normal.PrimOp.{PrimOp}
 use Rattle.arity_check.specs.Scope.{Scope, primitives}
-use Rattle.arity_check.specs.Locals.{local_in}
 use Rattle.match_compile.specs.Source.{Equation, Source}
 use Rattle.match_compile.specs.Parts.{count}
 use Rattle.match_compile.specs.Rules.{text_in}

@@ -1,10 +1,10 @@
 -- The tree of tests that stands for the equations of a function, and how an equation goes into it.
-use Rattle.std.specs.Prelude.{◌≡◌, ℕ, zero, suc, ◌+◌, ◌==◌, ℤ, Bool, true, false, not, ◌||◌, cond, List, [], ◌∷◌, ◌++◌, Option, Some, None}
+use Rattle.std.specs.Prelude.{◌≡◌, ℕ, zero, suc, ◌+◌, ◌==◌, Bool, true, false, ◌||◌, cond, List, [], ◌∷◌, ◌++◌, Option, Some, None}
 use Rattle.seq.specs.Lists.{numbers_from}
 use Rattle.core_reader.specs.declared.syntax.Binder.{Binder}
 use Rattle.core_reader.specs.Tree.{Expr}
 use Rattle.match_compile.specs.Source.{Pat, Name, Int, Con, Pats, NoPats, AndPat}
-use Rattle.match_compile.specs.Parts.{count, tests_in, tests_of}
+use Rattle.match_compile.specs.Parts.{count, tests_in}
 use Rattle.match_compile.specs.Heads.{Head, Integer, Constructor, same_head, same_kind}
 
 -- a place is the number of a parameter or of a field; a job is a pattern that is still to be

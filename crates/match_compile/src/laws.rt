@@ -1,6 +1,6 @@
 //! What the definitions of equations, their rules and their trees say by themselves.
 
-ghost use Rattle.match_compile.specs.Laws.{OneSource, OneFirst, RowsGoIn, OneRow, TreesStand, IsSmall, BreaksOnlySize, SimpleStaysOne};
+ghost use Rattle.match_compile.specs.Laws.{OneSource, OneFirst, RowsGoIn, OneRow, TreesStand, IsSmall, BreaksOnlySize, SimpleStaysOne, ServedWithin, ServedInStep};
 ghost use Rattle.match_compile.specs.Stays.{KnownStays};
 ghost use Rattle.match_compile.specs.Jobs.{Specialises};
 ghost use Rattle.match_compile.specs.Examples.{Examples};
@@ -30,7 +30,7 @@ pub fn trees_stand()
     ensures { TreesStand }
 {}
 
-/// The evaluation of equations leaves each value in the heap as it was.
+/// The evaluation of equations takes no name from the heap and leaves each value as it was.
 pub fn known_stays()
     ensures { KnownStays }
 {}
@@ -54,6 +54,17 @@ pub fn simple_stays_one()
 /// A value that is known decides the tests of its name that come first, whatever was tried before.
 pub fn specialises()
     ensures { Specialises }
+{}
+
+/// A program whose functions serve equations puts out what they do, and needs no more units for one
+/// of theirs than the functions that serve one function at most.
+pub fn served_within()
+    ensures { ServedWithin }
+{}
+
+/// Where each function is served by one, they put out the same within the same units.
+pub fn served_in_step()
+    ensures { ServedInStep }
 {}
 
 /// What small texts of equations become and put out, computed from the definitions.

@@ -2,7 +2,7 @@ use Rattle.std.proofs.Common.{ℕ, List, arith}
 use mathlib.Core.Logic.{inr}
 use Rattle.grin_io.specs.Changes.{of_shelf, of_sink}
 use Rattle.grin_driver.specs.Building.{Builds}
-use Rattle.grin_driver.proofs.Files.{of_file}
+use Rattle.text_commands.proofs.Files.{of_file}
 use Rattle.grin_driver.proofs.Codes.{builds_long}
 use Rattle.grin_driver.proofs.command.build_file.Goals as goal
 

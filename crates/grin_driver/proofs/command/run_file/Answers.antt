@@ -2,7 +2,7 @@ use Rattle.std.proofs.Common.{ℕ, List, arith}
 use mathlib.Core.Logic.{inr}
 use Rattle.grin_io.specs.Changes.{of_shelf, of_source, of_sink}
 use Rattle.grin_driver.specs.Outcome.{Outcome}
-use Rattle.grin_driver.proofs.Files.{of_file}
+use Rattle.text_commands.proofs.Files.{of_file}
 use Rattle.grin_driver.proofs.Outcomes.{outcome_long}
 use Rattle.grin_driver.proofs.command.run_file.Goals as goal
 

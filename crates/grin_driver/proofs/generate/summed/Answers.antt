@@ -3,7 +3,7 @@ use Rattle.std.proofs.lemmas.Result.{err_from_is_err_and}
 use Rattle.arity_check.specs.Program.{program}
 use Rattle.grin_opt.specs.declared.pass.PassName.TheVariants.{Eval}
 use Rattle.grin_driver.specs.Generating.{IsDefaultImageOf, IsOutput, IsUndone}
-use Rattle.grin_driver.proofs.Texts.{accepted_is_valid}
+use Rattle.text_commands.proofs.Texts.{accepted_is_valid}
 use Rattle.grin_driver.proofs.Outcomes.{too_large, unlisted_is_unmade}
 use Rattle.grin_driver.proofs.Summaries.{unmade_is_unsummed, undone_is_unsummed, summary_from}
 use Rattle.grin_driver.proofs.generate.summed.Goals as goal

@@ -1,5 +1,5 @@
 use Rattle.arity_check.specs.Program.{program}
-use Rattle.grin_driver.proofs.Texts.{accepted_is_valid}
+use Rattle.text_commands.proofs.Texts.{accepted_is_valid}
 use Rattle.grin_driver.proofs.Outcomes.{too_large, unlisted_is_unmade}
 use Rattle.grin_driver.proofs.Codes.{code_of}
 use Rattle.grin_opt.specs.declared.pass.PassName.TheVariants.{Eval}

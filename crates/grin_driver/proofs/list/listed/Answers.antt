@@ -1,4 +1,4 @@
-use Rattle.grin_driver.proofs.Texts.{accepted_is_valid}
+use Rattle.text_commands.proofs.Texts.{accepted_is_valid}
 use Rattle.grin_driver.proofs.list.listed.Goals as goal
 
 pub stage-requires : goal.stage-requires

@@ -1,5 +1,0 @@
-use Rattle.grin_driver.proofs.Texts.{not_accepted}
-use Rattle.grin_driver.proofs.accept.accept.Goals as goal
-
-pub returns-in-Err-clause-unaccepted : goal.returns-in-Err-clause-unaccepted
-returns-in-Err-clause-unaccepted c = not_accepted c.args.text.now c.unread.result (c.unread.ensures _ c.in-Err.ensures.refused)

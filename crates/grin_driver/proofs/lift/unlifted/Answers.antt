@@ -1,6 +1,0 @@
-use Rattle.std.proofs.Common.{arith}
-use Rattle.grin_driver.proofs.Lifted.{lift_caused}
-use Rattle.grin_driver.proofs.lift.unlifted.Goals as goal
-
-pub returns : goal.returns
-returns c = λ text h. rw (c.refused.ensures, c.rule-rule.ensures, c.place.ensures) (lift_caused text c.args.refusal.now (λ e. grind (arith, c.rule-rule.ensures)) h)

@@ -1,4 +1,0 @@
-use Rattle.grin_driver.proofs.link.linked.Goals as goal
-
-pub returns-in-Err-clause-unlinked : goal.returns-in-Err-clause-unlinked
-returns-in-Err-clause-unlinked c = c.unlinked.ensures c.args.texts.now c.in-Err.ensures.refused

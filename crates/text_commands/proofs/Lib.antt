@@ -1,0 +1,10 @@
+pub mod Files
+pub mod InTurn
+pub mod Texts
+pub mod Checks
+pub mod Written
+pub mod Printed
+pub mod Putting
+pub mod Linked
+pub mod Lifted
+pub mod Gives

@@ -1,0 +1,5 @@
+use Rattle.text_commands.proofs.Gives.{accepted_once}
+use Rattle.text_commands.proofs.laws.one_accepted_program.Goals as goal
+
+pub returns : goal.returns
+returns c = accepted_once c.one_normal_form.ensures
