@@ -27,7 +27,7 @@ pub(crate) fn build_text<K: Sink>(
     ensures later { K.faults out.old ≤ K.faults out.new }
 {
     match compiled(alloc, text, options) {
-        Ok(compiled) => match put_pieces(compiled.image(), out) {
+        Ok(compiled) => match put_pieces(compiled.image.as_slice(), out) {
             Ok(()) => Status::Done,
             Err(_) => Status::WriteFault,
         },

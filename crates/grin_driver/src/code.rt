@@ -93,7 +93,7 @@ fn listed_code(alloc: Global, text: &[u8], options: Options) -> Result<Vec<u8>, 
     ensures unlisted { IfErr result (IsUnmade text.now) }
 {
     let compiled = compiled(alloc, text, options)?;
-    match code_listing(alloc, compiled.code()) {
+    match code_listing(alloc, compiled.code.as_slice()) {
         Ok(bytes) => Ok(bytes),
         Err(_) => Err(Status::OutOfMemory),
     }

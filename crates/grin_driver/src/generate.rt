@@ -7,7 +7,7 @@ ghost use Rattle.grin_driver.specs.Generating.{summary, Generates, IsDefaultImag
 ghost use Rattle.seq.specs.Lists.{sum_of};
 
 use crate::exec::exec_image;
-use crate::image::DEFAULTS;
+use crate::image::{DEFAULTS, kept};
 use crate::list::unstaged;
 use crate::run::named;
 use generator::generated;
@@ -83,10 +83,10 @@ fn summed(alloc: Global, text: &[u8]) -> Result<Note, Status>
 {
     let accepted = accept(alloc, text)?;
     let compiled = match compile(alloc, &accepted.program, DEFAULTS) {
-        Ok(compiled) => compiled,
+        Ok(compiled) => kept(compiled),
         Err(refusal) => return Err(unstaged(&refusal)),
     };
-    let sink = output(alloc, compiled.image())?;
+    let sink = output(alloc, compiled.image.as_slice())?;
     let functions = accepted.program.funs.len();
     Ok(summary(text.len(), functions, accepted.size, sink.taken()))
 }

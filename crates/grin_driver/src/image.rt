@@ -17,8 +17,29 @@ pub(crate) const DEFAULTS: Options = Options {
     stack: 1_048_576,
 };
 
-/// The compiled program of a text, or why there is none.
-pub(crate) fn compiled(alloc: Global, text: &[u8], options: Options) -> Result<Compiled, Status>
+/// What is kept of a compiled program: the words of its code, and its image.
+#[derive(Drop)]
+pub(crate) struct Built {
+    /// The words of the code.
+    pub(crate) code: Vec<u32>,
+    /// The bytes of the image.
+    pub(crate) image: Vec<u8>,
+}
+
+/// Keeps the code and the image of a compiled program. All else of it is dropped here and nowhere
+/// else, since each place where all its stages are dropped takes minutes to prove.
+pub(crate) fn kept(compiled: Compiled) -> Built
+    ensures code { result.code.items ≡ compiled.code.items }
+    ensures image { result.image.items ≡ compiled.image.items }
+{
+    Built {
+        code: compiled.code,
+        image: compiled.image,
+    }
+}
+
+/// The code and the image of a text, or why there are none.
+pub(crate) fn compiled(alloc: Global, text: &[u8], options: Options) -> Result<Built, Status>
     requires { InRange options.cells options.stack }
     ensures image { IfOk result (λ c.
         IsImageOf text.now options.cells options.stack c.image.items) }
@@ -28,7 +49,7 @@ pub(crate) fn compiled(alloc: Global, text: &[u8], options: Options) -> Result<C
 {
     let accepted = accept(alloc, text)?;
     match compile(alloc, &accepted.program, options) {
-        Ok(compiled) => Ok(compiled),
+        Ok(compiled) => Ok(kept(compiled)),
         Err(refusal) => Err(unstaged(&refusal)),
     }
 }

@@ -44,7 +44,7 @@ pub fn run_text<I: Source, K: Sink>(
     ensures out_later { K.faults out.old ≤ K.faults out.new }
 {
     match compiled(alloc, text, Options { cells, stack }) {
-        Ok(compiled) => named(exec_image(alloc, compiled.image(), steps, input, out)),
+        Ok(compiled) => named(exec_image(alloc, compiled.image.as_slice(), steps, input, out)),
         Err(status) => status,
     }
 }

@@ -1,4 +1,4 @@
-use Rattle.std.proofs.Common.{ℕ, List, length, ◌≤◌, refl, sym, subst, arith}
+use Rattle.std.proofs.Common.{ℕ, List, length, ◌≤◌, refl, sym, subst, arith, ◌∙◌}
 use Rattle.std.proofs.lemmas.Result.{err_from_is_err_and}
 use Rattle.arity_check.specs.Program.{program}
 use Rattle.grin_opt.specs.declared.pass.PassName.TheVariants.{Eval}
@@ -29,7 +29,7 @@ returns-in_err-sink-clause-unsummed c =
       fits = c.in-Ok.ensures.fits;
       made = c.in-Ok.ensures.made;
     } in
-    let undone = subst (λ (l : List ℕ). (text : List ℕ) → (from : IsDefaultImageOf text l) → IsUndone from c.in_err-sink.field-0.0) c.image.ensures c.in_err-sink.ensures.undone in
+    let undone = subst (λ (l : List ℕ). (text : List ℕ) → (from : IsDefaultImageOf text l) → IsUndone from c.in_err-sink.field-0.0) (c.as_slice.ensures.value ∙ c.kept-compiled.ensures.image) c.in_err-sink.ensures.undone in
     let q = err_from_is_err_and c.from_residual-in_err-sink.result c.from_residual-in_err-sink.ensures.1 in
     rw (q.1, q.2) (undone_is_unsummed c.args.text.now c.in-Ok.compiled.image.items from c.in_err-sink.field-0.0 (undone c.args.text.now from))
 
@@ -43,7 +43,7 @@ summary-requires c =
       fits = c.in-Ok.ensures.fits;
       made = c.in-Ok.ensures.made;
     } in
-    let done = subst (λ (l : List ℕ). (text : List ℕ) → (from : IsDefaultImageOf text l) → IsOutput from c.in_ok-sink.sink.taken × (length c.in_ok-sink.sink.taken ≤ 4096)) c.image.ensures c.in_ok-sink.ensures.done in
+    let done = subst (λ (l : List ℕ). (text : List ℕ) → (from : IsDefaultImageOf text l) → IsOutput from c.in_ok-sink.sink.taken × (length c.in_ok-sink.sink.taken ≤ 4096)) (c.as_slice.ensures.value ∙ c.kept-compiled.ensures.image) c.in_ok-sink.ensures.done in
     subst (λ (l : List ℕ). length l ≤ 4096) (sym c.taken.ensures.taken) (done c.args.text.now from).1
 
 pub returns-clause-summed : goal.returns-clause-summed
@@ -56,6 +56,6 @@ returns-clause-summed c =
       fits = c.in-Ok.ensures.fits;
       made = c.in-Ok.ensures.made;
     } in
-    let done = subst (λ (l : List ℕ). (text : List ℕ) → (from : IsDefaultImageOf text l) → IsOutput from c.in_ok-sink.sink.taken × (length c.in_ok-sink.sink.taken ≤ 4096)) c.image.ensures c.in_ok-sink.ensures.done in
+    let done = subst (λ (l : List ℕ). (text : List ℕ) → (from : IsDefaultImageOf text l) → IsOutput from c.in_ok-sink.sink.taken × (length c.in_ok-sink.sink.taken ≤ 4096)) (c.as_slice.ensures.value ∙ c.kept-compiled.ensures.image) c.in_ok-sink.ensures.done in
     summary_from c.args.text.now c.in-Ok.compiled.image.items c.summary.result c.in_ok-sink.sink.taken c.in_ok-accepted.accepted a from refl refl
     (done c.args.text.now from).0 (rw (c.taken.ensures.taken, c.len-functions.ensures) at c.summary.ensures)
