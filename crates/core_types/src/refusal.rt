@@ -18,15 +18,16 @@ pub enum TypeFault {
     /// One of the rules 11 to 35, which the program without its types breaks.
     #[error("{0}")]
     Unchecked(CheckRefusal),
-    /// Rule 81: a type, or a parameter of one, is declared again, or a type is named `Int`; the
-    /// name.
+    /// Rule 81: an earlier type has this type's name, or the name is `Int`, or an earlier parameter
+    /// of the type has this parameter's name; that name.
     #[error("the type at byte {0} is declared again or reserved")]
     DuplicateType(u32),
     /// Rule 82: a type is unknown or has another number of arguments, or a variable in a type's
     /// declaration is none of its parameters; the name.
     #[error("the type at byte {0} is unknown or has another number of arguments")]
     UnknownType(u32),
-    /// Rule 85: a signature names no function, or one that has a signature; the name.
+    /// Rule 85: the text has no function for this signature, or an earlier signature is of it; its
+    /// name.
     #[error("the signature at byte {0} is of no function or of one that has a signature")]
     BadSignature(u32),
     /// Rule 86: no type with one parameter has `Nil` and `Cons`, as lists have them.

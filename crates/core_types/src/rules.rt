@@ -83,6 +83,7 @@ fn first_broken(alloc: Global, source: &Source) -> Result<Option<TypeFault>, All
 pub fn check_source(alloc: Global, text: &[u8]) -> Result<Source, TypeFault>
     ensures found { IfOk result (λ s. IsText text.now (source_of s)) }
     ensures erased { IfOk result (λ s. program_of s.core ≡ erased (source_of s)) }
+    ensures readable { IfOk result (λ s. IsReadable (erased (source_of s))) }
     ensures unbroken { OnOk result (IsUnbrokenText text.now) }
     ensures refused { IfErr result (IsCause text.now) }
 {

@@ -43,7 +43,7 @@ spread c = record {
   functions = spread_functions [] (length c.names) c.equations;
 }
 
--- the rules 11 to 19, 21 to 23, 31, 32 and 34
+-- of the rules 11 to 34 all but 20 and 33
 abbrev pub is_rule : ℕ → Bool
 is_rule k = nat_le 11 k && nat_le k 34 && not (k == 20) && not (k == 33)
 

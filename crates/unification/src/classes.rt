@@ -1,4 +1,4 @@
-// Classes of terms that are equal in each solution.
+//! Classes of terms that are equal in each solution.
 
 ghost use Rattle.std.specs.Prelude.{◌≡◌, ◌<◌, ℕ, length, [], ◌++◌, slice_get, slice_set, slice_index, IfOk, OnOk};
 ghost use Rattle.seq.specs.Lists.{In, or_empty};
@@ -64,7 +64,7 @@ impl Classes {
         self.members[a].len() > self.members[b].len()
     }
 
-    // Keeps the term of class a for class b, where that of b is a variable.
+    /// Keeps the term of class a for class b, where that of b is a variable.
     fn keep(&mut self, terms: &[Term], a: usize, b: usize)
         requires a { a < length self.old.kept.items }
         requires b { b < length self.old.kept.items }
@@ -102,7 +102,7 @@ impl Classes {
     }
 }
 
-// Takes the list at a place, and leaves the empty one.
+/// Takes the list at a place, and leaves the empty one.
 fn taken(alloc: Global, rows: &mut Vec<Seq<usize>>, at: usize) -> Seq<usize>
     requires { at < length rows.old.items }
     ensures row { result ≡ or_empty (slice_get rows.old.items at) }
@@ -111,7 +111,7 @@ fn taken(alloc: Global, rows: &mut Vec<Seq<usize>>, at: usize) -> Seq<usize>
     mem::replace(&mut rows[at], Seq::new(alloc))
 }
 
-// Puts items at the end of the list at a place.
+/// Puts items at the end of the list at a place.
 fn append_at(rows: &mut Vec<Seq<usize>>, at: usize, items: Seq<usize>) -> Result<(), AllocError>
     requires { at < length rows.old.items }
     ensures { OnOk result (rows.new.items ≡ slice_set rows.old.items at
@@ -120,7 +120,7 @@ fn append_at(rows: &mut Vec<Seq<usize>>, at: usize, items: Seq<usize>) -> Result
     rows[at].append(items)
 }
 
-// Puts terms in another class.
+/// Puts terms in another class.
 fn relabel(class: &mut Vec<usize>, moved: &[usize], to: usize)
     requires { (i : ℕ) → In i moved.now → i < length class.old.items }
     ensures length { length class.new.items ≡ length class.old.items }

@@ -1,4 +1,4 @@
-// Pairs of terms are joined, with the arguments of what they are, until none is left.
+//! Pairs of terms are joined, with the arguments of what they are, until none is left.
 
 ghost use Rattle.std.specs.Prelude.{◌≡◌, ◌<◌, ◌≤◌, ℕ, length, true, false, [], ◌∷◌, ◌++◌, OnOk, IfOk};
 ghost use Rattle.unification.specs.Classes.{IsUnderWay, IsPartition, Pairs, Differ, Advances, NoneFits, work, paired};
@@ -9,7 +9,7 @@ use crate::classes::Classes;
 use crate::term::{Term, arguments_at, is_same, symbol_at};
 use std::alloc::{AllocError, Global};
 
-// Puts pairs at the end of a list.
+/// Puts pairs at the end of a list.
 fn push_pairs(xs: &[usize], ys: &[usize], todo: &mut Vec<(usize, usize)>) -> Result<(), AllocError>
     requires { length xs.now ≡ length ys.now }
     ensures { OnOk result (todo.new.items ≡ todo.old.items ++ paired xs.now ys.now) }
@@ -20,8 +20,8 @@ fn push_pairs(xs: &[usize], ys: &[usize], todo: &mut Vec<(usize, usize)>) -> Res
     Ok(())
 }
 
-// Puts the arguments of two terms in pairs at the end of a list. Says whether the terms can be
-// equal, by their symbols and how many arguments they have.
+/// Puts the arguments of two terms in pairs at the end of a list. Says whether the terms can be
+/// equal, by their symbols and how many arguments they have.
 fn pair_arguments(
     terms: &[Term],
     x: usize,
@@ -54,7 +54,7 @@ fn pair_arguments(
     }
 }
 
-// Joins class a with class b. Says whether their kept terms can be equal.
+/// Joins class a with class b. Says whether their kept terms can be equal.
 fn join_classes(
     alloc: Global,
     terms: &[Term],
@@ -85,7 +85,7 @@ fn join_classes(
     Ok(true)
 }
 
-// Joins the classes of the terms of a pair, the smaller one with the larger one.
+/// Joins the classes of the terms of a pair, the smaller one with the larger one.
 fn join_pair(
     alloc: Global,
     terms: &[Term],

@@ -1,4 +1,4 @@
-// Terms as a solution leaves them, each in a row.
+//! Terms as a solution leaves them, each in a row.
 
 ghost use Rattle.std.specs.Prelude.{◌≡◌, ◌<◌, ℕ, length, IfOk, MatchOption};
 ghost use Rattle.unification.specs.Pieces.{pieces, first_piece};
@@ -19,7 +19,7 @@ pub enum Piece {
     Made(Symbol, usize),
 }
 
-// What the tree of a class begins with, by the term that the class keeps.
+/// What the tree of a class begins with, by the term that the class keeps.
 fn first_of(terms: &[Term], classes: &Classes, class: usize, kept: usize) -> Piece
     requires { kept ≡ kept_of classes.now class }
     ensures { result ≡ first_piece terms.now classes.now class }

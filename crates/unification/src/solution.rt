@@ -1,4 +1,4 @@
-// Most general solutions of equations between terms.
+//! Most general solutions of equations between terms.
 
 ghost use Rattle.std.specs.Prelude.{◌≡◌, ℕ, length, true, false, IfOk, MatchOption};
 ghost use Rattle.unification.specs.Shown.{IsSolved};
@@ -35,7 +35,7 @@ pub fn solve(
     Ok(Some(classes))
 }
 
-// Whether the equations between the terms of pairs have a solution.
+/// Whether the equations between the terms of pairs have a solution.
 fn is_solvable(alloc: Global, terms: &[Term], pairs: &[(usize, usize)]) -> Result<bool, AllocError>
     requires earlier { AreEarlier terms.now }
     requires below { AreBelow (length terms.now) pairs.now }

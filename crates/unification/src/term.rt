@@ -1,4 +1,4 @@
-// Terms as nodes in a vector.
+//! Terms as nodes in a vector.
 
 ghost use Rattle.std.specs.Prelude.{◌≡◌, ◌↔◌, IsTrue};
 ghost use Rattle.unification.specs.Terms.{symbol_of, arguments_of};

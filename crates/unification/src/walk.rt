@@ -1,4 +1,4 @@
-// A walk over classes, which finds whether one stands within itself.
+//! A walk over classes, which finds whether one stands within itself.
 
 ghost use Rattle.std.specs.Prelude.{◌≡◌, ◌<◌, ◌+◌, ◌^◌, ℕ, List, length, true, false, [], ◌∷◌, ◌++◌, slice_set, MatchOption, OnOk, IfOk};
 ghost use Rattle.unification.specs.Classes.{IsPartition};
@@ -27,7 +27,7 @@ struct Walk {
 }
 
 impl Walk {
-    // No class is seen.
+    /// No class is seen.
     fn new(alloc: Global, count: usize) -> Result<Walk, AllocError>
         ensures { IfOk result (IsFresh count) }
     {
@@ -41,7 +41,7 @@ impl Walk {
         })
     }
 
-    // Enters a class.
+    /// Enters a class.
     fn enter(&mut self, class: usize) -> Result<(), AllocError>
         requires { class < length self.old.marks.items }
         ensures marks { self.new.marks.items
@@ -53,7 +53,7 @@ impl Walk {
         Ok(())
     }
 
-    // The class that was entered last is done.
+    /// The class that was entered last is done.
     fn leave(&mut self, class: usize)
         requires within { class < length self.old.marks.items }
         requires last { (front : List ℕ) × (self.old.path.items ≡ front ++ class ∷ []) }
@@ -64,7 +64,7 @@ impl Walk {
         self.path.pop();
     }
 
-    // The class that was entered last.
+    /// The class that was entered last.
     fn last(&self) -> Option<usize>
         ensures { MatchOption result (self.now.path.items ≡ [])
             (λ top. (front : List ℕ) × (self.now.path.items ≡ front ++ top ∷ [])) }
@@ -76,8 +76,8 @@ impl Walk {
         Some(self.path[count - 1])
     }
 
-    // Goes on from the class of the next argument of the class that was entered last. Says whether
-    // it stands outside of the path.
+    /// Goes on from the class of the next argument of the class that was entered last. Says whether
+    /// it stands outside of the path.
     fn pass(
         &mut self,
         terms: &[Term],
@@ -109,7 +109,7 @@ impl Walk {
         }
     }
 
-    // Looks at the next argument of the class that was entered last, or leaves it.
+    /// Looks at the next argument of the class that was entered last, or leaves it.
     fn look(
         &mut self,
         terms: &[Term],
@@ -134,8 +134,8 @@ impl Walk {
         self.pass(terms, classes, top, first, next)
     }
 
-    // Goes on from the class that was entered last. Says whether no class stands within itself as
-    // yet.
+    /// Goes on from the class that was entered last. Says whether no class stands within itself as
+    /// yet.
     fn step(&mut self, terms: &[Term], classes: &Classes, top: usize) -> Result<bool, AllocError>
         requires earlier { AreEarlier terms.now }
         requires partition { IsPartition (length terms.now) classes.now }
@@ -153,7 +153,7 @@ impl Walk {
         }
     }
 
-    // Enters a class that is not seen.
+    /// Enters a class that is not seen.
     fn begin(&mut self, class: usize) -> Result<(), AllocError>
         requires { class < length self.old.marks.items }
         ensures { OnOk result (Begins self.old self.new class) }
@@ -168,7 +168,7 @@ impl Walk {
         }
     }
 
-    // Walks a class and all that stands within it. Says whether no class stands within itself.
+    /// Walks a class and all that stands within it. Says whether no class stands within itself.
     fn visit(&mut self, terms: &[Term], classes: &Classes, class: usize) -> Result<bool, AllocError>
         requires earlier { AreEarlier terms.now }
         requires partition { IsPartition (length terms.now) classes.now }
