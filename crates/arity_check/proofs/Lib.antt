@@ -1,11 +1,11 @@
-mod Counted
+pub mod Counted
 pub mod Weight
 mod Derived
 pub mod Numbers
 mod Single
 mod Snoc
 pub mod Counts
-mod Unique
+pub mod Unique
 mod Steps
 pub mod Names
 mod Noted

@@ -55,8 +55,9 @@ fn functions(alloc: Global, globals: &Globals, core: &Core) -> Result<Seq<Fun>, 
     Ok(funs)
 }
 
-/// The normal form of a program that breaks no rule, by its tables.
-fn normal_form(alloc: Global, globals: &Globals, core: &Core) -> Result<Checked, AllocError>
+/// The normal form of a program that breaks no rule, by its tables. Want of numbers for locals,
+/// functions or constructors counts as want of memory.
+pub fn normal_form(alloc: Global, globals: &Globals, core: &Core) -> Result<Checked, AllocError>
     requires readable { IsReadable (program core.now) }
     requires unbroken { IsUnbroken (program core.now) }
     requires tables { known globals.now ≡ known_of (program core.now) }

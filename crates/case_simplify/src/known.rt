@@ -12,14 +12,14 @@ use std::marker::Model;
 
 /// What a word is known to be.
 #[derive(Clone, Copy, Debug)]
-pub(crate) enum Known {
+pub enum Known {
     Tag(TagId),
     Number(i32),
 }
 
 /// What a variable is known to hold, and what was known of it before.
 #[derive(Clone, Copy, Debug)]
-pub(crate) struct Fact {
+pub struct Fact {
     pub var: VarId,
     pub known: Known,
     pub before: Option<Known>,
@@ -27,7 +27,7 @@ pub(crate) struct Fact {
 
 /// What is known at a place: facts, of which the latest of a variable counts. It is found at once.
 #[derive(Drop)]
-pub(crate) struct FactTable {
+pub struct FactTable {
     facts: Vec<Fact>,
     // by the number of a variable
     table: Vec<Option<Known>>,
@@ -48,7 +48,7 @@ impl Model for FactTable {
 impl FactTable {
     /// Nothing is known.
     #[tactic(auto, using(crate::proofs::Tables::table_none))]
-    pub(crate) fn new(alloc: Global) -> FactTable
+    pub fn new(alloc: Global) -> FactTable
         ensures { result ≡ [] }
     {
         FactTable {
@@ -58,13 +58,14 @@ impl FactTable {
     }
 
     /// How many facts there are.
-    pub(crate) fn count(&self) -> usize
+    pub fn count(&self) -> usize
         ensures { result ≡ length self.now }
     {
         self.facts.len()
     }
 
-    fn told_var(&self, x: VarId) -> Option<Known>
+    /// What a variable is known to hold.
+    pub fn told_var(&self, x: VarId) -> Option<Known>
         ensures { result ≡ facts_of self.now x.0 }
     {
         match self.table.get(x.0 as usize) {
@@ -88,7 +89,7 @@ impl FactTable {
     }
 
     /// Only the first so many facts stay.
-    pub(crate) fn keep(&mut self, count: usize)
+    pub fn keep(&mut self, count: usize)
         ensures { self.new ≡ take count self.old }
     {
         for _ in count..self.facts.len() {
@@ -134,7 +135,7 @@ fn second_word(v: &Val) -> Option<Word>
 }
 
 /// What is known of the word of `v` that holds its tag.
-pub(crate) fn told_first(facts: &FactTable, v: &Val) -> Option<Known>
+pub fn told_first(facts: &FactTable, v: &Val) -> Option<Known>
     ensures { result ≡ told_first (facts_of facts.now) v.now }
 {
     match first_word(v) {
@@ -144,7 +145,7 @@ pub(crate) fn told_first(facts: &FactTable, v: &Val) -> Option<Known>
 }
 
 /// What is known of the word after it.
-pub(crate) fn told_second(facts: &FactTable, v: &Val) -> Option<Known>
+pub fn told_second(facts: &FactTable, v: &Val) -> Option<Known>
     ensures { result ≡ told_second (facts_of facts.now) v.now }
 {
     match second_word(v) {
@@ -170,11 +171,7 @@ fn note_word(facts: &mut FactTable, word: Option<Word>, known: Known) -> Result<
 
 /// What is known in an alternative of a case on `v`.
 #[tactic(auto, using(crate::proofs::Tables::adds_none, crate::proofs::Tables::adds_again))]
-pub(crate) fn note_pattern(
-    facts: &mut FactTable,
-    v: &Val,
-    pattern: &Shape,
-) -> Result<(), AllocError>
+pub fn note_pattern(facts: &mut FactTable, v: &Val, pattern: &Shape) -> Result<(), AllocError>
     ensures facts { OnOk result (facts_of facts.new
         ≡ noted v.now pattern.now (facts_of facts.old)) }
     ensures adds { OnOk result (Adds facts.old facts.new) }
@@ -253,11 +250,7 @@ fn note_unit(facts: &mut FactTable, target: &Target, v: &Val) -> Result<(), Allo
 /// What is known after a statement: of the words that a unit gives, and so of the variables that
 /// are given them.
 #[tactic(auto, using(grin_syntax::proofs::TreeOf::tree_of, crate::proofs::Tables::adds_none))]
-pub(crate) fn note_statement(
-    facts: &mut FactTable,
-    target: &Target,
-    op: &Op,
-) -> Result<(), AllocError>
+pub fn note_statement(facts: &mut FactTable, target: &Target, op: &Op) -> Result<(), AllocError>
     ensures facts { OnOk result (facts_of facts.new
         ≡ known_after target.now (act_of op.now) (facts_of facts.old)) }
     ensures adds { OnOk result (Adds facts.old facts.new) }

@@ -8,4 +8,5 @@ mod known;
 mod pass;
 mod words;
 
+pub use known::{Fact, FactTable, Known, note_pattern, note_statement};
 pub use pass::{Simplify, with_fewer_cases};

@@ -4,7 +4,7 @@ use Rattle.std.specs.List.{list_any}
 use Rattle.std.specs.Option.{option_map, option_and_then}
 use Rattle.std.specs.Str.{bytes_eq}
 use Rattle.std.proofs.lemmas.Slice.Eq.{bytes_eq-Decides}
-use Rattle.command_line.specs.Commands.{CommandLine, RunFile, BuildFile, GenRun, Given, Form, only, option_number, cells_of, stack_of, steps_of, run_form, check_form, list_form, build_form, exec_form, gen_form, lift_form, of_operand, without_operand, seed_of, size_of}
+use Rattle.command_line.specs.Commands.{CommandLine, RunFile, BuildFile, GenRun, Given, Form, only, option_number, cells_of, stack_of, steps_of, run_form, list_form, build_form, exec_form, gen_form, file_form, of_operand, without_operand, seed_of, size_of}
 use Rattle.command_line.specs.Walk.{option_names}
 
 -- A form has no option but those that there are, and asks for nothing where there are two operands or one of its options has
@@ -140,11 +140,8 @@ known_among (option ∷ options) names all name none = by_test (bytes_eq name op
 pub run_strict : Strict run_form
 run_strict = record { known = known_among run_form.options option_names refl; once = run_once; alone = λ given operands two. of_two _ operands two }
 
-pub check_strict : Strict check_form
-check_strict = record { known = known_among check_form.options option_names refl; once = λ given name operands is two. absurd (cc is); alone = λ given operands two. of_two _ operands two }
-
-pub lift_strict : Strict lift_form
-lift_strict = record { known = known_among lift_form.options option_names refl; once = λ given name operands is two. absurd (cc is); alone = λ given operands two. of_two _ operands two }
+pub file_strict : (ask : List ℕ → CommandLine) → Strict (file_form ask)
+file_strict ask = record { known = λ name other. refl; once = λ given name operands is two. absurd (cc is); alone = λ given operands two. of_two _ operands two }
 
 pub list_strict : Strict list_form
 list_strict = record { known = known_among list_form.options option_names refl; once = list_once; alone = λ given operands two. of_two _ operands two }

@@ -6,10 +6,10 @@ use Rattle.std.specs.Str.{bytes_eq}
 use Rattle.command_line.specs.Numbers.{number_within}
 use Rattle.command_line.specs.Parts.{Part, Setting, Operand, parts_of}
 use Rattle.command_line.specs.declared.command.Listing.{Listing}
-use Rattle.command_line.specs.declared.command.Listing.TheVariants.{Read, Translate, Eval, Apply, Vectorise, Simplify, Fetch, Copy, Update, Unbox, Raise, Dead, Code}
+use Rattle.command_line.specs.declared.command.Listing.TheVariants.{Read, Translate, Eval, Apply, Vectorise, Simplify, Fetch, Copy, Update, Unbox, Raise, Flat, Known, Cells, Dead, Code}
 use Rattle.command_line.specs.declared.files.Files.{Files}
 use Rattle.command_line.specs.declared.command.Command.{Command}
-use Rattle.command_line.specs.declared.command.Command.TheVariants.{Run, Check, List as Listed, Build, Exec, Gen, Link, Lift}
+use Rattle.command_line.specs.declared.command.Command.TheVariants.{Run, Check, List as Listed, Build, Exec, Gen, Link, Lift, Match, Types}
 
 -- what a command line asks for
 pub data CommandLine : Type 0 where
@@ -21,6 +21,8 @@ pub data CommandLine : Type 0 where
   GenRun : (seed size : ℕ) → CommandLine
   LinkFiles : (files : List (List ℕ)) → CommandLine
   LiftFile : (file : List ℕ) → CommandLine
+  MatchFile : (file : List ℕ) → CommandLine
+  TypesFile : (file : List ℕ) → CommandLine
 
 -- the names of files, in their order
 abbrev pub names_of : Files → List (List ℕ)
@@ -36,6 +38,8 @@ asked_by (Exec image steps) = ExecImage image.now steps
 asked_by (Gen seed size) = GenRun seed size
 asked_by (Link files) = LinkFiles (names_of files)
 asked_by (Lift file) = LiftFile file.now
+asked_by (Match file) = MatchFile file.now
+asked_by (Types file) = TypesFile file.now
 
 -- the passes that a listing can follow
 abbrev pub listing_of : List ℕ → Option Listing
@@ -51,9 +55,12 @@ listing_of word =
     else (if bytes_eq word (codes "update") then Some Update
     else (if bytes_eq word (codes "unbox") then Some Unbox
     else (if bytes_eq word (codes "raise") then Some Raise
+    else (if bytes_eq word (codes "flat") then Some Flat
+    else (if bytes_eq word (codes "known") then Some Known
+    else (if bytes_eq word (codes "cells") then Some Cells
     else (if bytes_eq word (codes "dead") then Some Dead
     else (if bytes_eq word (codes "code") then Some Code
-    else None))))))))))))
+    else None)))))))))))))))
 
 -- the operands of the parts, in order
 abbrev pub operands : List Part → List (List ℕ)
@@ -138,9 +145,13 @@ run_form = record {
       option_map (RunFile file cells stack) (steps_of given)) (stack_of given)) (cells_of given));
 }
 
+-- a form with a file and without options
+abbrev pub file_form : (ask : List ℕ → CommandLine) → Form
+file_form ask = record { options = []; asks = λ given. of_operand (λ file. Some (ask file)) }
+
 -- `check FILE`
 abbrev pub check_form : Form
-check_form = record { options = []; asks = λ given. of_operand (λ file. Some (CheckFile file)) }
+check_form = file_form CheckFile
 
 -- `list FILE --after PASS`
 abbrev pub list_form : Form
@@ -178,7 +189,15 @@ gen_form = record {
 
 -- `lift FILE`
 abbrev pub lift_form : Form
-lift_form = record { options = []; asks = λ given. of_operand (λ file. Some (LiftFile file)) }
+lift_form = file_form LiftFile
+
+-- `match FILE`
+abbrev pub match_form : Form
+match_form = file_form MatchFile
+
+-- `types FILE`
+abbrev pub types_form : Form
+types_form = file_form TypesFile
 
 -- `link FILE..`, with 1 to 64 files
 abbrev pub link_form : Form
@@ -200,7 +219,9 @@ by_name ask name =
     else (if bytes_eq name (codes "exec") then ask exec_form
     else (if bytes_eq name (codes "gen") then ask gen_form
     else (if bytes_eq name (codes "lift") then ask lift_form
-    else None))))))
+    else (if bytes_eq name (codes "match") then ask match_form
+    else (if bytes_eq name (codes "types") then ask types_form
+    else None))))))))
 
 -- what parts with options of the form alone ask for
 abbrev pub asked : List Part → Form → Option CommandLine

@@ -1,8 +1,8 @@
 //! The commands.
 
-ghost use Rattle.std.specs.Prelude.{◌≡◌, map, string_bytes};
+ghost use Rattle.std.specs.Prelude.{◌≡◌, ℕ, List, map, string_bytes};
 ghost use Rattle.std.specs.Option.{option_map, option_and_then};
-ghost use Rattle.command_line.specs.Commands.{asked_by, asked, command_from, listing_of, run_form, check_form, list_form, build_form, exec_form, gen_form, lift_form, link_form};
+ghost use Rattle.command_line.specs.Commands.{asked_by, asked, command_from, listing_of, run_form, check_form, list_form, build_form, exec_form, gen_form, file_form, lift_form, match_form, types_form, link_form, CommandLine};
 ghost use Rattle.command_line.specs.Parts.{parts_of};
 ghost use Rattle.command_line.specs.Walk.{said, asked_said, chosen};
 
@@ -35,6 +35,12 @@ pub enum Listing {
     Unbox,
     /// The program whose procedures take words in place of the node in which they stand.
     Raise,
+    /// The program without nested blocks.
+    Flat,
+    /// The program with literals in place of words that are known.
+    Known,
+    /// The program without fetches of words that are known of the procedure's own cells.
+    Cells,
     /// The program without cells that nothing reads.
     Dead,
     /// The code of its image.
@@ -88,6 +94,14 @@ pub enum Command<'a> {
     Lift {
         file: &'a str,
     },
+    /// `match FILE`: write the text of Core that a text of pattern equations stands for.
+    Match {
+        file: &'a str,
+    },
+    /// `types FILE`: check a text with types, and write its text of Core.
+    Types {
+        file: &'a str,
+    },
 }
 
 /// The most files that are linked.
@@ -110,6 +124,9 @@ impl Listing {
             "update" => Some(Listing::Update),
             "unbox" => Some(Listing::Unbox),
             "raise" => Some(Listing::Raise),
+            "flat" => Some(Listing::Flat),
+            "known" => Some(Listing::Known),
+            "cells" => Some(Listing::Cells),
             "dead" => Some(Listing::Dead),
             "code" => Some(Listing::Code),
             _ => None,
@@ -142,6 +159,8 @@ impl<'a> Command<'a> {
             "exec" => Command::exec(arguments),
             "gen" => Command::generate(arguments),
             "lift" => Command::lift(arguments),
+            "match" => Command::equations(arguments),
+            "types" => Command::types(arguments),
             _ => None,
         }
     }
@@ -170,9 +189,10 @@ impl<'a> Command<'a> {
         })
     }
 
-    /// `check` with its arguments.
-    fn check(arguments: Arguments<'a>) -> Option<Command<'a>>
-        ensures { option_map asked_by result ≡ asked_said (said arguments.entry) check_form }
+    /// The file of a command without options.
+    fn file_alone(arguments: Arguments<'a>) -> Option<&'a str>
+        ensures { (ask : List ℕ → CommandLine) → option_map (λ file. ask file.now) result
+            ≡ asked_said (said arguments.entry) (file_form ask) }
     {
         let Arguments {
             operand: Some(file),
@@ -186,6 +206,14 @@ impl<'a> Command<'a> {
         else {
             return None;
         };
+        Some(file)
+    }
+
+    /// `check` with its arguments.
+    fn check(arguments: Arguments<'a>) -> Option<Command<'a>>
+        ensures { option_map asked_by result ≡ asked_said (said arguments.entry) check_form }
+    {
+        let file = Command::file_alone(arguments)?;
         Some(Command::Check { file })
     }
 
@@ -193,19 +221,24 @@ impl<'a> Command<'a> {
     fn lift(arguments: Arguments<'a>) -> Option<Command<'a>>
         ensures { option_map asked_by result ≡ asked_said (said arguments.entry) lift_form }
     {
-        let Arguments {
-            operand: Some(file),
-            after: None,
-            heap: None,
-            stack: None,
-            steps: None,
-            seed: None,
-            size: None,
-        } = arguments
-        else {
-            return None;
-        };
+        let file = Command::file_alone(arguments)?;
         Some(Command::Lift { file })
+    }
+
+    /// `match` with its arguments.
+    fn equations(arguments: Arguments<'a>) -> Option<Command<'a>>
+        ensures { option_map asked_by result ≡ asked_said (said arguments.entry) match_form }
+    {
+        let file = Command::file_alone(arguments)?;
+        Some(Command::Match { file })
+    }
+
+    /// `types` with its arguments.
+    fn types(arguments: Arguments<'a>) -> Option<Command<'a>>
+        ensures { option_map asked_by result ≡ asked_said (said arguments.entry) types_form }
+    {
+        let file = Command::file_alone(arguments)?;
+        Some(Command::Types { file })
     }
 
     /// `list` with its arguments.

@@ -9,7 +9,7 @@ use Rattle.vectorised_form.specs.Laws.{VectoriseTakesInlined}
 use Rattle.flow_system.specs.Solution.{Solution}
 use Rattle.apply_inline.specs.Inlining.{inlined}
 use Rattle.grin_translate.specs.Translation.{tr}
-use Rattle.grin_opt.specs.declared.pass.PassName.TheVariants.{Vectorise, Simplify, Fetch, Copy, Update, Unbox, Raise, Dead}
+use Rattle.grin_opt.specs.declared.pass.PassName.TheVariants.{Vectorise, Simplify, Fetch, Copy, Update, Unbox, Raise, Flat, Known, Cells, Dead}
 use Rattle.grin_stages.specs.Stage.{Analyses, IsStage}
 use Rattle.grin_stages.proofs.Stages.{from_pass}
 use Rattle.grin_compile.specs.Lowerable.{IsLowerable}
@@ -63,8 +63,17 @@ module _ (taken : VectoriseTakesInlined) (p : core.Program) (valid : IsValid p) 
   raised : (h : Program) → IsStage p Raise h → CanBeLowered h
   raised h stage = let from = from_pass p Raise h tt stage in splitting_one from.g h (unboxed from.g from.stage) from.shape.of_vectors from.shape.narrow
 
+  flat : (h : Program) → IsStage p Flat h → CanBeLowered h
+  flat h stage = let from = from_pass p Flat h tt stage in next_one from.g h (raised from.g from.stage) from.shape.stays
+
+  known : (h : Program) → IsStage p Known h → CanBeLowered h
+  known h stage = let from = from_pass p Known h tt stage in next_one from.g h (flat from.g from.stage) from.shape.stays
+
+  own : (h : Program) → IsStage p Cells h → CanBeLowered h
+  own h stage = let from = from_pass p Cells h tt stage in next_one from.g h (known from.g from.stage) from.shape.stays
+
   dead : (h : Program) → IsStage p Dead h → CanBeLowered h
-  dead h stage = let from = from_pass p Dead h tt stage in splitting_one from.g h (raised from.g from.stage) from.shape.of_vectors (λ most one narrow. from.shape.narrow most narrow)
+  dead h stage = let from = from_pass p Dead h tt stage in splitting_one from.g h (own from.g from.stage) from.shape.of_vectors (λ most one narrow. from.shape.narrow most narrow)
 
   pub lowerable : (h : Program) → IsStage p Dead h → (size largest : ℕ) → size ≤ 131072 → largest ≤ size → length h.procs ≤ size → length h.globals ≤ 4096
       → Slim size largest h → IsLowerable h

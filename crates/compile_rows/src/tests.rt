@@ -30,11 +30,11 @@ const TAKES: &str =
 //         (CNil) ->
 //           v5 <- fetch v0 1
 //           v6 <- fetch v0 2
-//           unit [v1 v5 v6]
+//           unit [#CNil v5 v6]
 //         (CCons) ->
 //           v7 <- fetch v0 1
 //           v8 <- fetch v0 2
-//           unit [v1 v7 v8]
+//           unit [#CCons v7 v8]
 //         (Ftake) ->
 //           v9 <- fetch v0 1
 //           [v10 v11 v12] <- call take v9
@@ -68,11 +68,11 @@ const TAKES: &str =
 //         (CNil) ->
 //           v5 <- fetch v0 1
 //           v6 <- fetch v0 2
-//           unit [v1 v5 v6]
+//           unit [#CNil v5 v6]
 //         (CCons) ->
 //           v7 <- fetch v0 1
 //           v8 <- fetch v0 2
-//           unit [v1 v7 v8]
+//           unit [#CCons v7 v8]
 //         (Ftake) ->
 //           v9 <- fetch v0 1
 //           [v10 v11 v12] <- call take v9
@@ -116,11 +116,11 @@ join v2 v3 v4
 when v1 = 1
 load v5 v0 1
 load v6 v0 2
-give v1 v5 v6
+give 1 v5 v6
 when v1 = 2
 load v7 v0 1
 load v8 v0 2
-give v1 v7 v8
+give 2 v7 v8
 else
 load v9 v0 1
 call 0 at s0 with v9 to v10 v11 v12
@@ -164,11 +164,11 @@ join v2 v3 v4
 when v1 = 1
 load v5 v0 1
 load v6 v0 2
-give v1 v5 v6
+give 1 v5 v6
 when v1 = 2
 load v7 v0 1
 load v8 v0 2
-give v1 v7 v8
+give 2 v7 v8
 when v1 = 3
 load v9 v0 1
 call 0 at s2 with v9 to v10 v11 v12

@@ -120,6 +120,20 @@ module _ (p q : Program) {S : Type 0} (enter : List Binder → List Binder → S
   carried_printed : OneNormalForm → (r : normal.Program) → Carries r → (d : normal.Program) → IsNormalForm q d → (i : List ℕ) (n : ℕ) → printed r i n ≡ printed d i n
   carried_printed one r w d is i n = same_printed 0 NoAlternative r w.form w.cons w.main w.funs i n ∙ ap (λ x. printed x i n) (one q w.form d w.is is)
 
+-- Programs that are the same, the places and the numbers of the names aside, put out the same.
+pub same_programs_print_the_same : OneNormalForm → (p q : Program) → SameProgram p q → IsReadable p → IsReadable q → (r d : normal.Program) → IsNormalForm p r → IsNormalForm q d
+    → (i : List ℕ) (n : ℕ) → printed r i n ≡ printed d i n
+same_programs_print_the_same one p q same_program here own r d is_r is_d i n =
+    let E = same.NoScope p q same_program here own in
+    let B = same.OfBinder p q same_program here own in
+    let C = same.OfCon p q same_program here own in
+    let U = same.OfUse p q same_program here own in
+    let F = same.OfFunction p q same_program here own in
+    let Fits = same.Fits p q same_program here own in
+    let there = carries p q E B C U F Fits tt (same.means_the_same p q same_program here own) tt own
+    (same.constructors p q same_program here own) (same.functions p q same_program here own) (λ n k b. b.1) (λ n k b. same_named p q n k (codes "main") b.1) r is_r in
+    carried_printed p q E B C U F Fits tt (same.means_the_same p q same_program here own) tt own one r there d is_d i n
+
 -- ---- the module, its declarations by themselves, and the program
 
 module _ (one : OneNormalForm) (some : SomeNormalForm) (m : Module) (p c : Program) (u : IsUnion (m ∷ []) c) (sound : IsSound (m ∷ [])) (main : LacksMain (m ∷ []) → ⊥) (named : name_of m ≡ codes "Main") (no_imports : m.imports ≡ [])
@@ -173,16 +187,8 @@ module _ (one : OneNormalForm) (some : SomeNormalForm) (m : Module) (p c : Progr
       let Fits = alone.FitsSame m c u sound readable named no_imports in
       let there = carries (body m) c (enter c.names m) B C U F Fits [] (alone.means_the_same m c u sound readable named no_imports) tt readable
       (alone.constructors m c u sound readable named no_imports) (alone.functions m c u sound readable named no_imports) (alone.con_same m c u sound readable named no_imports) (alone.main_same m c u sound readable named no_imports) r.0 r.1 in
-      let E = same.NoScope (body m) p same_program here own in
-      let B' = same.OfBinder (body m) p same_program here own in
-      let C' = same.OfCon (body m) p same_program here own in
-      let U' = same.OfUse (body m) p same_program here own in
-      let F' = same.OfFunction (body m) p same_program here own in
-      let Fits' = same.Fits (body m) p same_program here own in
-      let back = carries (body m) p E B' C' U' F' Fits' tt (same.means_the_same (body m) p same_program here own) tt own
-      (same.constructors (body m) p same_program here own) (same.functions (body m) p same_program here own) (λ n k b. b.1) (λ n k b. same_named (body m) p n k (codes "main") b.1) r.0 r.1 in
       sym (carried_printed (body m) c (enter c.names m) B C U F Fits [] (alone.means_the_same m c u sound readable named no_imports) tt readable one r.0 there d is_d i n)
-      ∙ carried_printed (body m) p E B' C' U' F' Fits' tt (same.means_the_same (body m) p same_program here own) tt own one r.0 back q is_q i n
+      ∙ same_programs_print_the_same one (body m) p same_program here own r.0 q r.1 is_q i n
 
 is_main : (w : List ℕ) → (w ≡ codes "Main" → ⊥) ⊎ (w ≡ codes "Main")
 is_main w = elim (two_ways (bytes_eq w (codes "Main"))) [

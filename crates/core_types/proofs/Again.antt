@@ -10,7 +10,8 @@ use Rattle.arity_check.specs.Known.{Known}
 use Rattle.arity_check.specs.Whole.{known_of, function_at}
 use Rattle.arity_check.proofs.Names.{int_named}
 use Rattle.core_types.specs.Source.{TypeDecl, Signature, Source, erased}
-use Rattle.core_types.specs.Rules.{is_named, Broken}
+use Rattle.core_types.specs.Rules.{Broken}
+use Rattle.core_types.specs.Lists.{is_named}
 use Rattle.core_types.specs.Rules as rules
 use Rattle.core_types.specs.Found.{IsFirstAt, earlier_if, again_in, is_int, types_again, is_unknown, signatures_again}
 use Rattle.core_types.proofs.Firsts.{Here, Adds, here_adds, then_adds, none_adds, all_added}

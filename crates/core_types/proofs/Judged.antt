@@ -1,9 +1,10 @@
 -- The first rule that a program with types breaks.
-use Rattle.std.proofs.Common.{◌≡◌, ℕ, zero, suc, ◌<◌, ◌≤◌, Bool, true, false, List, [], ◌∷◌, refl, sym, ap, subst, ◌∙◌, arith, Option, Some, None, ◌⊎◌, inl, inr}
-use Rattle.std.specs.Prelude.{◌||◌, slice_get, if◌then◌else◌, nat_lt}
-use Rattle.std.specs.List.{list_any}
+use Rattle.std.proofs.Common.{◌≡◌, ℕ, ◌<◌, ◌≤◌, Bool, true, false, refl, sym, ap, subst, ◌∙◌, arith, Option, Some, None, ◌⊎◌, inl, inr}
+use Rattle.std.specs.Prelude.{slice_get, if◌then◌else◌, nat_lt}
+use Rattle.std.specs.List.{find}
 use Rattle.seq.proofs.Order.{compared}
 use Rattle.seq.proofs.Truth.{two_ways}
+use Rattle.core_reader.specs.declared.syntax.NameId.{NameId}
 use Rattle.core_reader.specs.Tree.{Program}
 use Rattle.arity_check.specs.declared.refusal.CheckRefusal.{CheckRefusal}
 use Rattle.arity_check.specs.declared.order.Order.TheVariants.{Check}
@@ -16,11 +17,15 @@ use Rattle.arity_check.specs.Whole.{known_of}
 use Rattle.arity_check.proofs.Names.{nil_named, cons_named}
 use Rattle.core_types.specs.declared.refusal.TypeFault.TheVariants as fault
 use Rattle.core_types.specs.Source.{TypeDecl, Source, erased}
-use Rattle.core_types.specs.Rules.{Broken, rank, IsFirstBroken, IsUnbroken, is_list, is_list_by, is_named}
+use Rattle.core_types.specs.Rules.{Broken, rank, IsFirstBroken, IsUnbroken}
+use Rattle.core_types.specs.Lists.{is_list, is_list_by}
 use Rattle.core_types.specs.Rules as rules
-use Rattle.core_types.specs.Refused.{IsFirstOf}
-use Rattle.core_types.specs.Found.{IsFirstAt, sooner, nil_in, cons_in, declared_first, declared_fault, types_again, unknown_names, signatures_again, partial_in_functions}
+use Rattle.core_types.specs.Typing.{Typed, Int, Named, AndTyped, NoTypeds, integers}
+use Rattle.core_types.specs.Refused.{IsFirstOf, IsJudged}
+use Rattle.core_types.specs.Found.{IsFirstAt, name_of, IsFirstMismatch, sooner, nil_in, cons_in, declared_first, declared_fault, types_again, unknown_names, signatures_again, partial_in_functions}
 use Rattle.core_types.proofs.Firsts.{lt_true, lt_false}
+use Rattle.core_types.proofs.Finding.{find_none, find_some}
+use Rattle.core_types.proofs.Mismatched.{one_mismatch, no_mismatch}
 use Rattle.core_types.proofs.Unknowns as declared
 use Rattle.core_types.proofs.Again as again
 use Rattle.core_types.proofs.Partial as partial
@@ -94,6 +99,7 @@ module _ (s : Source) where
     Rule82 : k ≡ 82 → declared.Rule82 s at → Found k at
     Rule85 : k ≡ 85 → again.Rule85 s at → Found k at
     Rule86 : k ≡ 86 → at ≡ 0 → NoList → Found k at
+    Rule83 : k ≡ 83 → IsFirstMismatch s (Some at) → Found k at
     Rule84 : k ≡ 84 → partial.Rule84 s at → Found k at
 
   found : (k at : ℕ) → Broken s k at → Found k at
@@ -106,6 +112,7 @@ module _ (s : Source) where
   found k at (rules.SignedAgain {i = i} {j = j} {g = g} {h = h} l a b n) = Rule85 refl (again.signed_again s i j g h l a b n)
   found k at (rules.SignedUnknown {g = g} i e h) = Rule85 refl (again.signed_unknown s i g e h)
   found k at (rules.ListType h) = Rule86 refl refl h
+  found k at (rules.Mismatch {c = c} i h) = Rule83 refl (i, c, h, refl)
   found k at (rules.NotExhaustive {f = f} {alts = alts} {p = p} i e q first none h) = Rule84 refl (partial.not_exhaustive s i f alts p e q first none h)
 
   abbrev NoCore : Type 0
@@ -126,6 +133,7 @@ module _ (s : Source) where
   later k at a l (Rule82 e r) f = subst (λ n. IsBefore a (rank n at)) (sym e) (inl (omega (arith, l)))
   later k at a l (Rule85 e r) f = subst (λ n. IsBefore a (rank n at)) (sym e) (inl (omega (arith, l)))
   later k at a l (Rule86 e z r) f = subst (λ n. IsBefore a (rank n at)) (sym e) (inl (omega (arith, l)))
+  later k at a l (Rule83 e r) f = subst (λ n. IsBefore a (rank n at)) (sym e) (inl (omega (arith, l)))
   later k at a l (Rule84 e r) f = subst (λ n. IsBefore a (rank n at)) (sym e) (inl (omega (arith, l)))
 
   pub core_first : (r : CheckRefusal) → IsFirstRefusal (ranked Check) (erased s) (Some r) → IsFirstOf s (fault.Unchecked r)
@@ -268,6 +276,7 @@ module _ (s : Source) where
       among : NotAfter f k at → rank k at ≡ (3, at, k) → IsBefore (3, f.1, f.0) (rank k at)
       among n e = subst (IsBefore (3, f.1, f.0)) (sym e) (inr (refl, n))
   after_three f none first k at (Rule86 e z r) = subst (λ n. IsBefore (3, f.1, f.0) (rank n at)) (sym e) (inl (omega arith))
+  after_three f none first k at (Rule83 e r) = subst (λ n. IsBefore (3, f.1, f.0) (rank n at)) (sym e) (inl (omega arith))
   after_three f none first k at (Rule84 e r) = subst (λ n. IsBefore (3, f.1, f.0) (rank n at)) (sym e) (inl (omega arith))
 
   first_by : (f : Option (ℕ × ℕ)) → IsFirstIn Three f → NoCore → (k at : ℕ) → f ≡ Some (k, at) → IsFirstOf s (declared_fault k at)
@@ -298,26 +307,35 @@ module _ (s : Source) where
   lists_is : (d : TypeDecl) → lists d ≡ is_list s d
   lists_is d = λ i. is_list_by (λ n. nil_named (erased s) n i) (λ n. cons_named (erased s) n i) d
 
-  or_false : (a b : Bool) → (a || b) ≡ false → (a ≡ false) × (b ≡ false)
-  or_false true b e = absurd cc
-  or_false false b e = (refl, e)
+  abbrev list_name : Option NameId
+  list_name = name_of (find lists s.types)
 
-  none_lists : (ds : List TypeDecl) → list_any lists ds ≡ false → (i : ℕ) (d : TypeDecl) → slice_get ds i ≡ Some d → is_list s d ≡ false
-  none_lists [] e i d is = absurd cc
-  none_lists (c ∷ ds) e zero d is =
-      let same : c ≡ d = cc in
-      sym (lists_is d) ∙ ap lists (sym same) ∙ (or_false (lists c) (list_any lists ds) e).0
-  none_lists (c ∷ ds) e (suc i) d is = none_lists ds (or_false (lists c) (list_any lists ds) e).1 i d is
+  found_by_name : (o : Option TypeDecl) (n : NameId) → name_of o ≡ Some n → (d : TypeDecl) × (o ≡ Some d) × (d.name.name ≡ n)
+  found_by_name None n e = absurd cc
+  found_by_name (Some d) n e = (d, refl, cc)
 
-  some_lists : (ds : List TypeDecl) → list_any lists ds ≡ true → ((i : ℕ) (d : TypeDecl) → slice_get ds i ≡ Some d → is_list s d ≡ false) → ⊥
-  some_lists [] e h = cc
-  some_lists (c ∷ ds) e h = elim (two_ways (lists c)) [
-    | inl y ↦ (let f : is_list s c ≡ false = h zero c refl in let g : is_list s c ≡ true = sym (lists_is c) ∙ y in true_false (sym g ∙ f))
-    | inr n ↦ some_lists ds (sym (ap (λ b. b || list_any lists ds) n) ∙ e) (λ i d is. h (suc i) d is)
-  ]
-    where
-      true_false : true ≡ false → ⊥
-      true_false e = cc
+  missing : (o : Option TypeDecl) → name_of o ≡ None → o ≡ None
+  missing None e = refl
+  missing (Some d) e = absurd cc
+
+  none_lists : list_name ≡ None → NoList
+  none_lists e i d is = sym (lists_is d) ∙ find_none lists s.types i d (missing (find lists s.types) e) is
+
+  some_lists : (n : NameId) → list_name ≡ Some n → NoList → ⊥
+  some_lists n e none =
+      let f = found_by_name (find lists s.types) n e in
+      let r = find_some lists s.types f.0 f.1 in
+      let both : true ≡ false = sym (sym (lists_is f.0) ∙ r.2) ∙ none r.0 f.0 r.1 in
+      cc
+
+  -- the list of integers
+  abbrev listed : Option TypeDecl → Typed
+  listed o = elim o [ Some d ↦ Named d.name.name.0 (AndTyped Int NoTypeds) | None ↦ Int ]
+
+  pub named_integers : (n : NameId) → list_name ≡ Some n → integers s ≡ Named n.0 (AndTyped Int NoTypeds)
+  named_integers n e =
+      let f = found_by_name (find lists s.types) n e in
+      (λ i. listed (find (λ d. sym (lists_is d) i) s.types)) ∙ ap listed f.1 ∙ ap (λ (n : NameId). Named n.0 (AndTyped Int NoTypeds)) f.2
 
   after_list : NoCore → NoThree → (k at : ℕ) → Found k at → IsBefore (4, 0, 86) (rank k at)
   after_list none three k at (InCore b) = absurd (none k at b)
@@ -325,23 +343,42 @@ module _ (s : Source) where
   after_list none three k at (Rule82 e r) = absurd (three k at (inl (inr (e, r))))
   after_list none three k at (Rule85 e r) = absurd (three k at (inr (e, r)))
   after_list none three k at (Rule86 e z r) = subst (λ n. IsBefore (4, 0, 86) (rank n at)) (sym e) (subst (λ n. IsBefore (4, 0, 86) (4, n, 86)) (sym z) (inr (refl, inr (refl, omega arith))))
+  after_list none three k at (Rule83 e r) = subst (λ n. IsBefore (4, 0, 86) (rank n at)) (sym e) (inl (omega arith))
   after_list none three k at (Rule84 e r) = subst (λ n. IsBefore (4, 0, 86) (rank n at)) (sym e) (inl (omega arith))
 
-  pub list_is_first : IsFirstRefusal (ranked Check) (erased s) None → first_declared ≡ None → list_any lists s.types ≡ false → IsFirstOf s fault.ListType
+  pub list_is_first : IsFirstRefusal (ranked Check) (erased s) None → first_declared ≡ None → list_name ≡ None → IsFirstOf s fault.ListType
   list_is_first h d e = record {
-    broken = rules.ListType (none_lists s.types e);
+    broken = rules.ListType (none_lists e);
     first = λ k at b. after_list (none_in_core h) (none_by first_declared three_first d) k at (found k at b);
+  }
+
+  -- ---- types
+
+  after_mismatch : NoCore → NoThree → (NoList → ⊥) → (place : ℕ) → IsFirstMismatch s (Some place) → (k at : ℕ) → Found k at → IsBefore (5, place, 83) (rank k at)
+  after_mismatch none three list place m k at (InCore b) = absurd (none k at b)
+  after_mismatch none three list place m k at (Rule81 e r) = absurd (three k at (inl (inl (inr (e, r)))))
+  after_mismatch none three list place m k at (Rule82 e r) = absurd (three k at (inl (inr (e, r))))
+  after_mismatch none three list place m k at (Rule85 e r) = absurd (three k at (inr (e, r)))
+  after_mismatch none three list place m k at (Rule86 e z r) = absurd (list r)
+  after_mismatch none three list place m k at (Rule83 e r) = subst (λ n. IsBefore (5, place, 83) (rank n at)) (sym e) (subst (λ (n : ℕ). IsBefore (5, place, 83) (5, n, 83)) (one_mismatch s place at m r) (inr (refl, inr (refl, omega arith))))
+  after_mismatch none three list place m k at (Rule84 e r) = subst (λ n. IsBefore (5, place, 83) (rank n at)) (sym e) (inl (omega arith))
+
+  pub mismatch_is_first : (n : NameId) (at : ℕ) → IsFirstRefusal (ranked Check) (erased s) None → first_declared ≡ None → list_name ≡ Some n → IsFirstMismatch s (Some at) → IsFirstOf s (fault.Mismatch at)
+  mismatch_is_first n at h d l m = record {
+    broken = subst (Broken s 83) m.3 (rules.Mismatch m.0 m.2);
+    first = λ k' at' b. after_mismatch (none_in_core h) (none_by first_declared three_first d) (some_lists n l) at m k' at' (found k' at' b);
   }
 
   -- ---- cases
 
-  after_cases : NoCore → NoThree → (NoList → ⊥) → (place : ℕ) → ((at : ℕ) → partial.Rule84 s at → place ≤ at) → (k at : ℕ) → Found k at → IsBefore (6, place, 84) (rank k at)
-  after_cases none three list place least k at (InCore b) = absurd (none k at b)
-  after_cases none three list place least k at (Rule81 e r) = absurd (three k at (inl (inl (inr (e, r)))))
-  after_cases none three list place least k at (Rule82 e r) = absurd (three k at (inl (inr (e, r))))
-  after_cases none three list place least k at (Rule85 e r) = absurd (three k at (inr (e, r)))
-  after_cases none three list place least k at (Rule86 e z r) = absurd (list r)
-  after_cases none three list place least k at (Rule84 e r) = subst (λ n. IsBefore (6, place, 84) (rank n at)) (sym e) (elim (compared place at) [
+  after_cases : NoCore → NoThree → (NoList → ⊥) → IsFirstMismatch s None → (place : ℕ) → ((at : ℕ) → partial.Rule84 s at → place ≤ at) → (k at : ℕ) → Found k at → IsBefore (6, place, 84) (rank k at)
+  after_cases none three list fits place least k at (InCore b) = absurd (none k at b)
+  after_cases none three list fits place least k at (Rule81 e r) = absurd (three k at (inl (inl (inr (e, r)))))
+  after_cases none three list fits place least k at (Rule82 e r) = absurd (three k at (inl (inr (e, r))))
+  after_cases none three list fits place least k at (Rule85 e r) = absurd (three k at (inr (e, r)))
+  after_cases none three list fits place least k at (Rule86 e z r) = absurd (list r)
+  after_cases none three list fits place least k at (Rule83 e r) = absurd (no_mismatch s at fits r)
+  after_cases none three list fits place least k at (Rule84 e r) = subst (λ n. IsBefore (6, place, 84) (rank n at)) (sym e) (elim (compared place at) [
     | inl l ↦ inr (refl, inl l)
     | inr m ↦ elim m [ inl g ↦ inr (refl, inr (g, omega arith)) | inr g ↦ absurd (let l = least at r in omega (arith, g, l)) ]
   ])
@@ -349,30 +386,28 @@ module _ (s : Source) where
   abbrev first_partial : Option ℕ
   first_partial = partial_in_functions s.types None s.functions
 
-  case_by : (o : Option ℕ) → IsFirstAt (partial.Rule84 s) o → NoCore → NoThree → (NoList → ⊥) → (at : ℕ) → o ≡ Some at → IsFirstOf s (fault.NotExhaustive at)
-  case_by None h none three list at e = absurd cc
-  case_by (Some p) h none three list at e =
+  case_by : (o : Option ℕ) → IsFirstAt (partial.Rule84 s) o → NoCore → NoThree → (NoList → ⊥) → IsFirstMismatch s None → (at : ℕ) → o ≡ Some at → IsFirstOf s (fault.NotExhaustive at)
+  case_by None h none three list fits at e = absurd cc
+  case_by (Some p) h none three list fits at e =
       let same : p ≡ at = cc in
       let h2 : IsFirstAt (partial.Rule84 s) (Some at) = subst (λ q. IsFirstAt (partial.Rule84 s) (Some q)) same h in
-      record { broken = partial.partial_breaks s at h2.0; first = λ k' at' b. after_cases none three list at h2.1 k' at' (found k' at' b) }
+      record { broken = partial.partial_breaks s at h2.0; first = λ k' at' b. after_cases none three list fits at h2.1 k' at' (found k' at' b) }
 
-  list_some : list_any lists s.types ≡ true → NoList → ⊥
-  list_some e h = some_lists s.types e h
-
-  pub case_is_first : (at : ℕ) → IsFirstRefusal (ranked Check) (erased s) None → first_declared ≡ None → list_any lists s.types ≡ true → first_partial ≡ Some at → IsFirstOf s (fault.NotExhaustive at)
-  case_is_first at h d l e = case_by first_partial (partial.partial_first s) (none_in_core h) (none_by first_declared three_first d) (list_some l) at e
+  pub case_is_first : (n : NameId) (at : ℕ) → IsFirstRefusal (ranked Check) (erased s) None → first_declared ≡ None → list_name ≡ Some n → IsFirstMismatch s None → first_partial ≡ Some at → IsFirstOf s (fault.NotExhaustive at)
+  case_is_first n at h d l fits e = case_by first_partial (partial.partial_first s) (none_in_core h) (none_by first_declared three_first d) (some_lists n l) fits at e
 
   no_case : (o : Option ℕ) → IsFirstAt (partial.Rule84 s) o → o ≡ None → (at : ℕ) → partial.Rule84 s at → ⊥
   no_case None h e = h
   no_case (Some p) h e = absurd cc
 
-  never : NoCore → NoThree → (NoList → ⊥) → ((at : ℕ) → partial.Rule84 s at → ⊥) → (k at : ℕ) → Found k at → ⊥
-  never none three list cases k at (InCore b) = none k at b
-  never none three list cases k at (Rule81 e r) = three k at (inl (inl (inr (e, r))))
-  never none three list cases k at (Rule82 e r) = three k at (inl (inr (e, r)))
-  never none three list cases k at (Rule85 e r) = three k at (inr (e, r))
-  never none three list cases k at (Rule86 e z r) = list r
-  never none three list cases k at (Rule84 e r) = cases at r
+  never : NoCore → NoThree → (NoList → ⊥) → IsFirstMismatch s None → ((at : ℕ) → partial.Rule84 s at → ⊥) → (k at : ℕ) → Found k at → ⊥
+  never none three list fits cases k at (InCore b) = none k at b
+  never none three list fits cases k at (Rule81 e r) = three k at (inl (inl (inr (e, r))))
+  never none three list fits cases k at (Rule82 e r) = three k at (inl (inr (e, r)))
+  never none three list fits cases k at (Rule85 e r) = three k at (inr (e, r))
+  never none three list fits cases k at (Rule86 e z r) = list r
+  never none three list fits cases k at (Rule83 e r) = no_mismatch s at fits r
+  never none three list fits cases k at (Rule84 e r) = cases at r
 
-  pub none_broken : IsFirstRefusal (ranked Check) (erased s) None → first_declared ≡ None → list_any lists s.types ≡ true → first_partial ≡ None → IsUnbroken s
-  none_broken h d l e = λ k at b. never (none_in_core h) (none_by first_declared three_first d) (list_some l) (no_case first_partial (partial.partial_first s) e) k at (found k at b)
+  pub none_broken : (n : NameId) → IsFirstRefusal (ranked Check) (erased s) None → first_declared ≡ None → list_name ≡ Some n → IsFirstMismatch s None → first_partial ≡ None → IsJudged s None
+  none_broken n h d l fits e = (λ k at b. never (none_in_core h) (none_by first_declared three_first d) (some_lists n l) fits (no_case first_partial (partial.partial_first s) e) k at (found k at b), fits)

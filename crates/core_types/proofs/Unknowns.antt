@@ -8,7 +8,7 @@ use Rattle.arity_check.specs.Faults.{also}
 use Rattle.arity_check.specs.Whole.{known_of}
 use Rattle.arity_check.proofs.Names.{int_named}
 use Rattle.core_types.specs.Source.{Written, Writtens, Var, Named, Arrow, NoTypes, AndType, Constructor, TypeDecl, Signature, Source, count, erased}
-use Rattle.core_types.specs.Rules.{Has, HasIn, IsBound, params_in, parameters, InFields, Stands, InType, InArgument, InResult, is_named, Broken}
+use Rattle.core_types.specs.Rules.{Has, HasIn, IsBound, params_in, parameters, InFields, Stands, InType, InArgument, InResult, Broken}
 use Rattle.core_types.specs.Rules as rules
 use Rattle.core_types.specs.Found.{IsFirstAt, earlier_if, seen_all, same_count, params_of, unknown_in, unknown_in_all, unknown_in_fields, unknown_in_types, unknown_in_signatures, unknown_names}
 use Rattle.core_types.proofs.Firsts.{Here, Adds, here_adds, then_adds, none_adds, all_added}

@@ -1,7 +1,8 @@
 -- The first places at which rules are broken, as the code finds them. Devices of the proofs.
-use Rattle.std.specs.Prelude.{ℕ, ◌≤◌, ◌==◌, nat_lt, not, ◌&&◌, ◌||◌, Bool, true, false, List, [], ◌∷◌, Option, Some, None, if◌then◌else◌}
+use Rattle.std.specs.Prelude.{◌≡◌, ℕ, ◌≤◌, ◌==◌, nat_lt, not, ◌&&◌, ◌||◌, Bool, true, false, List, [], ◌∷◌, Option, Some, None, if◌then◌else◌}
 use Rattle.std.specs.List.{list_any}
 use Rattle.core_reader.specs.declared.syntax.Binder.{Binder}
+use Rattle.core_reader.specs.declared.syntax.NameId.{NameId}
 use Rattle.core_reader.specs.declared.syntax.Pattern.{Pattern}
 use Rattle.core_reader.specs.declared.syntax.Pattern.TheVariants as pattern
 use Rattle.core_reader.specs.Tree.{Expr, App, Let, Case, Alts, NoAlts, AndAlt, Function}
@@ -11,7 +12,8 @@ use Rattle.arity_check.specs.Known.{Known}
 use Rattle.arity_check.specs.Whole.{int_kind, nil_kind, cons_kind}
 use Rattle.core_types.specs.declared.refusal.TypeFault.{TypeFault}
 use Rattle.core_types.specs.declared.refusal.TypeFault.TheVariants.{DuplicateType, UnknownType, BadSignature}
-use Rattle.core_types.specs.Source.{Written, Writtens, Var, Named, Arrow, NoTypes, AndType, Constructor, TypeDecl, Signature, count}
+use Rattle.core_types.specs.Source.{Written, Writtens, Var, Named, Arrow, NoTypes, AndType, Constructor, TypeDecl, Signature, Source, count}
+use Rattle.core_types.specs.Typing.{Constraint, Substitution, Solves, IsFirstUnsolved, constraints}
 use Rattle.core_types.specs.Rules.{params_in, names_constructor}
 
 -- the first place at which something is broken, where it is broken at any
@@ -29,6 +31,20 @@ abbrev pub sooner : Option (ℕ × ℕ) → ℕ → Option ℕ → Option (ℕ �
 sooner found k None = found
 sooner None k (Some at) = Some (k, at)
 sooner (Some f) k (Some at) = if nat_lt at f.1 then Some (k, at) else Some f
+
+-- ---- types
+
+-- the name of a type, where there is one
+abbrev pub name_of : Option TypeDecl → Option NameId
+name_of None = None
+name_of (Some d) = Some d.name.name
+
+-- the place of the first constraint that has no solution with those before it; where there is none,
+-- the constraints have a solution
+abbrev pub IsFirstMismatch : Source → Option ℕ → Type 0
+IsFirstMismatch s None = (σ : Substitution) × Solves σ (constraints s)
+IsFirstMismatch s (Some at) =
+    (i : ℕ) × (c : Constraint) × IsFirstUnsolved (constraints s) i c × (c.at ≡ at)
 
 -- ---- names that stand again
 

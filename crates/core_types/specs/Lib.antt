@@ -2,10 +2,15 @@
 pub mod Source
 pub mod Grammar
 pub mod Text
+pub mod Lists
 pub mod Rules
 pub mod Refused
 -- types as constraints, and their solutions
 pub mod Typing
+pub mod Nodes
+pub mod Instances
+pub mod Bare
+pub mod Building
 -- what the code keeps, and devices of the proofs
 pub mod SourceOf
 pub mod Reading

@@ -1,41 +1,96 @@
 -- Which broken rule a refusal names, and when a text breaks none.
-use Rattle.std.specs.Prelude.{ℕ, List, Option, Some, None}
-use Rattle.arity_check.specs.Refusal.{rule, number}
+use Rattle.std.specs.Prelude.{◌≡◌, ℕ, List, Option, Some, None}
+use Rattle.core_reader.specs.declared.refusal.ReadRefusal.{ReadRefusal}
+use Rattle.core_reader.specs.declared.refusal.ReadRefusal.TheVariants as unread
+use Rattle.core_reader.specs.Tree.{program as program_of}
+use Rattle.core_reader.specs.Readable.{IsReadable}
+use Rattle.arity_check.specs.Normal.{IsNormalForm}
+use Rattle.arity_check.specs.Program.{program as normal_form}
+use Rattle.arity_check.specs.Refusal as core
 use Rattle.core_types.specs.declared.refusal.TypeFault.{TypeFault}
 use Rattle.core_types.specs.declared.refusal.TypeFault.TheVariants as fault
-use Rattle.core_types.specs.Source.{Source}
-use Rattle.core_types.specs.Text.{IsText, IsRead, IsReadCause}
+use Rattle.core_types.specs.declared.typed.Typed.{Typed}
+use Rattle.core_types.specs.Source.{Source, erased}
+use Rattle.core_types.specs.Text.{IsText, IsRead, IsFirstUnread}
+use Rattle.core_types.specs.Typing.{Substitution, Solves, constraints}
 use Rattle.core_types.specs.Rules.{IsFirstBroken, IsUnbroken}
+
+abbrev pub unread_rule : ReadRefusal → ℕ
+unread_rule (unread.BadByte at) = 1
+unread_rule (unread.Syntax at) = 2
+unread_rule (unread.NumberRange at) = 3
+unread_rule (unread.TooDeep at) = 4
+unread_rule unread.TextTooLong = 5
+unread_rule (unread.Memory e) = 0
+
+abbrev pub unread_place : ReadRefusal → ℕ
+unread_place (unread.BadByte at) = at
+unread_place (unread.Syntax at) = at
+unread_place (unread.NumberRange at) = at
+unread_place (unread.TooDeep at) = at
+unread_place unread.TextTooLong = 1048576
+unread_place (unread.Memory e) = 0
+
+-- the number of the broken rule
+abbrev pub rule : TypeFault → ℕ
+rule (fault.Unread e) = unread_rule e
+rule (fault.Unchecked r) = core.rule r
+rule (fault.DuplicateType at) = 81
+rule (fault.UnknownType at) = 82
+rule (fault.Mismatch at) = 83
+rule (fault.NotExhaustive at) = 84
+rule (fault.BadSignature at) = 85
+rule fault.ListType = 86
+rule (fault.Memory e) = 0
+
+-- the number that is shown with it: the place, or the size for rule 35
+abbrev pub number : TypeFault → ℕ
+number (fault.Unread e) = unread_place e
+number (fault.Unchecked r) = core.number r
+number (fault.DuplicateType at) = at
+number (fault.UnknownType at) = at
+number (fault.Mismatch at) = at
+number (fault.NotExhaustive at) = at
+number (fault.BadSignature at) = at
+number fault.ListType = 0
+number (fault.Memory e) = 0
+
+-- the fault of a text that cannot be read
+abbrev pub unread_fault : ReadRefusal → TypeFault
+unread_fault (unread.Memory e) = fault.Memory e
+unread_fault e = fault.Unread e
 
 -- the refusal names the first rule that the program breaks
 abbrev pub IsFirstOf : Source → TypeFault → Type 0
-IsFirstOf s (fault.Unread e) = ⊥
-IsFirstOf s (fault.Unchecked r) = IsFirstBroken s (rule r) (number r)
-IsFirstOf s (fault.DuplicateType at) = IsFirstBroken s 81 at
-IsFirstOf s (fault.UnknownType at) = IsFirstBroken s 82 at
-IsFirstOf s (fault.BadSignature at) = IsFirstBroken s 85 at
-IsFirstOf s fault.ListType = IsFirstBroken s 86 0
-IsFirstOf s (fault.NotExhaustive at) = IsFirstBroken s 84 at
-IsFirstOf s (fault.Memory e) = ⊥
+IsFirstOf s f = IsFirstBroken s (rule f) (number f)
 
--- the first rule that the program breaks, if it breaks any
-abbrev pub IsFirstFault : Source → Option TypeFault → Type 0
-IsFirstFault s None = IsUnbroken s
-IsFirstFault s (Some f) = IsFirstOf s f
+-- the first rule that the program breaks; or it breaks none, and its constraints have a solution
+abbrev pub IsJudged : Source → Option TypeFault → Type 0
+IsJudged s None = IsUnbroken s × ((σ : Substitution) × Solves σ (constraints s))
+IsJudged s (Some f) = IsFirstOf s f
 
--- The text stands for a program, of which that holds.
-pub record OfSource (text : List ℕ) (P : Source → Type 0) : Type 0 where
-  pub source : Source
-  pub is_text : IsText text source
-  pub holds : P source
+-- Rule k is broken at this place, and no rule is broken before it: what cannot be read comes first.
+pub data IsFirstBrokenText (text : List ℕ) : (k at : ℕ) → Type 0 where
+  Unread : {k at : ℕ} → IsFirstUnread text k at → IsFirstBrokenText text k at
+  Untyped : {k at : ℕ} → IsRead text → (s : Source) → IsText text s → IsFirstBroken s k at
+      → IsFirstBrokenText text k at
 
--- The refusal names the first rule that the text breaks: one of the rules 1 to 5, or else one that
--- its program breaks. Want of memory has no cause in the text.
+-- The refusal names the first rule that the text breaks. Want of memory has no cause in the text.
 abbrev pub IsCause : List ℕ → TypeFault → Type 0
-IsCause text (fault.Unread e) = IsReadCause text e
 IsCause text (fault.Memory e) = Unit {0}
-IsCause text f = OfSource text (λ s. IsFirstOf s f)
+IsCause text f = IsFirstBrokenText text (rule f) (number f)
 
 -- The text breaks no rule.
 abbrev pub IsUnbrokenText : List ℕ → Type 0
 IsUnbrokenText text = IsRead text × ((s : Source) → IsText text s → IsUnbroken s)
+
+-- What was found of a text that stands for a program whose types fit: the program without its types
+-- and its normal form.
+pub record IsTypedAs (text : List ℕ) (found : Typed) : Type 0 where
+  pub source : Source
+  pub is_text : IsText text source
+  pub core : program_of found.core ≡ erased source
+  pub readable : IsReadable (erased source)
+  pub normal : IsNormalForm (erased source) (normal_form found.checked)
+  pub solution : Substitution
+  pub solves : Solves solution (constraints source)

@@ -1,15 +1,16 @@
 -- The rules that a program with types has to keep, each by what breaks it and where, and the order
 -- in which they are named.
-use Rattle.std.specs.Prelude.{◌≡◌, ◌≢◌, ℕ, ◌<◌, ◌⊎◌, ◌==◌, ◌&&◌, ◌||◌, Bool, true, false, ℤ, nat_le, List, [], ◌∷◌, length, Option, Some, None, slice_get, codes, if◌then◌else◌}
+use Rattle.std.specs.Prelude.{◌≡◌, ◌≢◌, ℕ, ◌<◌, ◌⊎◌, ◌==◌, ◌||◌, Bool, true, false, ℤ, nat_le, List, [], ◌∷◌, length, Option, Some, None, slice_get, codes, if◌then◌else◌}
 use Rattle.core_reader.specs.declared.syntax.Binder.{Binder}
 use Rattle.core_reader.specs.declared.syntax.Pattern.{Pattern}
 use Rattle.core_reader.specs.declared.syntax.Pattern.TheVariants as pattern
 use Rattle.core_reader.specs.Tree.{Function, Expr, App, Let, Case, Alts, NoAlts, AndAlt}
-use Rattle.arity_check.specs.Scope as scope
 use Rattle.arity_check.specs.Patterns.{alt_at, pattern_place}
 use Rattle.arity_check.specs.Broken as core
 use Rattle.arity_check.specs.Order as core-order
 use Rattle.arity_check.specs.Order.{IsBefore}
+use Rattle.core_types.specs.Lists.{is_named, is_list}
+use Rattle.core_types.specs.Typing.{Constraint, constraints, IsFirstUnsolved}
 use Rattle.core_types.specs.Source.{Written, Writtens, Var, Named, Arrow, NoTypes, AndType, Constructor, TypeDecl, Signature, Source, count, erased}
 
 -- ---- what stands in types and in expressions
@@ -55,72 +56,10 @@ abbrev pub type_with : List TypeDecl → ℕ → Option TypeDecl
 type_with [] n = None
 type_with (d ∷ ds) n = if names_constructor n d.constructors then Some d else type_with ds n
 
--- ---- lists
-
-abbrev pub is_var : ℕ → Written → Bool
-is_var n (Var b) = b.name.0 == n
-is_var n (Named b args) = false
-is_var n (Arrow from to) = false
-
-abbrev pub is_empty : Writtens → Bool
-is_empty NoTypes = true
-is_empty (AndType t ts) = false
-
--- a variable of this name alone
-abbrev pub is_one_var : ℕ → Writtens → Bool
-is_one_var n NoTypes = false
-is_one_var n (AndType t ts) = is_var n t && is_empty ts
-
--- a type of this name, applied to a variable
-abbrev pub is_applied : ℕ → ℕ → Written → Bool
-is_applied name n (Var b) = false
-is_applied name n (Named b args) = (b.name.0 == name) && is_one_var n args
-is_applied name n (Arrow from to) = false
-
-abbrev pub is_tail : ℕ → ℕ → Writtens → Bool
-is_tail name n NoTypes = false
-is_tail name n (AndType t ts) = is_applied name n t && is_empty ts
-
--- a variable, and a type of this name that is applied to it
-abbrev pub is_item_and_tail : ℕ → ℕ → Writtens → Bool
-is_item_and_tail name n NoTypes = false
-is_item_and_tail name n (AndType t ts) = is_var n t && is_tail name n ts
-
--- which names are those of `Nil` and `Cons`
-module _ (nil cons : ℕ → Bool) where
-  -- these are `Nil` without fields, and `Cons` with an item and the type itself of that item
-  abbrev pub are_list_constructors : ℕ → ℕ → Constructor → Constructor → Bool
-  are_list_constructors name n c d =
-      (nil c.name.name.0 && is_empty c.fields)
-      && (cons d.name.name.0 && is_item_and_tail name n d.fields)
-
-  -- in any order, and no other
-  abbrev pub has_list_constructors : ℕ → ℕ → List Constructor → Bool
-  has_list_constructors name n (c ∷ d ∷ []) =
-      are_list_constructors name n c d || are_list_constructors name n d c
-  has_list_constructors name n cs = false
-
-  abbrev pub is_list_of : TypeDecl → List Binder → Bool
-  is_list_of d (a ∷ []) = has_list_constructors d.name.name.0 a.name.0 d.constructors
-  is_list_of d params = false
-
-  -- a type with one parameter and these constructors
-  abbrev pub is_list_by : TypeDecl → Bool
-  is_list_by d = is_list_of d d.params
-
 module _ (s : Source) where
-  abbrev pub is_named : List ℕ → ℕ → Bool
-  is_named text n = scope.is_named (erased s) text n
-
-  -- the type of lists
-  abbrev pub is_list : TypeDecl → Bool
-  is_list = is_list_by (is_named (codes "Nil")) (is_named (codes "Cons"))
-
-  -- ---- what stands where
-
   -- the number of parameters of a type
   abbrev pub parameters : ℕ → Option ℕ
-  parameters n = if is_named (codes "Int") n then Some 0 else params_in s.types n
+  parameters n = if is_named s (codes "Int") n then Some 0 else params_in s.types n
 
   -- a type stands in a field of a constructor of this type
   abbrev pub InFields : TypeDecl → Written → Type 0
@@ -153,7 +92,7 @@ module _ (s : Source) where
         → slice_get s.types n ≡ Some d → i < j → slice_get d.params i ≡ Some x
         → slice_get d.params j ≡ Some y → y.name.0 ≡ x.name.0 → Broken 81 y.at
     ReservedType : {d : TypeDecl} (i : ℕ) → slice_get s.types i ≡ Some d
-        → is_named (codes "Int") d.name.name.0 ≡ true → Broken 81 d.name.at
+        → is_named s (codes "Int") d.name.name.0 ≡ true → Broken 81 d.name.at
     UnknownType : {b : Binder} {args : Writtens} → Stands (Named b args)
         → parameters b.name.0 ≢ Some (count args) → Broken 82 b.at
     UnknownVariable : {d : TypeDecl} {x : Binder} (i : ℕ) → slice_get s.types i ≡ Some d
@@ -164,15 +103,16 @@ module _ (s : Source) where
     SignedUnknown : {g : Signature} (i : ℕ) → slice_get s.signatures i ≡ Some g
         → ((j : ℕ) (f : Function) → slice_get s.functions j ≡ Some f
         → f.name ≢ g.function.name.0) → Broken 85 g.function.at
-    ListType : ((i : ℕ) (d : TypeDecl) → slice_get s.types i ≡ Some d → is_list d ≡ false)
+    ListType : ((i : ℕ) (d : TypeDecl) → slice_get s.types i ≡ Some d → is_list s d ≡ false)
         → Broken 86 0
     NotExhaustive : {f : Function} {alts : Alts} {p : Pattern} (i : ℕ)
         → slice_get s.functions i ≡ Some f → HasCase f.body alts → alt_at alts 0 ≡ Some p
         → ((j : ℕ) (x : Binder) → alt_at alts j ≢ Some (pattern.Default x))
         → IsPartial alts p → Broken 84 (pattern_place p)
+    Mismatch : {c : Constraint} (i : ℕ) → IsFirstUnsolved (constraints s) i c → Broken 83 c.at
 
 -- the rules of the program without its types in their order; then 81, 82 and 85 by place; then 86;
--- then 83, that types don't fit, which is not among these yet; and last 84 by place
+-- then 83, that types don't fit; and last 84 by place
 abbrev pub rank : ℕ → ℕ → ℕ × ℕ × ℕ
 rank k at =
     if k == 84 then (6, at, k)

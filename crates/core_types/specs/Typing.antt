@@ -11,7 +11,7 @@ use Rattle.arity_check.specs.declared.meaning.Meaning.{Meaning}
 use Rattle.arity_check.specs.declared.meaning.Meaning.TheVariants.{Primitive}
 use Rattle.core_types.specs.Source.{Written, Writtens, NoTypes, AndType, Constructor, TypeDecl, Signature, Source, erased}
 use Rattle.core_types.specs.Source as written
-use Rattle.core_types.specs.Rules.{is_named, is_list}
+use Rattle.core_types.specs.Lists.{is_named, is_list}
 
 -- A variable, by the place at which it comes in: a binder, the result of a function, a bracket with
 -- arguments, the first pattern of a case, or a variable of what is used at a place.

@@ -1,11 +1,11 @@
 //! The type of lists.
 
 ghost use Rattle.std.specs.Prelude.{◌≡◌, map};
-ghost use Rattle.std.specs.List.{list_any};
+ghost use Rattle.std.specs.List.{find};
 ghost use Rattle.arity_check.specs.Tables.{known};
 ghost use Rattle.core_types.specs.SourceOf.{written as tree_of, types_in, constructor_of, type_of};
-ghost use Rattle.core_types.specs.Rules.{is_var, is_empty, is_one_var, is_applied, is_tail, is_item_and_tail, are_list_constructors, is_list_by};
-ghost use Rattle.core_types.specs.Found.{nil_in, cons_in};
+ghost use Rattle.core_types.specs.Lists.{is_var, is_empty, is_one_var, is_applied, is_tail, is_item_and_tail, are_list_constructors, is_list_by};
+ghost use Rattle.core_types.specs.Found.{nil_in, cons_in, name_of};
 
 use crate::source::{Constructor, TypeDecl, Written};
 use arity_check::globals::Globals;
@@ -119,15 +119,15 @@ fn is_list(globals: &Globals, declared: &TypeDecl) -> bool
     are_list_constructors(globals, name, param.name, second, first)
 }
 
-/// Whether one of the types is that of lists.
-pub fn has_list(globals: &Globals, types: &[TypeDecl]) -> bool
-    ensures { result ≡ list_any (is_list_by (nil_in (known globals.now))
-        (cons_in (known globals.now))) (map type_of types.now) }
+/// The name of the type of lists.
+pub fn list_type(globals: &Globals, types: &[TypeDecl]) -> Option<NameId>
+    ensures { result ≡ name_of (find (is_list_by (nil_in (known globals.now))
+        (cons_in (known globals.now))) (map type_of types.now)) }
 {
     for declared in types {
         if is_list(globals, declared) {
-            return true;
+            return Some(declared.name.name);
         }
     }
-    false
+    None
 }

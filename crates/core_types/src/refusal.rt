@@ -1,7 +1,8 @@
 //! Why a program with types is refused.
 
 ghost use Rattle.std.specs.Prelude.{◌≡◌, alloc_error};
-ghost use Rattle.core_types.specs.declared.refusal.TypeFault.TheVariants.{Unread, Memory};
+ghost use Rattle.core_types.specs.declared.refusal.TypeFault.TheVariants.{Memory};
+ghost use Rattle.core_types.specs.Refused.{rule, number, unread_rule, unread_place, unread_fault};
 
 use arity_check::refusal::CheckRefusal;
 use core_reader::ReadRefusal;
@@ -33,6 +34,10 @@ pub enum TypeFault {
     /// Rule 86: no type with one parameter has `Nil` and `Cons`, as lists have them.
     #[error("`Nil` and `Cons` are not the constructors of lists")]
     ListType,
+    /// Rule 83: the types of two sides do not fit; the first place of a constraint that has no
+    /// solution with those before it.
+    #[error("the types at byte {0} do not fit")]
+    Mismatch(u32),
     /// Rule 84: a case without default has an integer, or lacks a constructor of its type; the
     /// first pattern.
     #[error("the case whose first pattern is at byte {0} does not take every value")]
@@ -50,9 +55,79 @@ impl From<AllocError> for TypeFault {
 }
 
 impl From<ReadRefusal> for TypeFault {
-    ghost from_gives = { λ r e. e ≡ Unread r };
+    ghost from_gives = { λ r e. e ≡ unread_fault r };
 
     fn from(refusal: ReadRefusal) -> TypeFault {
-        TypeFault::Unread(refusal)
+        match refusal {
+            ReadRefusal::Memory(error) => TypeFault::Memory(error),
+            ReadRefusal::BadByte(at) => TypeFault::Unread(ReadRefusal::BadByte(at)),
+            ReadRefusal::Syntax(at) => TypeFault::Unread(ReadRefusal::Syntax(at)),
+            ReadRefusal::NumberRange(at) => TypeFault::Unread(ReadRefusal::NumberRange(at)),
+            ReadRefusal::TooDeep(at) => TypeFault::Unread(ReadRefusal::TooDeep(at)),
+            ReadRefusal::TextTooLong => TypeFault::Unread(ReadRefusal::TextTooLong),
+        }
+    }
+}
+
+/// The number of the rule that a text breaks that cannot be read; 0 for want of memory.
+fn unread_rule(refusal: &ReadRefusal) -> u8
+    ensures { result ≡ unread_rule refusal.now }
+{
+    match refusal {
+        ReadRefusal::BadByte(_) => 1,
+        ReadRefusal::Syntax(_) => 2,
+        ReadRefusal::NumberRange(_) => 3,
+        ReadRefusal::TooDeep(_) => 4,
+        ReadRefusal::TextTooLong => 5,
+        ReadRefusal::Memory(_) => 0,
+    }
+}
+
+/// The place in bytes at which it does.
+fn unread_place(refusal: &ReadRefusal) -> u32
+    ensures { result ≡ unread_place refusal.now }
+{
+    match refusal {
+        ReadRefusal::BadByte(at)
+        | ReadRefusal::Syntax(at)
+        | ReadRefusal::NumberRange(at)
+        | ReadRefusal::TooDeep(at) => *at,
+        ReadRefusal::TextTooLong => 1048576,
+        ReadRefusal::Memory(_) => 0,
+    }
+}
+
+impl TypeFault {
+    /// The number of the broken rule; 0 for want of memory.
+    pub fn rule(&self) -> u8
+        ensures { result ≡ rule self.now }
+    {
+        match self {
+            TypeFault::Unread(refusal) => unread_rule(refusal),
+            TypeFault::Unchecked(refusal) => refusal.rule(),
+            TypeFault::DuplicateType(_) => 81,
+            TypeFault::UnknownType(_) => 82,
+            TypeFault::Mismatch(_) => 83,
+            TypeFault::NotExhaustive(_) => 84,
+            TypeFault::BadSignature(_) => 85,
+            TypeFault::ListType => 86,
+            TypeFault::Memory(_) => 0,
+        }
+    }
+
+    /// The place in bytes, the size of the program for rule 35, or 0 where there is neither.
+    pub fn number(&self) -> u64
+        ensures { result ≡ number self.now }
+    {
+        match self {
+            TypeFault::Unread(refusal) => u64::from(unread_place(refusal)),
+            TypeFault::Unchecked(refusal) => refusal.number(),
+            TypeFault::DuplicateType(at)
+            | TypeFault::UnknownType(at)
+            | TypeFault::Mismatch(at)
+            | TypeFault::NotExhaustive(at)
+            | TypeFault::BadSignature(at) => u64::from(*at),
+            TypeFault::ListType | TypeFault::Memory(_) => 0,
+        }
     }
 }

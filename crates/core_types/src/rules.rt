@@ -1,26 +1,31 @@
 //! The rules that a program with types has to keep.
 
-ghost use Rattle.std.specs.Prelude.{◌≡◌, OnOk, IfOk, IfErr};
+ghost use Rattle.std.specs.Prelude.{◌≡◌, slice_get, IfOk};
 ghost use Rattle.core_reader.specs.Tree.{program as program_of};
 ghost use Rattle.core_reader.specs.Readable.{IsReadable};
 ghost use Rattle.arity_check.specs.Tables.{known};
+ghost use Rattle.arity_check.specs.Whole.{known_of};
 ghost use Rattle.core_types.specs.Source.{erased};
 ghost use Rattle.core_types.specs.SourceOf.{source_of};
-ghost use Rattle.core_types.specs.Text.{IsText};
-ghost use Rattle.core_types.specs.Refused.{IsFirstFault, IsCause, IsUnbrokenText};
-ghost use Rattle.core_types.specs.Found.{declared_first, declared_fault};
+ghost use Rattle.core_types.specs.Typing.{Int, Named, AndTyped, NoTypeds, integers};
+ghost use Rattle.core_types.specs.Refused.{IsJudged};
+ghost use Rattle.core_types.specs.Found.{declared_first, declared_fault, IsFirstMismatch};
 
+use crate::building::Builder;
+use crate::context::Context;
 use crate::declared::{signatures_again, types_again, unknown_types};
 use crate::exhaustive::partial_cases;
-use crate::lists::has_list;
+use crate::functions::constrained;
+use crate::lists::list_type;
 use crate::places::sooner;
 use crate::refusal::TypeFault;
 use crate::source::Source;
-use crate::text::read_source;
 use arity_check::globals::Globals;
 use arity_check::order::Order;
 use arity_check::program::first_refusal;
+use core_reader::NameId;
 use std::alloc::{AllocError, Global};
+use unification::first_unsolved;
 
 /// The first of the rules 81, 82 and 85 that a program breaks, by place.
 fn declared(
@@ -52,45 +57,65 @@ fn fault(rule: u8, at: u32) -> TypeFault
     TypeFault::BadSignature(at)
 }
 
+/// The place of the constraint of this number.
+fn place_of(builder: &Builder, number: usize) -> Option<u32>
+    ensures { result ≡ slice_get builder.now.places.items number }
+{
+    builder.places.as_slice().get(number).copied()
+}
+
+/// The place of the first constraint of a program that has no solution with those before it. Lists
+/// are of the type of this name.
+fn mismatch(
+    alloc: Global,
+    globals: &Globals,
+    source: &Source,
+    lists: NameId,
+) -> Result<Option<u32>, AllocError>
+    requires tables { known globals.now ≡ known_of (erased (source_of source.now)) }
+    requires lists { integers (source_of source.now) ≡ Named lists.0 (AndTyped Int NoTypeds) }
+    ensures { IfOk result (IsFirstMismatch (source_of source.now)) }
+{
+    let context = Context::new(alloc, source, globals, lists)?;
+    let builder = constrained(alloc, &context)?;
+    let pairs = builder.pairs.as_slice();
+    let unsolved = first_unsolved(alloc, builder.nodes.terms.as_slice(), pairs)?;
+    match unsolved {
+        Some(number) => Ok(place_of(&builder, number)),
+        None => Ok(None),
+    }
+}
+
 /// The first rule that a program breaks.
-fn first_broken(alloc: Global, source: &Source) -> Result<Option<TypeFault>, AllocError>
+pub fn first_broken(
+    alloc: Global,
+    globals: &Globals,
+    source: &Source,
+) -> Result<Option<TypeFault>, AllocError>
+    requires tables { known globals.now ≡ known_of (erased (source_of source.now)) }
     requires erased { program_of source.now.core ≡ erased (source_of source.now) }
     requires readable { IsReadable (erased (source_of source.now)) }
-    ensures { IfOk result (λ fault. IsFirstFault (source_of source.now) fault) }
+    ensures { IfOk result (IsJudged (source_of source.now)) }
 {
-    let globals = Globals::new(alloc, &source.core)?;
-    let refusal = first_refusal(alloc, Order::Check, &source.core, &globals)?;
+    let refusal = first_refusal(alloc, Order::Check, &source.core, globals)?;
     if let Some(refusal) = refusal {
         return Ok(Some(TypeFault::Unchecked(refusal)));
     }
-    let found = declared(alloc, &globals, source)?;
+    let found = declared(alloc, globals, source)?;
     if let Some((rule, at)) = found {
         return Ok(Some(fault(rule, at)));
     }
     let types = source.types.as_slice();
-    if !has_list(&globals, types) {
+    let Some(lists) = list_type(globals, types) else {
         return Ok(Some(TypeFault::ListType));
+    };
+    let mismatch = mismatch(alloc, globals, source, lists)?;
+    if let Some(at) = mismatch {
+        return Ok(Some(TypeFault::Mismatch(at)));
     }
     let partial = partial_cases(alloc, types, source.core.functions.as_slice())?;
     match partial {
         Some(at) => Ok(Some(TypeFault::NotExhaustive(at))),
         None => Ok(None),
-    }
-}
-
-/// The program with types that a text stands for, or the first rule that the text breaks. Want of
-/// memory may come in place of each answer.
-pub fn check_source(alloc: Global, text: &[u8]) -> Result<Source, TypeFault>
-    ensures found { IfOk result (λ s. IsText text.now (source_of s)) }
-    ensures erased { IfOk result (λ s. program_of s.core ≡ erased (source_of s)) }
-    ensures readable { IfOk result (λ s. IsReadable (erased (source_of s))) }
-    ensures unbroken { OnOk result (IsUnbrokenText text.now) }
-    ensures refused { IfErr result (IsCause text.now) }
-{
-    let source = read_source(alloc, text)?;
-    let broken = first_broken(alloc, &source)?;
-    match broken {
-        Some(fault) => Err(fault),
-        None => Ok(source),
     }
 }

@@ -11,11 +11,11 @@ use Rattle.grin_syntax.proofs.TreeOf.{before_of-Store}
 use Rattle.seq.proofs.Lists.{take_next}
 use Rattle.dead_store.specs.Reads.{act_reads, code_reads, arms_reads, reads_of}
 use Rattle.dead_store.specs.Without.{cells_left, act_left, code_left, arms_left, left_of}
-use Rattle.dead_store.proofs.Walked.{Folds, all, procs_next}
+use Rattle.pass_ground.proofs.Walked.{Folds, all, procs_next}
 
-pub reads : Folds act_reads code_reads arms_reads
+pub reads : (stored : ℕ → Bool) → Folds (act_reads stored) (code_reads stored) (arms_reads stored)
 unfolding act_reads
-reads = record { of_end = λ o. refl; of_bind = λ t o b. refl; of_none = refl; of_arm = λ s b as'. refl }
+reads stored = record { of_end = λ o. refl; of_bind = λ t o b. refl; of_none = refl; of_arm = λ s b as'. refl }
 
 pub left : (stays : ℕ → Bool) → Folds (act_left stays) (code_left stays) (arms_left stays)
 unfolding act_left
@@ -45,12 +45,12 @@ module _ (stays : ℕ → Bool) where
 
 -- ---- procedures
 
-read_all : (qs : List Procedure) → all reads qs ≡ reads_of qs
-read_all [] = refl
-read_all (q ∷ qs) = ap (λ l. code_reads q.body ++ l) (read_all qs)
+read_all : (stored : ℕ → Bool) (qs : List Procedure) → all (reads stored) qs ≡ reads_of stored qs
+read_all stored [] = refl
+read_all stored (q ∷ qs) = ap (λ l. code_reads stored q.body ++ l) (read_all stored qs)
 
-pub reads_next : (ps : List Proc) (i : ℕ) (p : Proc) (old new : List Word) → i < length ps → p ≡ get_or ps i p → new ≡ old ++ code_reads (code_of p.body) → old ≡ reads_of (map procedure_of (take i ps)) → new ≡ reads_of (map procedure_of (take (i + 1) ps))
-reads_next ps i p old new lt e n o = procs_next reads ps i p old new lt e n (o ∙ sym (read_all (map procedure_of (take i ps)))) ∙ read_all (map procedure_of (take (i + 1) ps))
+pub reads_next : (stored : ℕ → Bool) (ps : List Proc) (i : ℕ) (p : Proc) (old new : List Word) → i < length ps → p ≡ get_or ps i p → new ≡ old ++ code_reads stored (code_of p.body) → old ≡ reads_of stored (map procedure_of (take i ps)) → new ≡ reads_of stored (map procedure_of (take (i + 1) ps))
+reads_next stored ps i p old new lt e n o = procs_next (reads stored) ps i p old new lt e n (o ∙ sym (read_all stored (map procedure_of (take i ps)))) ∙ read_all stored (map procedure_of (take (i + 1) ps))
 
 left_all : (stays : ℕ → Bool) (qs : List Procedure) → all (left stays) qs ≡ left_of stays qs
 left_all stays [] = refl

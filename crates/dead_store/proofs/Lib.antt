@@ -1,6 +1,7 @@
 pub mod Renaming
 pub mod Heaps
 pub mod Related
+pub mod Owned
 pub mod Growing
 pub mod OneStores
 pub mod Fine
@@ -10,7 +11,6 @@ pub mod Same
 pub mod Shape
 pub mod Well
 pub mod PassContract
-pub mod Walked
 pub mod Collected
 pub mod Numbers
 pub mod Rewriting

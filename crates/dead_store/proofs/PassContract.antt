@@ -3,7 +3,7 @@ use Rattle.std.proofs.Common.{◌≡◌, ℕ, Bool, ◌+◌, ◌*◌, ◌≤◌,
 use Rattle.grin_syntax.specs.Tree.{Procedure, Program}
 use Rattle.grin_meaning.specs.Ready.{most_value_fields, IsInlined, IsFetchedByWords, Ready}
 use Rattle.grin_meaning.specs.Keeps.{Keeps}
-use Rattle.grin_meaning.specs.Slim.{procs_weight, Slim}
+use Rattle.grin_meaning.specs.Slim.{procs_weight, procs_calls, Slim}
 use Rattle.grin_meaning.proofs.Looked.{looking_law}
 use Rattle.flow_system.specs.Tables.{tables}
 use Rattle.flow_system.specs.System.{system}
@@ -13,7 +13,7 @@ use Rattle.dead_store.specs.Staying.{AreStaying}
 use Rattle.dead_store.specs.Without.{without_procs, is_gone, without}
 use Rattle.dead_store.specs.Stored.{ByLeast, Stored}
 use Rattle.dead_store.proofs.Same.{fine, kept_too, heaps_kept}
-use Rattle.dead_store.proofs.Shape.{procs_inlined, procs_vectorised, procs_by_words, procs_narrow, procs_give, procs_params, procs_count, procs_lighter, procs_calls_stay, procs_words, procs_sites_stay}
+use Rattle.dead_store.proofs.Shape.{procs_inlined, procs_vectorised, procs_by_words, procs_narrow, procs_give, procs_params, procs_count, procs_lighter, procs_calls_fewer, procs_words, procs_sites_stay}
 use Rattle.dead_store.proofs.Well.{without_formed, without_outside}
 
 module _ (g : Program) (A : Solution) (stays : ℕ → Bool) (of : OfVectors g) (words : IsFetchedByWords g) (least : IsLeast (tables g) (system g) A) (decided : AreStaying A g stays) where
@@ -39,7 +39,7 @@ module _ (g : Program) (A : Solution) (stays : ℕ → Bool) (of : OfVectors g) 
   slim : (size most : ℕ) → Slim size most g → Slim size most (without stays g)
   slim size most s = record {
     light = let l : procs_weight (without stays g).procs ≤ procs_weight g.procs = procs_lighter stays gone g.procs in let k : procs_weight g.procs ≤ 48 * size = s.light in omega (arith, l, k);
-    few_calls = subst (λ n. n ≤ size) (sym (procs_calls_stay stays gone g.procs)) s.few_calls;
+    few_calls = let l : procs_calls (without stays g).procs ≤ procs_calls g.procs = procs_calls_fewer stays gone g.procs in let k : procs_calls g.procs ≤ size = s.few_calls in omega (arith, l, k);
     few_words = procs_words stays gone (20 * most) g.procs s.few_words;
   }
 

@@ -23,7 +23,7 @@ use Rattle.dead_store.specs.Without.{without_word, without_val, kept_cell, kept_
 use Rattle.dead_store.proofs.Renaming.{f, node_to, value_to, bindings_to, made_renamed, node_renamed, filled_renamed}
 use Rattle.dead_store.proofs.Heaps.{Begins, cell_to, stays_get, rank_next}
 
-get_here : {X : Type 0} (xs : List X) (x : X) (ys : List X) → slice_get (xs ++ x ∷ ys) (length xs) ≡ Some x
+pub get_here : {X : Type 0} (xs : List X) (x : X) (ys : List X) → slice_get (xs ++ x ∷ ys) (length xs) ≡ Some x
 get_here [] x ys = refl
 get_here (z ∷ xs) x ys = get_here xs x ys
 

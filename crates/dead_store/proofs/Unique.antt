@@ -1,5 +1,5 @@
 -- The pieces of a well-formed program are fine: variables are bound once, and each cell of a site that leaves is never read.
-use Rattle.std.proofs.Common.{◌≡◌, ℕ, ◌+◌, ◌≤◌, Bool, true, false, cond, not, nat_eq, List, [], ◌∷◌, ◌++◌, refl, sym, ap, ◌∙◌, ⊎_elim, arith}
+use Rattle.std.proofs.Common.{◌≡◌, ℕ, ◌+◌, ◌≤◌, Bool, true, false, cond, not, nat_eq, List, [], ◌∷◌, ◌++◌, refl, sym, ap, ◌∙◌, inl, inr, ⊎_elim, arith}
 use Rattle.grin_syntax.specs.declared.program.Cell.{Cell}
 use Rattle.grin_syntax.specs.declared.program.Word.{Word}
 use Rattle.grin_syntax.specs.Tree.{Code, end, store, bind, Act, unit, fetch, fetch_word, update, eval, apply, call, prim, read, write, case, nested, fail, Arms, no_arm, arm, Procedure, Program}
@@ -12,9 +12,9 @@ use Rattle.std.specs.Prelude.{◌||◌}
 use Rattle.seq.specs.Lists.{times, is_among}
 use Rattle.seq.proofs.Counted.{times_append, times_fewer, one_at, not_among_times}
 use Rattle.seq.proofs.Truth.{two_ways, false_not_true}
-use Rattle.dead_store.specs.Reads.{act_reads, code_reads, arms_reads, reads_of}
-use Rattle.dead_store.specs.Without.{cells_left, act_left, code_left, arms_left, left_of, is_gone}
-use Rattle.dead_store.proofs.Fine.{WordStays, IsThere, CellFine, ActFine, CodeFine, ArmsFine}
+use Rattle.dead_store.specs.Reads.{is_one_of, update_reads, act_reads, code_reads, arms_reads, reads_of}
+use Rattle.dead_store.specs.Without.{cells_left, act_left, code_left, arms_left, left_of, is_gone, is_stored}
+use Rattle.dead_store.proofs.Fine.{WordStays, IsThere, IsOther, UpdateFine, CellFine, ActFine, CodeFine, ArmsFine}
 
 among_times : (x : ℕ) (xs : List ℕ) → is_among x xs ≡ true → 1 ≤ times x xs
 among_times x [] h = false_not_true h
@@ -84,137 +84,185 @@ module _ (stays : ℕ → Bool) (y : ℕ) where
       let k : times y (numbers_of q.params ++ code_vars q.body) ≡ times y (numbers_of q.params) + times y (code_vars q.body) = times_append y (numbers_of q.params) (code_vars q.body) in
       omega (arith, l, e, f, k)
 
-module _ (A : Solution) (g : Program) (stays gone : ℕ → Bool) where
+-- no cell stays
+abbrev none : ℕ → Bool
+none s = false
+
+module _ (gone : ℕ → Bool) where
   -- a piece that binds these variables, those `left` of cells that leave; elsewhere a variable of a cell that leaves stands so often
-  pub record Parted (vars left : List ℕ) (elsewhere : ℕ → ℕ) : Type 0 where
+  record Parted (vars left : List ℕ) : Type 0 where
+    pub elsewhere : ℕ → ℕ
     pub once : (y : ℕ) → times y vars + elsewhere y ≤ 1
     pub gone_are : (y : ℕ) → gone y ≡ true → 1 ≤ times y left + elsewhere y
     pub left_are : (y : ℕ) → 1 ≤ times y left → gone y ≡ true
 
-  parted_front : (us vs ls ms : List ℕ) (E : ℕ → ℕ) → ((y : ℕ) → times y ms ≤ times y vs) → Parted (us ++ vs) (ls ++ ms) E → Parted us ls (λ y. times y ms + E y)
-  parted_front us vs ls ms E fewer p = record {
-    once = λ y. let e : times y (us ++ vs) ≡ times y us + times y vs = times_append y us vs in let o : times y (us ++ vs) + E y ≤ 1 = p.once y in let f : times y ms ≤ times y vs = fewer y in omega (arith, e, o, f);
-    gone_are = λ y n. let e : times y (ls ++ ms) ≡ times y ls + times y ms = times_append y ls ms in let o : 1 ≤ times y (ls ++ ms) + E y = p.gone_are y n in omega (arith, e, o);
+  parted_front : (us vs ls ms : List ℕ) → ((y : ℕ) → times y ms ≤ times y vs) → Parted (us ++ vs) (ls ++ ms) → Parted us ls
+  parted_front us vs ls ms fewer p = record {
+    elsewhere = λ y. times y ms + p.elsewhere y;
+    once = λ y. let e : times y (us ++ vs) ≡ times y us + times y vs = times_append y us vs in let o : times y (us ++ vs) + p.elsewhere y ≤ 1 = p.once y in let f : times y ms ≤ times y vs = fewer y in omega (arith, e, o, f);
+    gone_are = λ y n. let e : times y (ls ++ ms) ≡ times y ls + times y ms = times_append y ls ms in let o : 1 ≤ times y (ls ++ ms) + p.elsewhere y = p.gone_are y n in omega (arith, e, o);
     left_are = λ y h. p.left_are y (let e : times y (ls ++ ms) ≡ times y ls + times y ms = times_append y ls ms in omega (arith, e, h));
   }
 
-  parted_back : (us vs ls ms : List ℕ) (E : ℕ → ℕ) → ((y : ℕ) → times y ls ≤ times y us) → Parted (us ++ vs) (ls ++ ms) E → Parted vs ms (λ y. times y ls + E y)
-  parted_back us vs ls ms E fewer p = record {
-    once = λ y. let e : times y (us ++ vs) ≡ times y us + times y vs = times_append y us vs in let o : times y (us ++ vs) + E y ≤ 1 = p.once y in let f : times y ls ≤ times y us = fewer y in omega (arith, e, o, f);
-    gone_are = λ y n. let e : times y (ls ++ ms) ≡ times y ls + times y ms = times_append y ls ms in let o : 1 ≤ times y (ls ++ ms) + E y = p.gone_are y n in omega (arith, e, o);
+  parted_back : (us vs ls ms : List ℕ) → ((y : ℕ) → times y ls ≤ times y us) → Parted (us ++ vs) (ls ++ ms) → Parted vs ms
+  parted_back us vs ls ms fewer p = record {
+    elsewhere = λ y. times y ls + p.elsewhere y;
+    once = λ y. let e : times y (us ++ vs) ≡ times y us + times y vs = times_append y us vs in let o : times y (us ++ vs) + p.elsewhere y ≤ 1 = p.once y in let f : times y ls ≤ times y us = fewer y in omega (arith, e, o, f);
+    gone_are = λ y n. let e : times y (ls ++ ms) ≡ times y ls + times y ms = times_append y ls ms in let o : 1 ≤ times y (ls ++ ms) + p.elsewhere y = p.gone_are y n in omega (arith, e, o);
     left_are = λ y h. p.left_are y (let e : times y (ls ++ ms) ≡ times y ls + times y ms = times_append y ls ms in omega (arith, e, h));
   }
 
   -- after variables that stay
-  parted_later : (us vs ls : List ℕ) (E : ℕ → ℕ) → Parted (us ++ vs) ls E → Parted vs ls E
-  parted_later us vs ls E p = record {
-    once = λ y. let e : times y (us ++ vs) ≡ times y us + times y vs = times_append y us vs in let o : times y (us ++ vs) + E y ≤ 1 = p.once y in omega (arith, e, o);
+  parted_later : (us vs ls : List ℕ) → Parted (us ++ vs) ls → Parted vs ls
+  parted_later us vs ls p = record {
+    elsewhere = p.elsewhere;
+    once = λ y. let e : times y (us ++ vs) ≡ times y us + times y vs = times_append y us vs in let o : times y (us ++ vs) + p.elsewhere y ≤ 1 = p.once y in omega (arith, e, o);
     gone_are = p.gone_are;
     left_are = p.left_are;
   }
 
   -- these variables stay
-  they_stay : (us vs ls : List ℕ) (E : ℕ → ℕ) → ((y : ℕ) → times y ls ≤ times y vs) → Parted (us ++ vs) ls E → (y : ℕ) → 1 ≤ times y us → gone y ≡ false
-  they_stay us vs ls E fewer p y h = ⊎_elim (λ n. absurd (impossible n)) (λ n. n) (two_ways (gone y))
+  they_stay : (us vs ls : List ℕ) → ((y : ℕ) → times y ls ≤ times y vs) → Parted (us ++ vs) ls → (y : ℕ) → 1 ≤ times y us → gone y ≡ false
+  they_stay us vs ls fewer p y h = ⊎_elim (λ n. absurd (impossible n)) (λ n. n) (two_ways (gone y))
     where
       impossible : gone y ≡ true → ⊥
       impossible n =
           let e : times y (us ++ vs) ≡ times y us + times y vs = times_append y us vs in
-          let o : times y (us ++ vs) + E y ≤ 1 = p.once y in
+          let o : times y (us ++ vs) + p.elsewhere y ≤ 1 = p.once y in
           let f : times y ls ≤ times y vs = fewer y in
-          let k : 1 ≤ times y ls + E y = p.gone_are y n in
+          let k : 1 ≤ times y ls + p.elsewhere y = p.gone_are y n in
           omega (arith, e, o, f, k, h)
 
-  cells_fine : (cs : List Cell) (E : ℕ → ℕ) → Parted (cell_vars cs) (cells_left stays cs) E → AllOf (λ c. NoNodeVar c.val) cs → AllOf (CellFine A g stays gone) cs
-  cells_fine [] E p n = tt
-  cells_fine (c ∷ cs) E p n = go (stays c.site.0) refl p (λ E p. cells_fine cs E p n.1)
+-- the variables of cells that leave, and those that are stored, which would leave if no cell stayed
+module _ (gone stored : ℕ → Bool) where
+  record Both (vars left own : List ℕ) : Type 0 where
+    pub leaving : Parted gone vars left
+    pub owned : Parted stored vars own
+
+  both_front : (us vs ls ms ks ns : List ℕ) → ((y : ℕ) → times y ms ≤ times y vs) → ((y : ℕ) → times y ns ≤ times y vs) → Both (us ++ vs) (ls ++ ms) (ks ++ ns) → Both us ls ks
+  both_front us vs ls ms ks ns f f' p = record { leaving = parted_front gone us vs ls ms f p.leaving; owned = parted_front stored us vs ks ns f' p.owned }
+
+  both_back : (us vs ls ms ks ns : List ℕ) → ((y : ℕ) → times y ls ≤ times y us) → ((y : ℕ) → times y ks ≤ times y us) → Both (us ++ vs) (ls ++ ms) (ks ++ ns) → Both vs ms ns
+  both_back us vs ls ms ks ns f f' p = record { leaving = parted_back gone us vs ls ms f p.leaving; owned = parted_back stored us vs ks ns f' p.owned }
+
+  both_later : (us vs ls ks : List ℕ) → Both (us ++ vs) ls ks → Both vs ls ks
+  both_later us vs ls ks p = record { leaving = parted_later gone us vs ls p.leaving; owned = parted_later stored us vs ks p.owned }
+
+module _ (A : Solution) (g : Program) (stays gone stored : ℕ → Bool) where
+  -- variables that something else than a store binds
+  others : (us vs ls ks : List ℕ) → ((y : ℕ) → times y ls ≤ times y vs) → ((y : ℕ) → times y ks ≤ times y vs) → Both gone stored (us ++ vs) ls ks → AllOf (IsThere A g stays gone stored) us × AllOf (IsOther A g stays gone stored) us
+  others us vs ls ks f f' p = (all_in (IsThere A g stays gone stored) us (they_stay gone us vs ls f p.leaving), all_in (IsOther A g stays gone stored) us (they_stay stored us vs ks f' p.owned))
+
+  cells_fine : (cs : List Cell) → Parted gone (cell_vars cs) (cells_left stays cs) → AllOf (λ c. NoNodeVar c.val) cs → AllOf (CellFine A g stays gone stored) cs
+  cells_fine [] p n = tt
+  cells_fine (c ∷ cs) p n = go (stays c.site.0) refl p (λ p. cells_fine cs p n.1)
     where
-      go : (b : Bool) → stays c.site.0 ≡ b → Parted (c.var.0 ∷ cell_vars cs) (cond b (cells_left stays cs) (c.var.0 ∷ cells_left stays cs)) E
-          → ((E : ℕ → ℕ) → Parted (cell_vars cs) (cells_left stays cs) E → AllOf (CellFine A g stays gone) cs) → AllOf (CellFine A g stays gone) (c ∷ cs)
+      go : (b : Bool) → stays c.site.0 ≡ b → Parted gone (c.var.0 ∷ cell_vars cs) (cond b (cells_left stays cs) (c.var.0 ∷ cells_left stays cs))
+          → (Parted gone (cell_vars cs) (cells_left stays cs) → AllOf (CellFine A g stays gone stored) cs) → AllOf (CellFine A g stays gone stored) (c ∷ cs)
       go true q p rest = (
-        (they_stay (c.var.0 ∷ []) (cell_vars cs) (cells_left stays cs) E (λ y. cells_fewer stays y cs) p c.var.0 (let o : cond (nat_eq c.var.0 c.var.0) 1 0 ≡ 1 = one_at c.var.0 in omega (arith, o)) ∙ sym (ap not q), n.0),
-        rest E (parted_later (c.var.0 ∷ []) (cell_vars cs) (cells_left stays cs) E p),
+        (they_stay gone (c.var.0 ∷ []) (cell_vars cs) (cells_left stays cs) (λ y. cells_fewer stays y cs) p c.var.0 (let o : cond (nat_eq c.var.0 c.var.0) 1 0 ≡ 1 = one_at c.var.0 in omega (arith, o)) ∙ sym (ap not q), n.0),
+        rest (parted_later gone (c.var.0 ∷ []) (cell_vars cs) (cells_left stays cs) p),
       )
       go false q p rest = (
         (p.left_are c.var.0 (let o : cond (nat_eq c.var.0 c.var.0) 1 0 ≡ 1 = one_at c.var.0 in omega (arith, o)) ∙ sym (ap not q), n.0),
-        rest (λ y. times y (c.var.0 ∷ []) + E y) (parted_back (c.var.0 ∷ []) (cell_vars cs) (c.var.0 ∷ []) (cells_left stays cs) E (λ y. omega arith) p),
+        rest (parted_back gone (c.var.0 ∷ []) (cell_vars cs) (c.var.0 ∷ []) (cells_left stays cs) (λ y. omega arith) p),
       )
 
   abbrev pub Read : List Word → Type 0
   Read = AllOf (WordStays A g stays)
 
+  update_fine : (a : Word) → Read (update_reads stored a) → UpdateFine A g stays gone stored a
+  update_fine a r = go (is_one_of stored a) refl r
+    where
+      go : (b : Bool) → is_one_of stored a ≡ b → Read (cond b [] (a ∷ [])) → UpdateFine A g stays gone stored a
+      go true e r = inl e
+      go false e r = inr r.0
+
+  abbrev Parts : (vars left own : List ℕ) → Type 0
+  Parts = Both gone stored
+
   mutual
     unfolding act_reads act_left act_vars EachAct ActFine
 
-    act_fine : (o : Act) (E : ℕ → ℕ) → EachAct inlined_kind o → EachAct by_words_kind o → EachAct vectorised_kind o → Read (act_reads o) → Parted (act_vars o) (act_left stays o) E → ActFine A g stays gone o
-    act_fine (unit v) E i w n r p = n.1
-    act_fine (fetch a) E i w n r p = w
-    act_fine (fetch_word a k) E i w n r p = r.0
-    act_fine (update a v) E i w n r p = (r.0, n.1)
-    act_fine (eval a) E i w n r p = i
-    act_fine (apply v a) E i w n r p = i.0
-    act_fine (call f ws) E i w n r p = tt
-    act_fine (prim f a b) E i w n r p = tt
-    act_fine read E i w n r p = tt
-    act_fine (write a) E i w n r p = tt
-    act_fine (case v as') E i w n r p = (n.1, arms_fine as' E i.2 w.2 n.2 r p)
-    act_fine (nested b) E i w n r p = code_fine b E i.1 w.1 n.1 r p
-    act_fine fail E i w n r p = tt
+    act_fine : (o : Act) → EachAct inlined_kind o → EachAct by_words_kind o → EachAct vectorised_kind o → Read (act_reads stored o) → Parts (act_vars o) (act_left stays o) (act_left none o) → ActFine A g stays gone stored o
+    act_fine (unit v) i w n r p = n.1
+    act_fine (fetch a) i w n r p = w
+    act_fine (fetch_word a k) i w n r p = r.0
+    act_fine (update a v) i w n r p = (update_fine a r, n.1)
+    act_fine (eval a) i w n r p = i
+    act_fine (apply v a) i w n r p = i.0
+    act_fine (call f ws) i w n r p = tt
+    act_fine (prim f a b) i w n r p = tt
+    act_fine read i w n r p = tt
+    act_fine (write a) i w n r p = tt
+    act_fine (case v as') i w n r p = (n.1, arms_fine as' i.2 w.2 n.2 r p)
+    act_fine (nested b) i w n r p = code_fine b i.1 w.1 n.1 r p
+    act_fine fail i w n r p = tt
 
-    code_fine : (b : Code) (E : ℕ → ℕ) → EachCode inlined_kind b → EachCode by_words_kind b → EachCode vectorised_kind b → Read (code_reads b) → Parted (code_vars b) (code_left stays b) E → CodeFine A g stays gone b
-    code_fine (end o) E i w n r p = act_fine o E i w n r p
-    code_fine (store cs b) E i w n r p = (
-      cells_fine cs (λ y. times y (code_left stays b) + E y) (parted_front (cell_vars cs) (code_vars b) (cells_left stays cs) (code_left stays b) E (λ y. code_fewer stays y b) p) n.0,
-      code_fine b (λ y. times y (cells_left stays cs) + E y) i.1 w.1 n.1 r (parted_back (cell_vars cs) (code_vars b) (cells_left stays cs) (code_left stays b) E (λ y. cells_fewer stays y cs) p),
+    code_fine : (b : Code) → EachCode inlined_kind b → EachCode by_words_kind b → EachCode vectorised_kind b → Read (code_reads stored b) → Parts (code_vars b) (code_left stays b) (code_left none b) → CodeFine A g stays gone stored b
+    code_fine (end o) i w n r p = act_fine o i w n r p
+    code_fine (store cs b) i w n r p = (
+      cells_fine cs (parted_front gone (cell_vars cs) (code_vars b) (cells_left stays cs) (code_left stays b) (λ y. code_fewer stays y b) p.leaving) n.0,
+      code_fine b i.1 w.1 n.1 r (both_back gone stored (cell_vars cs) (code_vars b) (cells_left stays cs) (code_left stays b) (cells_left none cs) (code_left none b) (λ y. cells_fewer stays y cs) (λ y. cells_fewer none y cs) p),
     )
-    code_fine (bind t o b) E i w n r p =
-        let rest : Parted (act_vars o ++ code_vars b) (act_left stays o ++ code_left stays b) E = parted_later (target_vars t) (act_vars o ++ code_vars b) (act_left stays o ++ code_left stays b) E p in (
-          all_in (IsThere A g stays gone) (target_vars t) (they_stay (target_vars t) (act_vars o ++ code_vars b) (act_left stays o ++ code_left stays b) E
-              (λ y. times_fewer y (act_left stays o) (code_left stays b) (act_vars o) (code_vars b) (act_fewer stays y o) (code_fewer stays y b)) p),
-          act_fine o (λ y. times y (code_left stays b) + E y) i.1 w.1 n.1 (all_front (WordStays A g stays) (act_reads o) (code_reads b) r) (parted_front (act_vars o) (code_vars b) (act_left stays o) (code_left stays b) E (λ y. code_fewer stays y b) rest),
-          code_fine b (λ y. times y (act_left stays o) + E y) i.2 w.2 n.2 (all_back (WordStays A g stays) (act_reads o) (code_reads b) r) (parted_back (act_vars o) (code_vars b) (act_left stays o) (code_left stays b) E (λ y. act_fewer stays y o) rest),
+    code_fine (bind t o b) i w n r p =
+        let rest : Parts (act_vars o ++ code_vars b) (act_left stays o ++ code_left stays b) (act_left none o ++ code_left none b)
+        = both_later gone stored (target_vars t) (act_vars o ++ code_vars b) (act_left stays o ++ code_left stays b) (act_left none o ++ code_left none b) p in (
+          others (target_vars t) (act_vars o ++ code_vars b) (act_left stays o ++ code_left stays b) (act_left none o ++ code_left none b)
+              (λ y. times_fewer y (act_left stays o) (code_left stays b) (act_vars o) (code_vars b) (act_fewer stays y o) (code_fewer stays y b))
+              (λ y. times_fewer y (act_left none o) (code_left none b) (act_vars o) (code_vars b) (act_fewer none y o) (code_fewer none y b)) p,
+          act_fine o i.1 w.1 n.1 (all_front (WordStays A g stays) (act_reads stored o) (code_reads stored b) r)
+              (both_front gone stored (act_vars o) (code_vars b) (act_left stays o) (code_left stays b) (act_left none o) (code_left none b) (λ y. code_fewer stays y b) (λ y. code_fewer none y b) rest),
+          code_fine b i.2 w.2 n.2 (all_back (WordStays A g stays) (act_reads stored o) (code_reads stored b) r)
+              (both_back gone stored (act_vars o) (code_vars b) (act_left stays o) (code_left stays b) (act_left none o) (code_left none b) (λ y. act_fewer stays y o) (λ y. act_fewer none y o) rest),
         )
 
-    arms_fine : (as' : Arms) (E : ℕ → ℕ) → EachArms inlined_kind as' → EachArms by_words_kind as' → EachArms vectorised_kind as' → Read (arms_reads as') → Parted (arms_vars as') (arms_left stays as') E → ArmsFine A g stays gone as'
-    arms_fine no_arm E i w n r p = tt
-    arms_fine (arm s b as') E i w n r p =
-        let rest : Parted (code_vars b ++ arms_vars as') (code_left stays b ++ arms_left stays as') E = parted_later (shape_vars s) (code_vars b ++ arms_vars as') (code_left stays b ++ arms_left stays as') E p in (
+    arms_fine : (as' : Arms) → EachArms inlined_kind as' → EachArms by_words_kind as' → EachArms vectorised_kind as' → Read (arms_reads stored as') → Parts (arms_vars as') (arms_left stays as') (arms_left none as') → ArmsFine A g stays gone stored as'
+    arms_fine no_arm i w n r p = tt
+    arms_fine (arm s b as') i w n r p =
+        let rest : Parts (code_vars b ++ arms_vars as') (code_left stays b ++ arms_left stays as') (code_left none b ++ arms_left none as')
+        = both_later gone stored (shape_vars s) (code_vars b ++ arms_vars as') (code_left stays b ++ arms_left stays as') (code_left none b ++ arms_left none as') p in (
           n.0,
-          code_fine b (λ y. times y (arms_left stays as') + E y) i.1 w.1 n.1 (all_front (WordStays A g stays) (code_reads b) (arms_reads as') r) (parted_front (code_vars b) (arms_vars as') (code_left stays b) (arms_left stays as') E (λ y. arms_fewer stays y as') rest),
-          arms_fine as' (λ y. times y (code_left stays b) + E y) i.2 w.2 n.2 (all_back (WordStays A g stays) (code_reads b) (arms_reads as') r) (parted_back (code_vars b) (arms_vars as') (code_left stays b) (arms_left stays as') E (λ y. code_fewer stays y b) rest),
+          code_fine b i.1 w.1 n.1 (all_front (WordStays A g stays) (code_reads stored b) (arms_reads stored as') r)
+              (both_front gone stored (code_vars b) (arms_vars as') (code_left stays b) (arms_left stays as') (code_left none b) (arms_left none as') (λ y. arms_fewer stays y as') (λ y. arms_fewer none y as') rest),
+          arms_fine as' i.2 w.2 n.2 (all_back (WordStays A g stays) (code_reads stored b) (arms_reads stored as') r)
+              (both_back gone stored (code_vars b) (arms_vars as') (code_left stays b) (arms_left stays as') (code_left none b) (arms_left none as') (λ y. code_fewer stays y b) (λ y. code_fewer none y b) rest),
         )
 
-  -- a procedure: its parameters stay, and its body is fine
+  -- a procedure: something else than a store binds its parameters, and its body is fine
   pub record ProcFine (q : Procedure) : Type 0 where
-    pub params : AllOf (IsThere A g stays gone) (numbers_of q.params)
-    pub body : CodeFine A g stays gone q.body
+    pub params : AllOf (IsThere A g stays gone stored) (numbers_of q.params) × AllOf (IsOther A g stays gone stored) (numbers_of q.params)
+    pub body : CodeFine A g stays gone stored q.body
 
-  proc_vars_later : (qs : List Procedure) (q : Procedure) (E : ℕ → ℕ) → Parted ((numbers_of q.params ++ code_vars q.body) ++ procs_vars qs) (code_left stays q.body ++ left_of stays qs) E → Parted (numbers_of q.params ++ code_vars q.body) (code_left stays q.body) (λ y. times y (left_of stays qs) + E y)
-  proc_vars_later qs q E p = parted_front (numbers_of q.params ++ code_vars q.body) (procs_vars qs) (code_left stays q.body) (left_of stays qs) E (λ y. procs_fewer stays y qs) p
-
-  body_fewer : (q : Procedure) (y : ℕ) → times y (code_left stays q.body) ≤ times y (numbers_of q.params ++ code_vars q.body)
-  body_fewer q y =
+  body_fewer : (stays : ℕ → Bool) (q : Procedure) (y : ℕ) → times y (code_left stays q.body) ≤ times y (numbers_of q.params ++ code_vars q.body)
+  body_fewer stays q y =
       let e : times y (numbers_of q.params ++ code_vars q.body) ≡ times y (numbers_of q.params) + times y (code_vars q.body) = times_append y (numbers_of q.params) (code_vars q.body) in
       let l : times y (code_left stays q.body) ≤ times y (code_vars q.body) = code_fewer stays y q.body in
       omega (arith, e, l)
 
-  pub procs_fine : (qs : List Procedure) (E : ℕ → ℕ) → EachBody inlined_kind qs → EachBody by_words_kind qs → EachBody vectorised_kind qs → Read (reads_of qs) → Parted (procs_vars qs) (left_of stays qs) E → AllOf ProcFine qs
-  procs_fine [] E i w n r p = tt
-  procs_fine (q ∷ qs) E i w n r p =
-      let here : Parted (numbers_of q.params ++ code_vars q.body) (code_left stays q.body) (λ y. times y (left_of stays qs) + E y) = proc_vars_later qs q E p in (
+  procs_fine : (qs : List Procedure) → EachBody inlined_kind qs → EachBody by_words_kind qs → EachBody vectorised_kind qs → Read (reads_of stored qs) → Parts (procs_vars qs) (left_of stays qs) (left_of none qs) → AllOf ProcFine qs
+  procs_fine [] i w n r p = tt
+  procs_fine (q ∷ qs) i w n r p =
+      let here : Parts (numbers_of q.params ++ code_vars q.body) (code_left stays q.body) (code_left none q.body)
+      = both_front gone stored (numbers_of q.params ++ code_vars q.body) (procs_vars qs) (code_left stays q.body) (left_of stays qs) (code_left none q.body) (left_of none qs) (λ y. procs_fewer stays y qs) (λ y. procs_fewer none y qs) p in (
         record {
-          params = all_in (IsThere A g stays gone) (numbers_of q.params) (they_stay (numbers_of q.params) (code_vars q.body) (code_left stays q.body) (λ y. times y (left_of stays qs) + E y) (λ y. code_fewer stays y q.body) here);
-          body = code_fine q.body (λ y. times y (left_of stays qs) + E y) i.0 w.0 n.0 (all_front (WordStays A g stays) (code_reads q.body) (reads_of qs) r) (parted_later (numbers_of q.params) (code_vars q.body) (code_left stays q.body) (λ y. times y (left_of stays qs) + E y) here);
+          params = others (numbers_of q.params) (code_vars q.body) (code_left stays q.body) (code_left none q.body) (λ y. code_fewer stays y q.body) (λ y. code_fewer none y q.body) here;
+          body = code_fine q.body i.0 w.0 n.0 (all_front (WordStays A g stays) (code_reads stored q.body) (reads_of stored qs) r) (both_later gone stored (numbers_of q.params) (code_vars q.body) (code_left stays q.body) (code_left none q.body) here);
         },
-        procs_fine qs (λ y. times y (code_left stays q.body) + E y) i.1 w.1 n.1 (all_back (WordStays A g stays) (code_reads q.body) (reads_of qs) r)
-            (parted_back (numbers_of q.params ++ code_vars q.body) (procs_vars qs) (code_left stays q.body) (left_of stays qs) E (body_fewer q) p),
+        procs_fine qs i.1 w.1 n.1 (all_back (WordStays A g stays) (code_reads stored q.body) (reads_of stored qs) r)
+            (both_back gone stored (numbers_of q.params ++ code_vars q.body) (procs_vars qs) (code_left stays q.body) (left_of stays qs) (code_left none q.body) (left_of none qs) (body_fewer stays q) (body_fewer none q) p),
       )
 
--- the procedures of a program, where the variables of cells that leave are gone
-pub all_fine : (A : Solution) (g : Program) (stays : ℕ → Bool) → ((y : ℕ) → times y (procs_vars g.procs) ≤ 1) → EachBody inlined_kind g.procs → EachBody by_words_kind g.procs → EachBody vectorised_kind g.procs → AllOf (WordStays A g stays) (reads_of g.procs)
-    → AllOf (ProcFine A g stays (is_gone stays g.procs)) g.procs
-all_fine A g stays once i w n r = procs_fine A g stays (is_gone stays g.procs) g.procs (λ y. 0) i w n r (record {
+-- the variables of a program are parted by those of the cells that leave
+all_parted : (g : Program) (stays : ℕ → Bool) → ((y : ℕ) → times y (procs_vars g.procs) ≤ 1) → Parted (is_gone stays g.procs) (procs_vars g.procs) (left_of stays g.procs)
+all_parted g stays once = record {
+  elsewhere = λ y. 0;
   once = λ y. let o : times y (procs_vars g.procs) ≤ 1 = once y in omega (arith, o);
   gone_are = λ y h. let l : 1 ≤ times y (left_of stays g.procs) = among_times y (left_of stays g.procs) h in omega (arith, l);
   left_are = λ y h. times_among y (left_of stays g.procs) h;
-})
+}
+
+-- the procedures of a program, where the variables of cells that leave are gone
+pub all_fine : (A : Solution) (g : Program) (stays : ℕ → Bool) → ((y : ℕ) → times y (procs_vars g.procs) ≤ 1) → EachBody inlined_kind g.procs → EachBody by_words_kind g.procs → EachBody vectorised_kind g.procs → AllOf (WordStays A g stays) (reads_of (is_stored g.procs) g.procs)
+    → AllOf (ProcFine A g stays (is_gone stays g.procs) (is_stored g.procs)) g.procs
+all_fine A g stays once i w n r = procs_fine A g stays (is_gone stays g.procs) (is_stored g.procs) g.procs i w n r (record { leaving = all_parted g stays once; owned = all_parted g none once })

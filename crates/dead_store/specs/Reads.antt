@@ -1,26 +1,40 @@
--- The words that stand for the cells that a piece of a program fetches from or updates.
-use Rattle.std.specs.Prelude.{List, [], ◌∷◌, ◌++◌}
+-- The words that stand for the cells that a piece of a program reads. An update counts as a read,
+-- but where its word is the variable of a store: it goes where the cell of this store goes.
+use Rattle.std.specs.Prelude.{ℕ, Bool, false, cond, List, [], ◌∷◌, ◌++◌}
 use Rattle.grin_syntax.specs.declared.program.Word as W
+use Rattle.grin_syntax.specs.declared.program.Word.TheVariants.{Lit, Var, Global, TagWord}
 use Rattle.grin_syntax.specs.Tree.{Code, end, store, bind, Act, fetch, fetch_word, update, case, nested, Arms, no_arm, arm, Procedure}
 
-unfoldable mutual
-  pub act_reads : Act → List W.Word
-  act_reads (fetch a) = a ∷ []
-  act_reads (fetch_word a i) = a ∷ []
-  act_reads (update a v) = a ∷ []
-  act_reads (case v as') = arms_reads as'
-  act_reads (nested b) = code_reads b
-  act_reads _ = []
+-- the word is one of these variables
+abbrev pub is_one_of : (ℕ → Bool) → W.Word → Bool
+is_one_of xs (Var x) = xs x.0
+is_one_of xs (Lit k) = false
+is_one_of xs (Global i) = false
+is_one_of xs (TagWord t) = false
 
-  pub code_reads : Code → List W.Word
-  code_reads (end o) = act_reads o
-  code_reads (store cs b) = code_reads b
-  code_reads (bind t o b) = act_reads o ++ code_reads b
+-- stores bind these variables
+module _ (stored : ℕ → Bool) where
+  abbrev pub update_reads : W.Word → List W.Word
+  update_reads a = cond (is_one_of stored a) [] (a ∷ [])
 
-  pub arms_reads : Arms → List W.Word
-  arms_reads no_arm = []
-  arms_reads (arm s b as') = code_reads b ++ arms_reads as'
+  unfoldable mutual
+    pub act_reads : Act → List W.Word
+    act_reads (fetch a) = a ∷ []
+    act_reads (fetch_word a i) = a ∷ []
+    act_reads (update a v) = update_reads a
+    act_reads (case v as') = arms_reads as'
+    act_reads (nested b) = code_reads b
+    act_reads _ = []
 
-abbrev pub reads_of : List Procedure → List W.Word
-reads_of [] = []
-reads_of (q ∷ qs) = code_reads q.body ++ reads_of qs
+    pub code_reads : Code → List W.Word
+    code_reads (end o) = act_reads o
+    code_reads (store cs b) = code_reads b
+    code_reads (bind t o b) = act_reads o ++ code_reads b
+
+    pub arms_reads : Arms → List W.Word
+    arms_reads no_arm = []
+    arms_reads (arm s b as') = code_reads b ++ arms_reads as'
+
+  abbrev pub reads_of : List Procedure → List W.Word
+  reads_of [] = []
+  reads_of (q ∷ qs) = code_reads q.body ++ reads_of qs

@@ -11,6 +11,7 @@ use Rattle.flow_system.specs.declared.fact.Place.TheVariants.{Var as var}
 use Rattle.flow_system.specs.declared.fact.Part.TheVariants.{Word as word}
 use Rattle.flow_system.specs.Solution.{Solution, At, StandsFor}
 use Rattle.dead_store.specs.Reads.{reads_of}
+use Rattle.dead_store.specs.Without.{is_stored}
 
 abbrev pub IsGlobalSite : Program → ℕ → Type 0
 IsGlobalSite g s = In s (map (λ c. c.site.0) g.globals)
@@ -20,9 +21,10 @@ module _ (A : Solution) (g : Program) where
   abbrev pub IsReadBy : List Word → ℕ → Type 0
   IsReadBy ws s = (a : Word) × In a ws × StandsFor (tables g) A a (cell_of s)
 
-  -- a fetch or an update of the program may go to a cell of the site
+  -- a fetch of the program may go to a cell of the site, or an update on another word than the
+  -- variable of a store
   abbrev pub IsRead : ℕ → Type 0
-  IsRead = IsReadBy (reads_of g.procs)
+  IsRead = IsReadBy (reads_of (is_stored g.procs) g.procs)
 
   -- the cells of a site stay where they are global or read
   abbrev pub Stays : ℕ → Type 0

@@ -1,4 +1,4 @@
-//! A pass: cells that nothing fetches from or updates are not made.
+//! A pass: cells that nothing fetches from are not made, and not updated.
 #![tactic(auto)]
 
 mod blocks;

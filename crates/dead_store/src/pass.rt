@@ -19,9 +19,10 @@ use seq::Seq;
 use std::alloc::{AllocError, Global};
 use std::collections::BTreeSet;
 
-/// A cell that no fetch and no update of the program reaches, by the least solution of the
-/// program's own flow system, is not made; the number 0 stands wherever its variable stood, and a
-/// group that loses all its cells leaves its block. Global cells stay.
+/// A cell that no fetch of the program reaches, by the least solution of the program's own flow
+/// system, and no update but one on the variable of its own store, is not made. Its group leaves
+/// its block where it loses all its cells, these updates go with it, and the number 0 stands
+/// wherever else its variable stood. Global cells stay.
 pub struct DeadStores;
 
 impl Pass for DeadStores {

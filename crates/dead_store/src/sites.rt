@@ -8,6 +8,7 @@ ghost use Rattle.points_to.specs.Joined.{Joined};
 ghost use Rattle.dead_store.specs.Holding.{holds};
 ghost use Rattle.dead_store.specs.Staying.{AreStaying, CellsJoin};
 
+use crate::left::variables_stored;
 use crate::reads::words_read;
 use grin_syntax::{GlobalCell, Grin, Site, Word};
 use points_to::Flow;
@@ -64,7 +65,9 @@ pub(crate) fn staying_sites(
     ensures { IfOk result (λ sites.
         AreStaying (found flow.now) (program_of g.now) (holds sites.keys)) }
 {
-    let words = words_read(alloc, g.procs.as_slice())?;
+    let procs = g.procs.as_slice();
+    let stored = variables_stored(alloc, procs)?;
+    let words = words_read(alloc, &stored, procs)?;
     let mut sites = BTreeSet::new(alloc);
     put_globals(g.globals.as_slice(), &mut sites)?;
     for word in words.as_slice() {

@@ -1,7 +1,7 @@
 -- What the shelf in memory permits.
 use Rattle.std.proofs.Common.{ℕ, List, Option, Some, None}
 use Rattle.std.specs.Prelude.{IfSome}
-use Rattle.command_line.specs.Commands.{CommandLine, RunFile, CheckFile, ListFile, BuildFile, ExecImage, GenRun, LinkFiles, LiftFile}
+use Rattle.command_line.specs.Commands.{CommandLine, RunFile, CheckFile, ListFile, BuildFile, ExecImage, GenRun, LinkFiles, LiftFile, MatchFile, TypesFile}
 use Rattle.grin_driver.specs.Answer.{OfNamed}
 
 -- it permits every name, so that of every command
@@ -15,3 +15,5 @@ any_command (Some (ExecImage image steps)) = tt
 any_command (Some (GenRun seed size)) = tt
 any_command (Some (LinkFiles files)) = λ file h. tt
 any_command (Some (LiftFile file)) = tt
+any_command (Some (MatchFile file)) = tt
+any_command (Some (TypesFile file)) = tt

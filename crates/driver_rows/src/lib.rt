@@ -26,8 +26,12 @@ mod link_rows;
 #[cfg(test)]
 mod list_rows;
 #[cfg(test)]
+mod match_rows;
+#[cfg(test)]
 mod outside;
 #[cfg(test)]
 mod quiet_rows;
 #[cfg(test)]
 mod run_rows;
+#[cfg(test)]
+mod types_rows;

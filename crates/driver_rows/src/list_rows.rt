@@ -428,9 +428,8 @@ fn listings(rt: HostRuntime) -> Result<(), Fail> {
         // No procedure gives numbers alone, and each parameter's cell is updated.
         (TAKES_TEXT, "unbox", TAKES_WITH_TAGS),
         (TAKES_TEXT, "raise", TAKES_WITH_TAGS),
-        // Each cell is fetched from: the lists by what takes or prints them, the number by what
-        // prints.
-        (TAKES_TEXT, "dead", TAKES_WITH_TAGS),
+        // It has no nested block.
+        (TAKES_TEXT, "flat", TAKES_WITH_TAGS),
     ];
     for (text, after, out) in rows {
         let text = format!(in rt.alloc(); "{LISTS}{text}")?;
@@ -502,6 +501,40 @@ fn a_parameter_gives_place_to_fields(rt: HostRuntime) -> Result<(), Fail> {
         assert!(rt; shown.is_done(), "{after}");
         assert!(rt; shown.has_line(line), "{after}");
         assert!(rt; !shown.has_line(no_line), "{after}");
+    }
+    Ok(())
+}
+
+/// A line that a stage of `HEAD_TEXT` has, and one that it doesn't have. Once the fields are given
+/// to `hd`, its call is in a nested block with the cell of which they are fetched; the number that
+/// it gives gets its tag; the fields are the two cells stored before; and nobody fetches from the
+/// cell.
+#[test]
+fn what_raising_left_goes(rt: HostRuntime) -> Result<(), Fail> {
+    let text = format!(in rt.alloc(); "{LISTS}{HEAD_TEXT}")?;
+    let rows = [
+        ("raise", "  v0 <- do", "  v5 <- call hd v3 v4"),
+        ("flat", "  v5 <- call hd v3 v4", "  v0 <- do"),
+        (
+            "flat",
+            "  [v6 v7] <- unit [#CInt 0]",
+            "    v6 = [#CInt v5 0]",
+        ),
+        (
+            "known",
+            "    v6 = [#CInt v5 0]",
+            "  [v6 v7] <- unit [#CInt 0]",
+        ),
+        ("known", "  v3 <- fetch v2 1", "  v3 <- call hd v0 v1"),
+        ("cells", "  v3 <- call hd v0 v1", "  v3 <- fetch v2 1"),
+        ("cells", "    v2 = (CCons v0 v1)", "  v1 <- call hd v0 0"),
+        ("dead", "  v1 <- call hd v0 0", "    v2 = (CCons v0 v1)"),
+    ];
+    for (after, line, no_line) in rows {
+        let shown = listed(rt.alloc(), text.as_str(), after)?;
+        assert!(rt; shown.is_done(), "{after}");
+        assert!(rt; shown.has_line(line), "{after}: {line}");
+        assert!(rt; !shown.has_line(no_line), "{after}: {no_line}");
     }
     Ok(())
 }

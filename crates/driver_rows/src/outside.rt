@@ -143,3 +143,15 @@ impl<'a> Outside<'a> {
         Ok(Ended { status, out, err })
     }
 }
+
+/// How a run ends of the text that a command writes for the text of a file. Where the command
+/// refuses it, an empty text is run, which `run` refuses.
+pub(crate) fn written_and_run(
+    alloc: Global,
+    command: &str,
+    file: &str,
+    input: &str,
+) -> Result<Ended, AllocError> {
+    let written = Outside::of(file.as_bytes()).run(alloc, &["grinc", command, "a"])?;
+    Outside::with_input(written.bytes(), input.as_bytes()).run(alloc, &["grinc", "run", "a"])
+}

@@ -12,7 +12,7 @@ use Rattle.eval_inline.specs.Inlining.{eval_procs, code_room, eval_inlined}
 use Rattle.apply_inline.specs.Inlining.{apply_procs, apply_code_room, inlined}
 use Rattle.apply_inline.specs.Size.{act_size, code_size, procedure_size, total, largest, size, largest_procedure}
 use Rattle.grin_opt.specs.declared.pass.PassName.{PassName}
-use Rattle.grin_opt.specs.declared.pass.PassName.TheVariants.{Translate, Eval, Apply, Vectorise, Simplify, Fetch, Copy, Update, Unbox, Raise, Dead}
+use Rattle.grin_opt.specs.declared.pass.PassName.TheVariants.{Translate, Eval, Apply, Vectorise, Simplify, Fetch, Copy, Update, Unbox, Raise, Flat, Known, Cells, Dead}
 use Rattle.grin_opt.specs.Schedule.{shape_of}
 use Rattle.grin_translate.specs.declared.tags.Delay.{Delay}
 use Rattle.grin_translate.specs.declared.tags.Delay.TheVariants.{Calls}
@@ -43,6 +43,9 @@ shaped_outside Copy g h s = s.stays.outside
 shaped_outside Update g h s = s.stays.outside
 shaped_outside Unbox g h s = s.stays.outside
 shaped_outside Raise g h s = s.outside
+shaped_outside Flat g h s = s.stays.outside
+shaped_outside Known g h s = s.stays.outside
+shaped_outside Cells g h s = s.stays.outside
 shaped_outside Dead g h s = s.outside
 
 pub stages_outside : (p : core.Program) (ks : List PassName) (g : Program) (hs : List Program) → AreStages p ks g hs

@@ -17,7 +17,7 @@ use Rattle.grin_measure.specs.declared.measure.Sizes.{Sizes}
 use Rattle.grin_measure.specs.Within.{HasSizes}
 use Rattle.grin_translate.specs.Translation.{tr}
 use Rattle.grin_opt.specs.declared.pass.PassName.{PassName}
-use Rattle.grin_opt.specs.declared.pass.PassName.TheVariants.{Translate, Eval, Apply, Vectorise, Simplify, Fetch, Copy, Update, Unbox, Raise, Dead}
+use Rattle.grin_opt.specs.declared.pass.PassName.TheVariants.{Translate, Eval, Apply, Vectorise, Simplify, Fetch, Copy, Update, Unbox, Raise, Flat, Known, Cells, Dead}
 use Rattle.grin_opt.specs.Schedule.{IsTaken, shape_of}
 use Rattle.grin_stages.specs.Stage.{Analyses, IsStage, translated, evaluations_inlined, both_inlined, by_pass, Fits, OneExpandedSize, VectorisedIsSlim}
 use Rattle.grin_compile.specs.declared.later.Later.{Later}
@@ -102,7 +102,7 @@ module _ (taken : VectoriseTakesInlined) (slim : VectorisedIsSlim) (one : OneExp
 
   -- each stage after the inlining is well formed
   later_formed : AllOf Formed (programs_of l)
-  later_formed = (formed Vectorise, (formed Simplify, (formed Fetch, (formed Copy, (formed Update, (formed Unbox, (formed Raise, (formed Dead, tt))))))))
+  later_formed = (formed Vectorise, (formed Simplify, (formed Fetch, (formed Copy, (formed Update, (formed Unbox, (formed Raise, (formed Flat, (formed Known, (formed Cells, (formed Dead, tt)))))))))))
     where
       formed : (k : PassName) → Formed (later_after l k)
       formed k = (can_be_lowered a (taken_by taken p valid a stage) l passed k).of_vectors.formed

@@ -9,7 +9,7 @@ use Rattle.grin_meaning.proofs.Kept.{keeps_again}
 use Rattle.grin_translate.specs.Translation.{tr}
 use Rattle.pass_ground.specs.Vectors.{OfVectors, NarrowTargets, StaysOfVectors}
 use Rattle.grin_opt.specs.declared.pass.PassName.{PassName}
-use Rattle.grin_opt.specs.declared.pass.PassName.TheVariants.{Translate, Eval, Apply, Vectorise, Simplify, Fetch, Copy, Update, Unbox, Raise, Dead}
+use Rattle.grin_opt.specs.declared.pass.PassName.TheVariants.{Translate, Eval, Apply, Vectorise, Simplify, Fetch, Copy, Update, Unbox, Raise, Flat, Known, Cells, Dead}
 use Rattle.grin_opt.specs.Schedule.{IsTaken}
 use Rattle.grin_compile.specs.declared.later.Later.{Later}
 use Rattle.grin_compile.specs.Passed.{ArePassed, later_after, programs_of}
@@ -96,8 +96,17 @@ module _ (a : Program) (taken : IsTaken a) (l : Later) (passed : ArePassed passe
   raised : CanBeLowered a (program_of l.raised)
   raised = splitting_one a _ _ unboxed passed.1.1.1.1.1.1.0.shape.of_vectors passed.1.1.1.1.1.1.0.shape.outside passed.1.1.1.1.1.1.0.shape.narrow
 
+  flat : CanBeLowered a (program_of l.flat)
+  flat = next_one a _ _ raised passed.1.1.1.1.1.1.1.0.shape.stays
+
+  known : CanBeLowered a (program_of l.known)
+  known = next_one a _ _ flat passed.1.1.1.1.1.1.1.1.0.shape.stays
+
+  own : CanBeLowered a (program_of l.own)
+  own = next_one a _ _ known passed.1.1.1.1.1.1.1.1.1.0.shape.stays
+
   dead : CanBeLowered a (program_of l.dead)
-  dead = let shape = passed.1.1.1.1.1.1.1.0.shape in splitting_one a _ _ raised shape.of_vectors shape.outside (λ most one narrow. shape.narrow most narrow)
+  dead = let shape = passed.1.1.1.1.1.1.1.1.1.1.0.shape in splitting_one a _ _ own shape.of_vectors shape.outside (λ most one narrow. shape.narrow most narrow)
 
   pub can_be_lowered : (k : PassName) → CanBeLowered a (later_after l k)
   can_be_lowered Translate = vectorised
@@ -110,4 +119,7 @@ module _ (a : Program) (taken : IsTaken a) (l : Later) (passed : ArePassed passe
   can_be_lowered Update = updated
   can_be_lowered Unbox = unboxed
   can_be_lowered Raise = raised
+  can_be_lowered Flat = flat
+  can_be_lowered Known = known
+  can_be_lowered Cells = own
   can_be_lowered Dead = dead

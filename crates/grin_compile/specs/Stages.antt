@@ -9,12 +9,13 @@ use Rattle.apply_inline.specs.Inlining.{inlined, inlined_size}
 use Rattle.apply_inline.specs.Size.{largest_procedure}
 use Rattle.grin_translate.specs.Translation.{tr}
 use Rattle.grin_opt.specs.declared.pass.PassName.{PassName}
-use Rattle.grin_opt.specs.declared.pass.PassName.TheVariants.{Vectorise, Simplify, Fetch, Copy, Update, Unbox, Raise, Dead}
+use Rattle.grin_opt.specs.declared.pass.PassName.TheVariants.{Vectorise, Simplify, Fetch, Copy, Update, Unbox, Raise, Flat, Known, Cells, Dead}
 use Rattle.grin_opt.specs.Schedule.{shape_of}
 
 -- the passes after the inlining, in their order
 abbrev pub passes : List PassName
-passes = Vectorise ∷ Simplify ∷ Fetch ∷ Copy ∷ Update ∷ Unbox ∷ Raise ∷ Dead ∷ []
+passes = Vectorise ∷ Simplify ∷ Fetch ∷ Copy ∷ Update ∷ Unbox ∷ Raise ∷ Flat ∷ Known ∷ Cells
+    ∷ Dead ∷ []
 
 -- stages after g, one for each of these passes: each has the shape of its pass for the one before
 -- it, and does what the translation does

@@ -2,9 +2,10 @@
 
 ghost use Rattle.std.specs.Prelude.{◌≡◌, ◌≤◌, IfOk};
 ghost use Rattle.grin_syntax.specs.Tree.{program_of};
+ghost use Rattle.grin_opt.specs.declared.pass.PassName.TheVariants.{Raise};
 ghost use Rattle.grin_opt.specs.Schedule.{IsTaken, IsOfStage, Takes, IsPassedBy};
 ghost use Rattle.grin_compile.specs.Stages.{passes, IsLastOf};
-ghost use Rattle.grin_compile.specs.Passed.{ArePassed, later_after, programs_of, SlimBeside};
+ghost use Rattle.grin_compile.specs.Passed.{ArePassed, later_after, programs_of, last_passes, last_programs, SlimBeside};
 
 use grin_measure::{Sizes, is_slim};
 use grin_opt::{PassName, passed};
@@ -21,6 +22,9 @@ pub struct Later {
     pub updated: Grin,
     pub unboxed: Grin,
     pub raised: Grin,
+    pub flat: Grin,
+    pub known: Grin,
+    pub own: Grin,
     pub dead: Grin,
 }
 
@@ -39,6 +43,9 @@ impl Later {
             PassName::Update => &self.updated,
             PassName::Unbox => &self.unboxed,
             PassName::Raise => &self.raised,
+            PassName::Flat => &self.flat,
+            PassName::Known => &self.known,
+            PassName::Cells => &self.own,
             PassName::Dead => &self.dead,
         }
     }
@@ -52,6 +59,12 @@ impl Later {
     {
         if is_slim(&self.dead, sizes) {
             PassName::Dead
+        } else if is_slim(&self.own, sizes) {
+            PassName::Cells
+        } else if is_slim(&self.known, sizes) {
+            PassName::Known
+        } else if is_slim(&self.flat, sizes) {
+            PassName::Flat
         } else if is_slim(&self.raised, sizes) {
             PassName::Raise
         } else if is_slim(&self.unboxed, sizes) {
@@ -81,6 +94,32 @@ fn passed_copy(alloc: Global, pass: PassName, g: &Grin) -> Result<Grin, AllocErr
     Ok(after)
 }
 
+// The last four of them.
+#[derive(Drop)]
+struct Last {
+    flat: Grin,
+    known: Grin,
+    own: Grin,
+    dead: Grin,
+}
+
+// The stages after that of raising.
+fn last_stages(alloc: Global, g: &Grin) -> Result<Last, AllocError>
+    requires { IsOfStage Raise (program_of g.now) }
+    ensures { IfOk result (λ l. ArePassed last_passes (program_of g.now) (last_programs l)) }
+{
+    let flat = passed_copy(alloc, PassName::Flat, g)?;
+    let known = passed_copy(alloc, PassName::Known, &flat)?;
+    let own = passed_copy(alloc, PassName::Cells, &known)?;
+    let dead = passed_copy(alloc, PassName::Dead, &own)?;
+    Ok(Last {
+        flat,
+        known,
+        own,
+        dead,
+    })
+}
+
 /// The stages after an inlined program.
 pub(crate) fn later_stages(alloc: Global, g: &Grin) -> Result<Later, AllocError>
     requires { IsTaken (program_of g.now) }
@@ -93,7 +132,7 @@ pub(crate) fn later_stages(alloc: Global, g: &Grin) -> Result<Later, AllocError>
     let updated = passed_copy(alloc, PassName::Update, &copied)?;
     let unboxed = passed_copy(alloc, PassName::Unbox, &updated)?;
     let raised = passed_copy(alloc, PassName::Raise, &unboxed)?;
-    let dead = passed_copy(alloc, PassName::Dead, &raised)?;
+    let last = last_stages(alloc, &raised)?;
     Ok(Later {
         vectorised,
         simplified,
@@ -102,6 +141,9 @@ pub(crate) fn later_stages(alloc: Global, g: &Grin) -> Result<Later, AllocError>
         updated,
         unboxed,
         raised,
-        dead,
+        flat: last.flat,
+        known: last.known,
+        own: last.own,
+        dead: last.dead,
     })
 }

@@ -77,6 +77,9 @@ module _ {K : Type 0} (o : SinkChange K) (well : Rose (o.faults o.old) (o.faults
     list_gives listing.Update status h = stage_gives _ status h
     list_gives listing.Unbox status h = stage_gives _ status h
     list_gives listing.Raise status h = stage_gives _ status h
+    list_gives listing.Flat status h = stage_gives _ status h
+    list_gives listing.Known status h = stage_gives _ status h
+    list_gives listing.Cells status h = stage_gives _ status h
     list_gives listing.Dead status h = stage_gives _ status h
     list_gives listing.Code status h = code_gives 1000000 1048576 status h
 

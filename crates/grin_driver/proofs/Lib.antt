@@ -1,6 +1,7 @@
 pub mod Fronts
 pub mod Unread
 pub mod Outcomes
+pub mod TypedRuns
 pub mod Execution
 pub mod Stores
 pub mod Generations

@@ -5,7 +5,7 @@ use Rattle.core_reader.specs.Text.{IsFirstUnread}
 use Rattle.command_line.specs.declared.command.Listing.{Listing}
 use Rattle.command_line.specs.declared.command.Listing.TheVariants as listing
 use Rattle.grin_opt.specs.declared.pass.PassName.{PassName}
-use Rattle.grin_opt.specs.declared.pass.PassName.TheVariants.{Translate, Eval, Apply, Vectorise, Simplify, Fetch, Copy, Update, Unbox, Raise, Dead}
+use Rattle.grin_opt.specs.declared.pass.PassName.TheVariants.{Translate, Eval, Apply, Vectorise, Simplify, Fetch, Copy, Update, Unbox, Raise, Flat, Known, Cells, Dead}
 use Rattle.grin_io.specs.Changes.{SinkChange}
 use Rattle.text_commands.specs.declared.status.Status.{Status}
 use Rattle.text_commands.specs.declared.status.Status.TheVariants.{Refused, OutOfMemory}
@@ -49,5 +49,8 @@ module _ {K : Type 0} (o : SinkChange K) (front text : List ℕ) (short : 104857
   lists_after_long listing.Update status h = lists_long Update status h
   lists_after_long listing.Unbox status h = lists_long Unbox status h
   lists_after_long listing.Raise status h = lists_long Raise status h
+  lists_after_long listing.Flat status h = lists_long Flat status h
+  lists_after_long listing.Known status h = lists_long Known status h
+  lists_after_long listing.Cells status h = lists_long Cells status h
   lists_after_long listing.Dead status h = lists_long Dead status h
   lists_after_long listing.Code status h = lists_code_long o front text 1000000 1048576 short long status h

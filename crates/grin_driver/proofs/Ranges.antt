@@ -7,7 +7,7 @@ use Rattle.std.specs.Str.Parse.{digits_value}
 use Rattle.std.proofs.lemmas.Bool.Decides.{nat_tests}
 use Rattle.command_line.specs.Numbers.{is_number}
 use Rattle.command_line.specs.Parts.{Part, parts_of}
-use Rattle.command_line.specs.Commands.{CommandLine, RunFile, ListFile, BuildFile, ExecImage, GenRun, LinkFiles, Form, Given, option_number, cells_of, stack_of, steps_of, run_form, check_form, list_form, build_form, exec_form, gen_form, lift_form, link_form, of_operand, without_operand, asked, command_from, command_of, operands, values, takes_only, only, is_empty, seed_of, size_of}
+use Rattle.command_line.specs.Commands.{CommandLine, RunFile, CheckFile, ListFile, BuildFile, ExecImage, GenRun, LinkFiles, LiftFile, MatchFile, TypesFile, Form, Given, option_number, cells_of, stack_of, steps_of, run_form, file_form, check_form, list_form, build_form, exec_form, gen_form, lift_form, match_form, types_form, link_form, of_operand, without_operand, asked, command_from, command_of, operands, values, takes_only, only, is_empty, seed_of, size_of}
 use Rattle.grin_driver.specs.Answer.{IsWithin}
 
 -- ---- of what may be none
@@ -58,11 +58,8 @@ runs_within given operands = of_any _ operands (λ file.
     some_map (RunFile file cells stack) (λ steps. Unit {0}) IsWithin (steps_of given) (some_any (steps_of given)) (λ steps n.
     record { some_cells = c.0; few_cells = c.1; some_stack = s.0; small_stack = s.1 }))))
 
-checks_within : (given : Given) (operands : List (List ℕ)) → IfSome (check_form.asks given operands) IsWithin
-checks_within given operands = of_any _ operands (λ file. tt)
-
-lifts_within : (given : Given) (operands : List (List ℕ)) → IfSome (lift_form.asks given operands) IsWithin
-lifts_within given operands = of_any _ operands (λ file. tt)
+files_within : (ask : List ℕ → CommandLine) → ((file : List ℕ) → IsWithin (ask file)) → (given : Given) (operands : List (List ℕ)) → IfSome ((file_form ask).asks given operands) IsWithin
+files_within ask within given operands = of_any _ operands within
 
 lists_within : (given : Given) (operands : List (List ℕ)) → IfSome (list_form.asks given operands) IsWithin
 lists_within given operands = of_any _ operands (λ file. some_map (ListFile file) (λ after. Unit {0}) IsWithin _ (some_any _) (λ after n. tt))
@@ -98,12 +95,14 @@ from_within : (name : List ℕ) (parts : List Part) → IfSome (command_from nam
 from_within name parts =
     some_either IsWithin (bytes_eq name (codes "link")) _ _ (asked_within parts link_form links_within)
     (some_either IsWithin (bytes_eq name (codes "run")) _ _ (asked_within parts run_form runs_within)
-    (some_either IsWithin (bytes_eq name (codes "check")) _ _ (asked_within parts check_form checks_within)
+    (some_either IsWithin (bytes_eq name (codes "check")) _ _ (asked_within parts check_form (files_within CheckFile (λ file. tt)))
     (some_either IsWithin (bytes_eq name (codes "list")) _ _ (asked_within parts list_form lists_within)
     (some_either IsWithin (bytes_eq name (codes "build")) _ _ (asked_within parts build_form builds_within)
     (some_either IsWithin (bytes_eq name (codes "exec")) _ _ (asked_within parts exec_form execs_within)
     (some_either IsWithin (bytes_eq name (codes "gen")) _ _ (asked_within parts gen_form gens_within)
-    (some_either IsWithin (bytes_eq name (codes "lift")) _ None (asked_within parts lift_form lifts_within) tt)))))))
+    (some_either IsWithin (bytes_eq name (codes "lift")) _ _ (asked_within parts lift_form (files_within LiftFile (λ file. tt)))
+    (some_either IsWithin (bytes_eq name (codes "match")) _ _ (asked_within parts match_form (files_within MatchFile (λ file. tt)))
+    (some_either IsWithin (bytes_eq name (codes "types")) _ None (asked_within parts types_form (files_within TypesFile (λ file. tt))) tt)))))))))
 
 commands_within : (words : List (List ℕ)) → IfSome (command_of words) IsWithin
 commands_within [] = tt

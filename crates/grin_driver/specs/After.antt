@@ -2,7 +2,7 @@
 use Rattle.std.specs.Prelude.{ℕ, List}
 use Rattle.command_line.specs.declared.command.Listing.{Listing}
 use Rattle.command_line.specs.declared.command.Listing.TheVariants as listing
-use Rattle.grin_opt.specs.declared.pass.PassName.TheVariants.{Translate, Eval, Apply, Vectorise, Simplify, Fetch, Copy, Update, Unbox, Raise, Dead}
+use Rattle.grin_opt.specs.declared.pass.PassName.TheVariants.{Translate, Eval, Apply, Vectorise, Simplify, Fetch, Copy, Update, Unbox, Raise, Flat, Known, Cells, Dead}
 use Rattle.grin_io.specs.Changes.{SinkChange}
 use Rattle.text_commands.specs.declared.status.Status.{Status}
 use Rattle.grin_driver.specs.Listing.{Lists}
@@ -23,5 +23,8 @@ ListsAfter o text listing.Copy status = Lists o text Copy status
 ListsAfter o text listing.Update status = Lists o text Update status
 ListsAfter o text listing.Unbox status = Lists o text Unbox status
 ListsAfter o text listing.Raise status = Lists o text Raise status
+ListsAfter o text listing.Flat status = Lists o text Flat status
+ListsAfter o text listing.Known status = Lists o text Known status
+ListsAfter o text listing.Cells status = Lists o text Cells status
 ListsAfter o text listing.Dead status = Lists o text Dead status
 ListsAfter o text listing.Code status = ListsCode o text 1000000 1048576 status

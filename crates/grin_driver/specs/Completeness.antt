@@ -6,8 +6,10 @@ use Rattle.core_reader.specs.Text as reader
 use Rattle.arity_check.specs.Program.{Program}
 use Rattle.core_link.specs.Rules as linking
 use Rattle.lambda_lift.specs.Rules as lifting
+use Rattle.match_compile.specs.Rules as matching
+use Rattle.core_types.specs.Refused as typing
 use Rattle.elf32.specs.Rules.{KeepsBelow}
-use Rattle.command_line.specs.Commands.{CommandLine, RunFile, CheckFile, ListFile, BuildFile, ExecImage, GenRun, LinkFiles, LiftFile}
+use Rattle.command_line.specs.Commands.{CommandLine, RunFile, CheckFile, ListFile, BuildFile, ExecImage, GenRun, LinkFiles, LiftFile, MatchFile, TypesFile}
 use Rattle.command_line.specs.declared.command.Listing.{Listing}
 use Rattle.command_line.specs.declared.command.Listing.TheVariants.{Read, Translate}
 use Rattle.generator.specs.Generated.{generated}
@@ -96,3 +98,7 @@ module _ {F : Type 0} (f : ShelfChange F) where
       ⊎ OfFiles f most_of_text files (λ texts. linking.IsUnbroken texts → status ≡ Done)
   Gives (Some (LiftFile file)) status =
       Or f most_of_text file status (λ text. lifting.IsUnbroken text → status ≡ Done)
+  Gives (Some (MatchFile file)) status =
+      Or f most_of_text file status (λ text. matching.IsUnbroken text → status ≡ Done)
+  Gives (Some (TypesFile file)) status =
+      Or f most_of_text file status (λ text. typing.IsUnbrokenText text → status ≡ Done)

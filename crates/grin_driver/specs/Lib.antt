@@ -1,4 +1,5 @@
 pub mod Outcome
+pub mod TypedRuns
 pub mod Listing
 pub mod CodeListing
 pub mod After

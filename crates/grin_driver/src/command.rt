@@ -5,11 +5,13 @@ ghost use Rattle.grin_io.specs.Changes.{of_shelf, of_source, of_sink};
 ghost use Rattle.command_line.specs.Commands.{command_of, asked_by};
 ghost use Rattle.core_link.specs.Laws.{OrderIsFree, StillUnbroken, OneModuleKeeps};
 ghost use Rattle.lambda_lift.specs.Laws.{LiftingKeeps};
+ghost use Rattle.match_compile.specs.Laws.{IsSmall, BreaksOnlySize, SimpleStaysOne, MeansItsEquations};
 ghost use Rattle.grin_compile.specs.Limits.{InRange};
 ghost use Rattle.grin_driver.specs.Outcome.{Outcome};
 ghost use Rattle.grin_driver.specs.Building.{Builds};
 ghost use Rattle.grin_driver.specs.After.{ListsAfter};
 ghost use Rattle.grin_driver.specs.Execution.{Execution};
+ghost use Rattle.grin_driver.specs.TypedRuns.{TypedNeverExits};
 ghost use Rattle.text_commands.specs.Operands.{OfOperand, most_of_text};
 ghost use Rattle.grin_driver.specs.Answer.{Answers, IsWithin, OfNamed, most_of_image};
 ghost use Rattle.text_commands.specs.Telling.{IsTold};
@@ -19,6 +21,7 @@ ghost use Rattle.text_commands.specs.declared.status.Status.TheVariants.{OutOfMe
 use crate::build::build_text;
 use crate::exec::exec_image;
 use crate::generate::generate;
+use crate::laws::typed_never_exits;
 use crate::list::list_after;
 use crate::run::run_text;
 use command_line::{Command, Line, Listing};
@@ -26,12 +29,15 @@ use core_link::laws::{one_module_keeps, order_is_free, still_unbroken};
 use grin_compile::Options;
 use grin_io::{Shelf, Sink, Source};
 use lambda_lift::laws::lifting_keeps;
+use match_compile::laws::{breaks_only_size, is_small, means_its_equations, simple_stays_one};
 use std::alloc::Global;
+use text_commands::equations::Equations;
 use text_commands::laws::one_accepted_program;
 use text_commands::lift::Lift;
 use text_commands::operands::{check_file, link_files};
 use text_commands::reading::{MOST_OF_TEXT, read_file};
 use text_commands::status::Status;
+use text_commands::types::Types;
 use text_commands::writing::write_file;
 
 /// The most bytes that are read of an image: one more than those of the longest one.
@@ -180,6 +186,8 @@ fn run_command<F: Shelf, I: Source, K: Sink>(
         Command::Gen { seed, size } => generate(alloc, *seed, *size, out),
         Command::Link { files } => link_files(alloc, files, shelf, out),
         Command::Lift { file } => write_file(alloc, &Lift, file, shelf, out),
+        Command::Match { file } => write_file(alloc, &Equations, file, shelf, out),
+        Command::Types { file } => write_file(alloc, &Types, file, shelf, out),
     }
 }
 
@@ -209,9 +217,10 @@ fn run_line<F: Shelf, I: Source, K: Sink>(
 /// `run FILE` compiles a text and runs it on the input, `check FILE` puts the line of its program,
 /// `list FILE` lists it, `build FILE` puts its image, and `exec IMAGE` runs an executable on the
 /// input; `gen` runs a generated text and puts its summary, `link FILE..` puts the text that
-/// modules are together, and `lift FILE` the text of Core that a text with lambdas and local
-/// functions stands for. A file is read to its end, or up to the first byte past the longest one. A
-/// fault of `err` changes no status.
+/// modules are together, `lift FILE` the text of Core that a text with lambdas and local functions
+/// stands for, `match FILE` that of a text of equations, and `types FILE` that of a text with types,
+/// which fit. A file is read to its end, or up to the first byte past the longest one. A fault of
+/// `err` changes no status.
 pub fn grinc_main<F: Shelf, I: Source, K: Sink, E: Sink>(
     alloc: Global,
     line: &Line,
@@ -232,6 +241,8 @@ pub fn grinc_main<F: Shelf, I: Source, K: Sink, E: Sink>(
     ensures memory { result ≡ OutOfMemory → out.new ≡ out.old }
     ensures linking { OrderIsFree × (StillUnbroken × OneModuleKeeps) }
     ensures lifting { LiftingKeeps }
+    ensures matching { (IsSmall × BreaksOnlySize) × (SimpleStaysOne × MeansItsEquations) }
+    ensures typing { TypedNeverExits }
     ensures later { (F.faults shelf.old ≤ F.faults shelf.new)
         × ((I.faults input.old ≤ I.faults input.new) × (K.faults out.old ≤ K.faults out.new)) }
 {
@@ -243,6 +254,13 @@ pub fn grinc_main<F: Shelf, I: Source, K: Sink, E: Sink>(
     one_module_keeps();
     // A law of what is lifted.
     lifting_keeps();
+    // Laws of what equations become.
+    is_small();
+    breaks_only_size();
+    simple_stays_one();
+    means_its_equations();
+    // A law of what is made of a text with types.
+    typed_never_exits();
     let status = run_line(alloc, line, shelf, input, out);
     status.tell(err);
     status

@@ -7,6 +7,7 @@ mod command;
 mod exec;
 mod generate;
 mod image;
+pub mod laws;
 mod list;
 mod run;
 

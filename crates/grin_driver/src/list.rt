@@ -87,6 +87,9 @@ pub(crate) fn list_after<K: Sink>(alloc: Global, text: &[u8], after: Listing, ou
         Listing::Update => list_text(alloc, text, PassName::Update, out),
         Listing::Unbox => list_text(alloc, text, PassName::Unbox, out),
         Listing::Raise => list_text(alloc, text, PassName::Raise, out),
+        Listing::Flat => list_text(alloc, text, PassName::Flat, out),
+        Listing::Known => list_text(alloc, text, PassName::Known, out),
+        Listing::Cells => list_text(alloc, text, PassName::Cells, out),
         Listing::Dead => list_text(alloc, text, PassName::Dead, out),
         Listing::Code => list_code(alloc, text, out),
     }

@@ -40,7 +40,7 @@ module _ (p : Plan) where
   abbrev called : Program → (n m x : ℕ) → List Datum → ℕ → World → Option Procedure → Answer
   called q n m x xs d w o = need o w (λ r. need (one_each r.params xs) w (entry q n m x d w r))
 
-  abbrev at : (n : ℕ) → CallsFollow p (calls_by g looks n) (calls_by second looks n) → Setting
+  abbrev pub at : (n : ℕ) → CallsFollow p (calls_by g looks n) (calls_by second looks n) → Setting
   at n cf = side_by_side (calls_by g looks n) (calls_by second looks n) (calls_by_back P g looks n) cf
 
   body_follows : (n m x : ℕ) (cf : CallsFollow p (calls_by g looks n) (calls_by second looks n)) (f : ℕ) (q r : Procedure) → BodyFollows (at n cf) f q r → (xs xs' : List Datum) (d d' : ℕ) (w : World) (b : Beside K w)
@@ -66,18 +66,27 @@ module _ (p : Plan) where
       (λ a'. body_follows n m x cf f q r y xs xs' d d' w b a' nest) a
   one_follows n m x cf xs xs' d d' w b nest f (q ∷ qs) (r ∷ rs) (one_more y ys) (suc i) h a = one_follows n m x cf xs xs' d d' w b nest (suc f) qs rs ys i (omega (arith, h)) a
 
-  module _ (each : (c c' : Calls) (cb : CallsBack P c) (cf : CallsFollow p c c') → BodiesFollow (side_by_side c c' cb cf) 0 g.procs procs) where
-    pub all_follow : (n : ℕ) → CallsFollow p (calls_by g looks n) (calls_by second looks n)
+  -- bodies follow with the calls of any number of units, of which more may be known than of all calls
+  module _ (each : (n : ℕ) (cf : CallsFollow p (calls_by g looks n) (calls_by second looks n)) → BodiesFollow (at n cf) 0 g.procs procs) where
+    calls_too : (n : ℕ) → CallsFollow p (calls_by g looks n) (calls_by second looks n)
     unfolding calls_by
-    all_follow zero = record { by = λ x xs xs' d d' w b a nest _. stops_too b }
-    all_follow (suc n) = record {
-      by = λ x xs xs' d d' w b a nest. spend_sim P K (Result x) w.left w b _ _ (λ m.
-          one_follows n m x (all_follow n) xs xs' d d' w b nest 0 g.procs procs (each (calls_by g looks n) (calls_by second looks n) (calls_by_back P g looks n) (all_follow n)) x (omega arith) a);
-    }
+    calls_too zero = record { by = λ x xs xs' d d' w b a nest _. stops_too b }
+    calls_too (suc n) = record { by = λ x xs xs' d d' w b a nest. spend_sim P K (Result x) w.left w b _ _ (λ m. one_follows n m x (calls_too n) xs xs' d d' w b nest 0 g.procs procs (each n (calls_too n)) x (omega arith) a) }
 
     -- the run on i with n units, where the start takes its argument to itself; the plan may be one for this run
-    pub run_follows : (i : List ℕ) (n : ℕ) → Args g.start.0 (start_words g.argument) (start_words g.argument) → K.Heaps (global_cells g) (global_cells g) → Every P (world_of (run_by g looks i n)).seen
+    pub run_too : (i : List ℕ) (n : ℕ) → Args g.start.0 (start_words g.argument) (start_words g.argument) → K.Heaps (global_cells g) (global_cells g) → Every P (world_of (run_by g looks i n)).seen
         → Likewise K (Result g.start.0) (run_by g looks i n) (run_by second looks i n)
     unfolding run_by
-    run_follows i n a heaps all = (all_follow n).by g.start.0 (start_words g.argument) (start_words g.argument) 0 0 (start_world g i n)
+    run_too i n a heaps all = (calls_too n).by g.start.0 (start_words g.argument) (start_words g.argument) 0 0 (start_world g i n)
         (record { cells = global_cells g; seen = []; depth = 0; heaps = heaps; deep = K.start }) a K.start all
+
+  module _ (each : (c c' : Calls) (cb : CallsBack P c) (cf : CallsFollow p c c') → BodiesFollow (side_by_side c c' cb cf) 0 g.procs procs) where
+    each_at : (n : ℕ) (cf : CallsFollow p (calls_by g looks n) (calls_by second looks n)) → BodiesFollow (at n cf) 0 g.procs procs
+    each_at n cf = each (calls_by g looks n) (calls_by second looks n) (calls_by_back P g looks n) cf
+
+    pub all_follow : (n : ℕ) → CallsFollow p (calls_by g looks n) (calls_by second looks n)
+    all_follow = calls_too each_at
+
+    pub run_follows : (i : List ℕ) (n : ℕ) → Args g.start.0 (start_words g.argument) (start_words g.argument) → K.Heaps (global_cells g) (global_cells g) → Every P (world_of (run_by g looks i n)).seen
+        → Likewise K (Result g.start.0) (run_by g looks i n) (run_by second looks i n)
+    run_follows = run_too each_at

@@ -4,7 +4,7 @@ use Rattle.grin_syntax.specs.Tree.{Program}
 use Rattle.grin_meaning.specs.Ready.{IsInlined}
 use Rattle.pass_ground.specs.OpenUpdates.{open_updates}
 use Rattle.grin_opt.specs.declared.pass.PassName.{PassName}
-use Rattle.grin_opt.specs.declared.pass.PassName.TheVariants.{Translate, Eval, Apply, Vectorise, Simplify, Fetch, Copy, Update, Unbox, Raise, Dead}
+use Rattle.grin_opt.specs.declared.pass.PassName.TheVariants.{Translate, Eval, Apply, Vectorise, Simplify, Fetch, Copy, Update, Unbox, Raise, Flat, Known, Cells, Dead}
 use Rattle.grin_opt.specs.Schedule.{IsPass, IsTaken, before, shape_of, IsOptimised, itself, by_pass}
 use Rattle.grin_opt.specs.Staying.{place, IsFrom, ComesOf, the_same, by_one_more, FromUpdates, WhatIsOutStaysOut}
 use Rattle.grin_opt.proofs.Steps.{shaped_of_vectors, of_vectors, FetchesWords, by_words}
@@ -21,6 +21,9 @@ from_vectors Copy from = tt
 from_vectors Update from = tt
 from_vectors Unbox from = tt
 from_vectors Raise from = tt
+from_vectors Flat from = tt
+from_vectors Known from = tt
+from_vectors Cells from = tt
 from_vectors Dead from = tt
 
 from_words : (k : PassName) → IsFrom Fetch k → FetchesWords k
@@ -34,6 +37,9 @@ from_words Copy from = tt
 from_words Update from = tt
 from_words Unbox from = tt
 from_words Raise from = tt
+from_words Flat from = tt
+from_words Known from = tt
+from_words Cells from = tt
 from_words Dead from = tt
 
 stays_inlined : (g h : Program) (k : PassName) → IsTaken g → IsOptimised g k h → IsInlined h
@@ -51,6 +57,9 @@ before_comes_first Copy = omega arith
 before_comes_first Update = omega arith
 before_comes_first Unbox = omega arith
 before_comes_first Raise = omega arith
+before_comes_first Flat = omega arith
+before_comes_first Known = omega arith
+before_comes_first Cells = omega arith
 before_comes_first Dead = omega arith
 
 comes_after : (g : Program) (k : PassName) (h : Program) (k' : PassName) → ComesOf k g k' h → place k ≤ place k'
@@ -68,6 +77,9 @@ no_more_by Copy g h from s = omega (arith, from)
 no_more_by Update g h from s = s.updates.no_more
 no_more_by Unbox g h from s = omega (arith, same_open_updates g h s.same_updates)
 no_more_by Raise g h from s = s.no_more_open
+no_more_by Flat g h from s = omega (arith, s.same_open)
+no_more_by Known g h from s = s.no_more_open
+no_more_by Cells g h from s = s.no_more_open
 no_more_by Dead g h from s = s.no_more_open
 
 no_more : (g h : Program) (k : PassName) → ComesOf Update g k h → open_updates h ≤ open_updates g
@@ -89,6 +101,9 @@ pass_on g b h Copy from so_far o s = absurd (omega (arith, from))
 pass_on g b h Update from so_far o s = record { updated = h; stage = o; comes = the_same }
 pass_on g b h Unbox from so_far o s = let far = so_far (omega arith) in record { updated = far.updated; stage = far.stage; comes = by_one_more {k' = Unbox} far.comes s }
 pass_on g b h Raise from so_far o s = let far = so_far (omega arith) in record { updated = far.updated; stage = far.stage; comes = by_one_more {k' = Raise} far.comes s }
+pass_on g b h Flat from so_far o s = let far = so_far (omega arith) in record { updated = far.updated; stage = far.stage; comes = by_one_more {k' = Flat} far.comes s }
+pass_on g b h Known from so_far o s = let far = so_far (omega arith) in record { updated = far.updated; stage = far.stage; comes = by_one_more {k' = Known} far.comes s }
+pass_on g b h Cells from so_far o s = let far = so_far (omega arith) in record { updated = far.updated; stage = far.stage; comes = by_one_more {k' = Cells} far.comes s }
 pass_on g b h Dead from so_far o s = let far = so_far (omega arith) in record { updated = far.updated; stage = far.stage; comes = by_one_more {k' = Dead} far.comes s }
 
 comes_of : (g h : Program) (k : PassName) → IsFrom Update k → IsOptimised g k h → FromUpdates g k h

@@ -5,7 +5,7 @@ use Rattle.grin_meaning.specs.Ready.{IsFetchedByWords}
 use Rattle.grin_meaning.proofs.Kept.{keeps_again}
 use Rattle.pass_ground.specs.Vectors.{OfVectors}
 use Rattle.grin_opt.specs.declared.pass.PassName.{PassName}
-use Rattle.grin_opt.specs.declared.pass.PassName.TheVariants.{Translate, Eval, Apply, Vectorise, Simplify, Fetch, Copy, Update, Unbox, Raise, Dead}
+use Rattle.grin_opt.specs.declared.pass.PassName.TheVariants.{Translate, Eval, Apply, Vectorise, Simplify, Fetch, Copy, Update, Unbox, Raise, Flat, Known, Cells, Dead}
 use Rattle.grin_opt.specs.Schedule.{IsPass, IsTaken, shape_of, before, IsOfStage, IsPassedBy, IsOptimised, itself, by_pass}
 
 pub shaped_of_vectors : (k : PassName) (g h : Program) → shape_of k g h → OfVectors h
@@ -19,6 +19,9 @@ shaped_of_vectors Copy g h s = s.stays.of_vectors
 shaped_of_vectors Update g h s = s.stays.of_vectors
 shaped_of_vectors Unbox g h s = s.stays.of_vectors
 shaped_of_vectors Raise g h s = s.of_vectors
+shaped_of_vectors Flat g h s = s.stays.of_vectors
+shaped_of_vectors Known g h s = s.stays.of_vectors
+shaped_of_vectors Cells g h s = s.stays.of_vectors
 shaped_of_vectors Dead g h s = s.of_vectors
 
 pub of_vectors : (g h : Program) (k : PassName) → IsPass k → IsOptimised g k h → OfVectors h
@@ -32,6 +35,9 @@ FetchesWords Copy = Unit {0}
 FetchesWords Update = Unit {0}
 FetchesWords Unbox = Unit {0}
 FetchesWords Raise = Unit {0}
+FetchesWords Flat = Unit {0}
+FetchesWords Known = Unit {0}
+FetchesWords Cells = Unit {0}
 FetchesWords Dead = Unit {0}
 FetchesWords _ = ⊥
 
@@ -46,6 +52,9 @@ shaped_by_words Copy g h has so_far s = s.stays.by_words (so_far tt)
 shaped_by_words Update g h has so_far s = s.stays.by_words (so_far tt)
 shaped_by_words Unbox g h has so_far s = s.stays.by_words (so_far tt)
 shaped_by_words Raise g h has so_far s = s.by_words
+shaped_by_words Flat g h has so_far s = s.stays.by_words (so_far tt)
+shaped_by_words Known g h has so_far s = s.stays.by_words (so_far tt)
+shaped_by_words Cells g h has so_far s = s.stays.by_words (so_far tt)
 shaped_by_words Dead g h has so_far s = s.by_words
 
 pub by_words : (g h : Program) (k : PassName) → FetchesWords k → IsOptimised g k h → IsFetchedByWords h
@@ -66,6 +75,9 @@ of_stage Copy g h of s = (shaped_of_vectors Copy g h s, s.stays.by_words of.1)
 of_stage Update g h of s = (shaped_of_vectors Update g h s, s.stays.by_words of.1)
 of_stage Unbox g h of s = (shaped_of_vectors Unbox g h s, s.stays.by_words of.1)
 of_stage Raise g h of s = (shaped_of_vectors Raise g h s, s.by_words)
+of_stage Flat g h of s = (shaped_of_vectors Flat g h s, s.stays.by_words of.1)
+of_stage Known g h of s = (shaped_of_vectors Known g h s, s.stays.by_words of.1)
+of_stage Cells g h of s = (shaped_of_vectors Cells g h s, s.stays.by_words of.1)
 of_stage Dead g h of s = (shaped_of_vectors Dead g h s, s.by_words)
 
 -- the programs of the schedule are of their stages

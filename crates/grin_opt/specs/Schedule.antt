@@ -12,9 +12,11 @@ use Rattle.copy_prop.specs.Copied.{Copied}
 use Rattle.update_special.specs.Updated.{Updated}
 use Rattle.unbox.specs.Unboxed.{Unboxed}
 use Rattle.arity_raise.specs.Raised.{Raised}
+use Rattle.flat_blocks.specs.Flattened.{Flattened}
 use Rattle.dead_store.specs.Stored.{Stored}
+use Rattle.grin_opt.specs.Several.{OfKnownWords, OfOwnCells}
 use Rattle.grin_opt.specs.declared.pass.PassName.{PassName}
-use Rattle.grin_opt.specs.declared.pass.PassName.TheVariants.{Translate, Eval, Apply, Vectorise, Simplify, Fetch, Copy, Update, Unbox, Raise, Dead}
+use Rattle.grin_opt.specs.declared.pass.PassName.TheVariants.{Translate, Eval, Apply, Vectorise, Simplify, Fetch, Copy, Update, Unbox, Raise, Flat, Known, Cells, Dead}
 
 -- the stages from the inlining of applications on
 abbrev pub IsAfterInlining : PassName → Type 0
@@ -41,6 +43,9 @@ shape_of Copy g h = Copied g h
 shape_of Update g h = Updated g h
 shape_of Unbox g h = Unboxed g h
 shape_of Raise g h = Raised g h
+shape_of Flat g h = Flattened g h
+shape_of Known g h = OfKnownWords g h
+shape_of Cells g h = OfOwnCells g h
 shape_of Dead g h = Stored g h
 shape_of _ g h = ⊥
 
@@ -53,7 +58,10 @@ before Copy = Fetch
 before Update = Copy
 before Unbox = Update
 before Raise = Unbox
-before Dead = Raise
+before Flat = Raise
+before Known = Flat
+before Cells = Known
+before Dead = Cells
 before k = k
 
 -- what the programs of such a stage are: of vectors, from the first pass on, and without a fetch of

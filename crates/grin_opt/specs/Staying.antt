@@ -4,7 +4,7 @@ use Rattle.grin_syntax.specs.Tree.{Program}
 use Rattle.grin_meaning.specs.Ready.{IsInlined, IsVectorised, IsFetchedByWords}
 use Rattle.pass_ground.specs.OpenUpdates.{open_updates}
 use Rattle.grin_opt.specs.declared.pass.PassName.{PassName}
-use Rattle.grin_opt.specs.declared.pass.PassName.TheVariants.{Translate, Eval, Apply, Vectorise, Simplify, Fetch, Copy, Update, Unbox, Raise, Dead}
+use Rattle.grin_opt.specs.declared.pass.PassName.TheVariants.{Translate, Eval, Apply, Vectorise, Simplify, Fetch, Copy, Update, Unbox, Raise, Flat, Known, Cells, Dead}
 use Rattle.grin_opt.specs.Schedule.{IsTaken, shape_of, before, IsOptimised}
 
 -- the stages, counted
@@ -19,7 +19,10 @@ place Copy = 6
 place Update = 7
 place Unbox = 8
 place Raise = 9
-place Dead = 10
+place Flat = 10
+place Known = 11
+place Cells = 12
+place Dead = 13
 
 -- this stage, or one after it
 abbrev pub IsFrom : PassName → PassName → Type 0

@@ -5,7 +5,9 @@
 /// of its node variables, cases on known tags in place of which their alternatives stand, fetches
 /// of words in place of those of nodes, copies that are gone, updates with a known tag, numbers
 /// that are given without their tag, parameters in place of which the words of their nodes stand,
-/// and cells that nothing reads, which are gone.
+/// nested blocks in place of which their statements stand, words that are known in place of their
+/// variables, words of the procedure's own cells in place of their fetches, and cells that nothing
+/// reads, which are gone.
 #[derive(Clone, Copy, PartialEq, Eq, Debug, Drop)]
 pub enum PassName {
     Translate,
@@ -18,5 +20,8 @@ pub enum PassName {
     Update,
     Unbox,
     Raise,
+    Flat,
+    Known,
+    Cells,
     Dead,
 }

@@ -2,20 +2,83 @@
 
 ghost use Rattle.std.specs.Prelude.{◌≡◌, IfOk};
 ghost use Rattle.grin_syntax.specs.Tree.{program_of};
+ghost use Rattle.grin_meaning.specs.Keeps.{Keeps};
+ghost use Rattle.pass_ground.specs.Vectors.{OfVectors};
+ghost use Rattle.case_simplify.specs.Simplified.{Simplified};
+ghost use Rattle.copy_prop.specs.Copied.{Copied};
+ghost use Rattle.grin_opt.specs.Several.{MadeBy, Tidied, OfKnownWords, OfOwnCells};
 ghost use Rattle.grin_opt.specs.Schedule.{IsAfterInlining, IsTaken, IsOfStage, Takes, before, IsPassedBy, IsOptimised};
 
 use crate::pass::PassName;
 use arity_raise::Raise;
-use case_simplify::Simplify;
-use copy_prop::Copies;
+use case_simplify::{Simplify, with_fewer_cases};
+use copy_prop::{Copies, without_copies, without_idle};
 use dead_store::DeadStores;
 use fetch_passes::Fetches;
+use flat_blocks::Flatten;
 use grin_meaning::Pass;
 use grin_syntax::Grin;
+use known_words::KnownWords;
+use own_cells::Remember;
 use std::alloc::{AllocError, Global};
 use unbox::Unbox;
 use update_special::Updates;
 use vectorise::Vectorise;
+
+// The pass `Simplify`, by which no update loses its literal tag.
+fn simplified(alloc: Global, g: Grin) -> Result<Grin, AllocError>
+    requires { OfVectors (program_of g) }
+    ensures shape { IfOk result (λ h. MadeBy Simplified (program_of g) (program_of h)) }
+    ensures meaning { IfOk result (λ h. Keeps (program_of g) (program_of h)) }
+{
+    let h = with_fewer_cases(alloc, g)?;
+    Ok(h)
+}
+
+// The pass `Copies`, by which no update loses its literal tag.
+fn copied(alloc: Global, g: Grin) -> Result<Grin, AllocError>
+    requires { OfVectors (program_of g) }
+    ensures shape { IfOk result (λ h. MadeBy Copied (program_of g) (program_of h)) }
+    ensures meaning { IfOk result (λ h. Keeps (program_of g) (program_of h)) }
+{
+    let h = without_copies(alloc, g)?;
+    let k = without_idle(alloc, h)?;
+    Ok(k)
+}
+
+// Cases that are settled go, nested blocks give way to their statements, and copies go.
+fn tidied(alloc: Global, g: Grin) -> Result<Grin, AllocError>
+    requires { OfVectors (program_of g) }
+    ensures shape { IfOk result (λ h. MadeBy Tidied (program_of g) (program_of h)) }
+    ensures meaning { IfOk result (λ h. Keeps (program_of g) (program_of h)) }
+{
+    let simple = simplified(alloc, g)?;
+    let flat = Flatten.apply(alloc, simple)?;
+    let made = copied(alloc, flat)?;
+    Ok(made)
+}
+
+// Literals for the words that are known, and then what they settle.
+fn with_literals(alloc: Global, g: Grin) -> Result<Grin, AllocError>
+    requires { OfVectors (program_of g) }
+    ensures shape { IfOk result (λ h. OfKnownWords (program_of g) (program_of h)) }
+    ensures meaning { IfOk result (λ h. Keeps (program_of g) (program_of h)) }
+{
+    let known = KnownWords.apply(alloc, g)?;
+    let made = tidied(alloc, known)?;
+    Ok(made)
+}
+
+// No fetches of words of own cells that are known, and then what these settle.
+fn without_own_fetches(alloc: Global, g: Grin) -> Result<Grin, AllocError>
+    requires { OfVectors (program_of g) }
+    ensures shape { IfOk result (λ h. OfOwnCells (program_of g) (program_of h)) }
+    ensures meaning { IfOk result (λ h. Keeps (program_of g) (program_of h)) }
+{
+    let remembered = Remember.apply(alloc, g)?;
+    let made = tidied(alloc, remembered)?;
+    Ok(made)
+}
 
 /// The program after one pass. `AllocError` where memory is wanting.
 pub fn passed(alloc: Global, pass: PassName, g: Grin) -> Result<Grin, AllocError>
@@ -32,6 +95,9 @@ pub fn passed(alloc: Global, pass: PassName, g: Grin) -> Result<Grin, AllocError
         PassName::Update => Updates.apply(alloc, g),
         PassName::Unbox => Unbox.apply(alloc, g),
         PassName::Raise => Raise.apply(alloc, g),
+        PassName::Flat => Flatten.apply(alloc, g),
+        PassName::Known => with_literals(alloc, g),
+        PassName::Cells => without_own_fetches(alloc, g),
         PassName::Dead => DeadStores.apply(alloc, g),
     }
 }
@@ -49,7 +115,10 @@ fn stage_before(pass: PassName) -> PassName
         PassName::Update => PassName::Copy,
         PassName::Unbox => PassName::Update,
         PassName::Raise => PassName::Unbox,
-        PassName::Dead => PassName::Raise,
+        PassName::Flat => PassName::Raise,
+        PassName::Known => PassName::Flat,
+        PassName::Cells => PassName::Known,
+        PassName::Dead => PassName::Cells,
     }
 }
 

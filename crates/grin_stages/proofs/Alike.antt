@@ -27,7 +27,7 @@ use Rattle.apply_inline.specs.Size.{size}
 use Rattle.arity_check.specs.Program as core
 use Rattle.grin_translate.specs.Translation.{tr}
 use Rattle.grin_opt.specs.declared.pass.PassName.{PassName}
-use Rattle.grin_opt.specs.declared.pass.PassName.TheVariants.{Translate, Eval, Apply, Vectorise, Simplify, Fetch, Copy, Update, Unbox, Raise, Dead}
+use Rattle.grin_opt.specs.declared.pass.PassName.TheVariants.{Translate, Eval, Apply, Vectorise, Simplify, Fetch, Copy, Update, Unbox, Raise, Flat, Known, Cells, Dead}
 use Rattle.grin_opt.specs.Schedule.{shape_of}
 use Rattle.grin_stages.specs.Stage.{Analyses, OneExpandedSize, IsStage, translated, evaluations_inlined, both_inlined, by_pass, UpToInlining, OneStage}
 use Rattle.eval_inline.specs.Inlining.{some_of, cells_in, site_of, sites_of, tags_of, fields_at, call_body, eval_arm, eval_arms, evaluation, eval_bound, eval_ended, eval_act, eval_code, eval_all, eval_procs, act_room, code_room, all_room, arms_room, eval_inlined}
@@ -354,6 +354,9 @@ no_pass Copy g h u s = absurd u
 no_pass Update g h u s = absurd u
 no_pass Unbox g h u s = absurd u
 no_pass Raise g h u s = absurd u
+no_pass Flat g h u s = absurd u
+no_pass Known g h u s = absurd u
+no_pass Cells g h u s = absurd u
 no_pass Dead g h u s = absurd u
 
 -- where two stages are of one pass, up to the inlining, they are one program

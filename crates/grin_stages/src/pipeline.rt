@@ -123,6 +123,9 @@ pub fn stage(alloc: Global, p: &Checked, upto: PassName) -> Result<Grin, Compile
         | PassName::Update
         | PassName::Unbox
         | PassName::Raise
+        | PassName::Flat
+        | PassName::Known
+        | PassName::Cells
         | PassName::Dead => optimised(alloc, p, upto),
     }
 }

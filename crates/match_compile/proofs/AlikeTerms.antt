@@ -143,13 +143,13 @@ abbrev mutual
 -- ---- later locals have larger numbers
 
 mutual
-  normal_grows : {p : Program} {s : Scope} {n m : ℕ} {x : Expr} {e : normal.Term} → IsNormal p s n x e m → n ≤ m
+  pub normal_grows : {p : Program} {s : Scope} {n m : ℕ} {x : Expr} {e : normal.Term} → IsNormal p s n x e m → n ≤ m
   normal_grows (PlainApp d) = omega arith
   normal_grows (BoundApp d) = omega arith
   normal_grows (Group inner xs bounds e g b) = let h = normal_grows b in omega (arith, h)
   normal_grows (Choice a b) = let h = normal_grows a in let i = branches_grow b in omega (arith, h, i)
 
-  branches_grow : {p : Program} {s : Scope} {n m : ℕ} {alts : Alts} {bs : normal.Branches} → AreBranches p s n alts bs m → n ≤ m
+  pub branches_grow : {p : Program} {s : Scope} {n m : ℕ} {alts : Alts} {bs : normal.Branches} → AreBranches p s n alts bs m → n ≤ m
   branches_grow NoBranches = omega arith
   branches_grow (ConBranch xs e r a b) = let h = normal_grows a in let i = branches_grow b in omega (arith, h, i)
   branches_grow (IntBranch a b) = let h = normal_grows a in let i = branches_grow b in omega (arith, h, i)

@@ -23,7 +23,7 @@ use Rattle.arity_check.specs.Pieces.{Piece, AnApp, AGroup, SomeAlts, binders_of,
 use Rattle.match_compile.specs.Source.{Source}
 use Rattle.match_compile.specs.Sound.{spread}
 use Rattle.match_compile.specs.Renamed.{name_for, hidden, renamed_term, renamed_terms, renamed_app, renamed_bind, renamed_expr, renamed_alts}
-use Rattle.match_compile.specs.Translated.{is_nameless, is_primitive, is_kept, with_nameless, keeps, translated}
+use Rattle.match_compile.specs.Translated.{words_of, is_nameless, is_primitive, is_kept, with_nameless, keeps, translated}
 use Rattle.match_compile.proofs.NamedAs.{named_by, old_named, new_named, same_primitive, new_primitive, spread_text}
 use Rattle.match_compile.proofs.Grouped.{function_names}
 
@@ -163,7 +163,7 @@ module _ (c : Source) where
   pub record IsPlain (x : ℕ) : Type 0 where
     pub text : List ℕ
     pub is : slice_get c.names x ≡ Some text
-    pub free : keeps c x ≡ false
+    pub free : keeps (words_of c) x ≡ false
     pub named : is_named (spread c) (codes "_") x ≡ false
 
   -- it stays as it is, or has become a new name in scope
@@ -173,7 +173,7 @@ module _ (c : Source) where
 
   -- what names have become, the scope around them before, and the one now
   pub record Fits (s outer inner : Scope) : Type 0 where
-    pub kept : (x : ℕ) → keeps c x ≡ true → name_for s x ≡ x
+    pub kept : (x : ℕ) → keeps (words_of c) x ≡ true → name_for s x ≡ x
     pub other : (x : ℕ) → IsPlain x → Becomes x s outer inner
 
   becomes_bound : (b x : ℕ) (s outer inner : Scope) → IsPlain x → Becomes x s outer inner → Becomes x ((b, b) ∷ s) (binds (spread c) b b outer) (binds (translated c) b b inner)
@@ -470,13 +470,13 @@ module _ (c : Source) where
       w : List ℕ
       w = r.0
 
-      kept_is : keeps c x ≡ is_kept w
+      kept_is : keeps (words_of c) x ≡ is_kept w
       kept_is = ap (λ o. is_kept (or_empty o)) r.1
 
       nameless_is : is_named (spread c) (codes "_") x ≡ is_nameless w
       nameless_is = named_by c (spread c) (codes "_") w x (spread_text c x r.1)
 
-      kept_by : (a b : Bool) → is_nameless w ≡ a → is_primitive primitives w ≡ b → keeps c x ≡ (a || b)
+      kept_by : (a b : Bool) → is_nameless w ≡ a → is_primitive primitives w ≡ b → keeps (words_of c) x ≡ (a || b)
       kept_by a b e g = kept_is ∙ (λ i. e i || g i)
 
       nothing : is_named (spread c) (codes "_") x ≡ true → means (spread c) outer x ≡ stands.Unbound

@@ -34,7 +34,7 @@ use Rattle.match_compile.specs.Sound.{name_by, spread, spread_functions, IsSound
 use Rattle.match_compile.specs.Trees.{most_chained, insert}
 use Rattle.match_compile.specs.Decisions.{Decision, row_of, begun, grown, decided, decisions_from, all_decisions, decisions}
 use Rattle.match_compile.specs.Renamed.{name_for, renamed_term}
-use Rattle.match_compile.specs.Translated.{with_nameless, pattern_of, is_called, first_of, each_of, others_of, firsts, others, translated}
+use Rattle.match_compile.specs.Translated.{words_of, with_nameless, pattern_of, is_called, first_of, each_of, others_of, firsts, others, translated}
 use Rattle.match_compile.proofs.Decided.{by_insert}
 use Rattle.match_compile.proofs.Inserted.{same_self}
 use Rattle.match_compile.proofs.NamedAs.{IsApart, main_apart, int_apart, nil_apart, cons_apart, primitive_apart, text_of_spread, translated_text, named_text, named_by, same_named, new_apart, is_in}
@@ -67,7 +67,7 @@ joined_total e ((f ∷ es) ∷ fs) = go (e.name == f.name)
     go true = omega arith
     go false = omega arith
 
-functions_total : (es : List Equation) → total (functions es) ≡ length es
+pub functions_total : (es : List Equation) → total (functions es) ≡ length es
 functions_total [] = refl
 functions_total (e ∷ es) = joined_total e (functions es) ∙ ap suc (functions_total es)
 
@@ -76,24 +76,24 @@ spread_length before new [] = refl
 spread_length before new (e ∷ es) = ap suc (spread_length (before ++ e ∷ []) (suc new) es)
 
 module _ (c : Source) where
-  each_length : (ds : List Decision) → length (each_of c ds) ≡ length ds
+  each_length : (ds : List Decision) → length (each_of (words_of c) ds) ≡ length ds
   each_length [] = refl
   each_length (d ∷ ds) = ap suc (each_length ds)
 
-  group_length : (ds : List Decision) → length (first_of c ds) + length (others_of c ds) ≡ length ds
+  group_length : (ds : List Decision) → length (first_of (words_of c) ds) + length (others_of (words_of c) ds) ≡ length ds
   group_length [] = omega arith
   group_length (d ∷ ds) = omega (arith, each_length ds)
 
-  all_fewer : (k : ℕ) (fs : List (List Equation)) → length (firsts c (all_decisions k fs)) + length (others c (all_decisions k fs)) ≤ total fs
+  all_fewer : (k : ℕ) (fs : List (List Equation)) → length (firsts (words_of c) (all_decisions k fs)) + length (others (words_of c) (all_decisions k fs)) ≤ total fs
   all_fewer k [] = omega arith
   all_fewer k (f ∷ fs) =
       let ds : List Decision = decisions_from k (rows f) in
       let rest : List (List Decision) = all_decisions (k + length f) fs in
-      omega (arith, length-append (first_of c ds) (firsts c rest), length-append (others_of c ds) (others c rest), group_length ds, decisions_fewer k (rows f), rows_fewer f, all_fewer (k + length f) fs)
+      omega (arith, length-append (first_of (words_of c) ds) (firsts (words_of c) rest), length-append (others_of (words_of c) ds) (others (words_of c) rest), group_length ds, decisions_fewer k (rows f), rows_fewer f, all_fewer (k + length f) fs)
 
   no_more_functions : length (translated c).functions ≤ length (spread c).functions
   no_more_functions =
-      omega (arith, length-append (firsts c (decisions c)) (others c (decisions c)), all_fewer 0 (functions c.equations), functions_total c.equations, spread_length [] (length c.names) c.equations)
+      omega (arith, length-append (firsts (words_of c) (decisions c)) (others (words_of c) (decisions c)), all_fewer 0 (functions c.equations), functions_total c.equations, spread_length [] (length c.names) c.equations)
 
 -- ---- names of functions
 
@@ -164,7 +164,7 @@ module _ (c : Source) (at params : ℕ) where
   no_both b e f = absurd cc
 
   -- two tests of one case are of one kind
-  one_kind : (h g : Head) (xs ys : List Binder) → same_kind h g ≡ true → Differs (pattern_of c at params h xs) (pattern_of c at params g ys) → ⊥
+  one_kind : (h g : Head) (xs ys : List Binder) → same_kind h g ≡ true → Differs (pattern_of (words_of c) at params h xs) (pattern_of (words_of c) at params g ys) → ⊥
   one_kind (Integer k) (Integer j) xs ys e d = d
   one_kind (Integer k) (Constructor f) xs ys e d = absurd cc
   one_kind (Constructor f) (Integer j) xs ys e d = absurd cc
@@ -180,7 +180,7 @@ module _ (c : Source) (at params : ℕ) where
   apart_kind : (p q : Pattern) → Apart c at params p q → Differs p q → ⊥
   apart_kind p q a d = elim a.second [
     | inl i ↦ default_kind p q i d
-    | inr s ↦ one_kind a.head s.0 a.first.fields s.1.fields s.2.1 (subst (λ w. Differs w (pattern_of c at params s.0 s.1.fields)) a.first.is (subst (Differs p) s.1.is d))
+    | inr s ↦ one_kind a.head s.0 a.first.fields s.1.fields s.2.1 (subst (λ w. Differs w (pattern_of (words_of c) at params s.0 s.1.fields)) a.first.is (subst (Differs p) s.1.is d))
   ]
 
   -- and of different heads
@@ -204,7 +204,7 @@ module _ (c : Source) (unbroken : (k at : ℕ) → rules.Broken c k at → ⊥) 
   record From (now : Scope) (q : Piece) : Type 0 where
     decision : Decision
     stood : Stood c decision
-    origin : Origin c unbroken sound read decision.at decision.params (params_most c unbroken sound read decision stood) now q
+    origin : Origin c unbroken sound read decision.at decision.params (params_most c unbroken read decision stood) now q
 
   from : (now : Scope) (q : Piece) → InFunction (translated c) now q → From now q
   from now q f =
@@ -230,8 +230,8 @@ module _ (c : Source) (unbroken : (k at : ℕ) → rules.Broken c k at → ⊥) 
 
   named_in : {e : Equation} → In e c.equations → In e.name (function_names (translated c).functions)
   named_in {e = e} i =
-      subst (In e.name) (sym (names_append (firsts c (decisions c)) (others c (decisions c))))
-      (in_left (function_names (firsts c (decisions c))) (function_names (others c (decisions c))) (subst (In e.name) (sym (firsts_names c 0 (functions c.equations))) (each_name c.equations i)))
+      subst (In e.name) (sym (names_append (firsts (words_of c) (decisions c)) (others (words_of c) (decisions c))))
+      (in_left (function_names (firsts (words_of c) (decisions c))) (function_names (others (words_of c) (decisions c))) (subst (In e.name) (sym (firsts_names c 0 (functions c.equations))) (each_name c.equations i)))
 
   -- an old name of a function there is one here
   old_function : (x : ℕ) → x < length c.names → In x (function_names (spread c).functions) → In x (function_names (translated c).functions)
@@ -259,7 +259,7 @@ module _ (c : Source) (unbroken : (k at : ℕ) → rules.Broken c k at → ⊥) 
   old_or_new i g e =
       let m = made_at i g e in
       let name_is : g.name ≡ m.name = ap (λ (f : Function). f.name) m.is in
-      let many : length g.params ≡ count m.stood.first.pats = ap (λ (f : Function). length f.params) m.is ∙ params_length c unbroken sound read m.decision m.stood (is_called c m.decision m.next) ∙ m.stood.params in
+      let many : length g.params ≡ count m.stood.first.pats = ap (λ (f : Function). length f.params) m.is ∙ params_length c unbroken read m.decision m.stood (is_called (words_of c) m.decision m.next) ∙ m.stood.params in
       elim m.named [
         | inl q ↦ inl (record { equation = m.stood.first; is_in = m.stood.is_in; name = name_is ∙ q ∙ m.stood.name; params = many })
         | inr le ↦ inr (subst (λ n. length (with_nameless c.names) ≤ n) (sym name_is) le)
@@ -268,7 +268,7 @@ module _ (c : Source) (unbroken : (k at : ℕ) → rules.Broken c k at → ⊥) 
   few_params : (i : ℕ) (g : Function) → slice_get (translated c).functions i ≡ Some g → length g.params ≤ 12
   few_params i g e =
       let m = made_at i g e in
-      let many : length g.params ≡ count m.stood.first.pats = ap (λ (f : Function). length f.params) m.is ∙ params_length c unbroken sound read m.decision m.stood (is_called c m.decision m.next) ∙ m.stood.params in
+      let many : length g.params ≡ count m.stood.first.pats = ap (λ (f : Function). length f.params) m.is ∙ params_length c unbroken read m.decision m.stood (is_called (words_of c) m.decision m.next) ∙ m.stood.params in
       let le = sound.patterns m.stood.first m.stood.is_in in
       omega (arith, many, le)
 
@@ -310,7 +310,7 @@ module _ (c : Source) (unbroken : (k at : ℕ) → rules.Broken c k at → ⊥) 
       of_piece e i w (SomeAlts a) is r = absurd r
       of_piece e i w (AGroup g) is r = subst IsFine (sym r) (fine_there (binders_of g) (OfGroup (in_spread e i w.scope (AGroup g) (subst (Has (spread c) (within (spread c) (parts.names_of e.pats) []) e.body w.scope) is w.has))))
 
-      by : Origin c unbroken sound read f.decision.at f.decision.params (params_most c unbroken sound read f.decision f.stood) t (AGroup group) → IsFine (binders_of group)
+      by : Origin c unbroken sound read f.decision.at f.decision.params (params_most c unbroken read f.decision f.stood) t (AGroup group) → IsFine (binders_of group)
       by (OfBody e i w) = of_piece e i w w.piece refl w.renamed
 
   -- ---- cases
@@ -322,7 +322,7 @@ module _ (c : Source) (unbroken : (k at : ℕ) → rules.Broken c k at → ⊥) 
     there : InFunction (spread c) scope (SomeAlts before)
     same : (i : ℕ) → alt_at alts i ≡ alt_at before i
 
-  alts_either : (t : Scope) (alts : Alts) (f : From t (SomeAlts alts)) → SameAlts alts ⊎ GoodAlts c unbroken sound read f.decision.at f.decision.params (params_most c unbroken sound read f.decision f.stood) alts
+  alts_either : (t : Scope) (alts : Alts) (f : From t (SomeAlts alts)) → SameAlts alts ⊎ GoodAlts c unbroken sound read f.decision.at f.decision.params (params_most c unbroken read f.decision f.stood) alts
   alts_either t alts f = by f.origin
     where
       of_piece : (e : Equation) → In e c.equations → (w : Renamed c (within (spread c) (parts.names_of e.pats) []) e.body t (SomeAlts alts)) (q : Piece) → w.piece ≡ q → IsRenamed c w.names q (SomeAlts alts) → SameAlts alts
@@ -330,23 +330,23 @@ module _ (c : Source) (unbroken : (k at : ℕ) → rules.Broken c k at → ⊥) 
       of_piece e i w (AGroup g) is r = absurd r
       of_piece e i w (SomeAlts a) is r = record { scope = w.scope; before = a; there = in_spread e i w.scope (SomeAlts a) (subst (Has (spread c) (within (spread c) (parts.names_of e.pats) []) e.body w.scope) is w.has); same = r }
 
-      by : Origin c unbroken sound read f.decision.at f.decision.params (params_most c unbroken sound read f.decision f.stood) t (SomeAlts alts)
-          → SameAlts alts ⊎ GoodAlts c unbroken sound read f.decision.at f.decision.params (params_most c unbroken sound read f.decision f.stood) alts
+      by : Origin c unbroken sound read f.decision.at f.decision.params (params_most c unbroken read f.decision f.stood) t (SomeAlts alts)
+          → SameAlts alts ⊎ GoodAlts c unbroken sound read f.decision.at f.decision.params (params_most c unbroken read f.decision f.stood) alts
       by (OfBody e i w) = inl (of_piece e i w w.piece refl w.renamed)
       by (OfAlts g) = inr g
 
   list_fine : (xs : List Binder) → BinderList (translated c) xs → IsFine xs
   list_fine xs (OfFunction {f = g} i e) =
       let m = made_at i g e in
-      let called : Bool = is_called c m.decision m.next in
-      subst (λ (f : Function). IsFine f.params) (sym m.is) (good_fine m.decision.params (params_most c unbroken sound read m.decision m.stood) (params_of c unbroken sound read m.decision m.stood called) (good_params c unbroken sound read m.decision m.stood called))
+      let called : Bool = is_called (words_of c) m.decision m.next in
+      subst (λ (f : Function). IsFine f.params) (sym m.is) (good_fine m.decision.params (params_most c unbroken read m.decision m.stood) (params_of c unbroken read m.decision m.stood called) (good_params c unbroken sound read m.decision m.stood called))
   list_fine xs (OfGroup {t = t} {group = group} f) = group_fine t group (from t (AGroup group) f)
   list_fine xs (OfPattern {t = t} {alts = alts} {pat = pat} i f e) = by (from t (SomeAlts alts) f)
     where
       by : From t (SomeAlts alts) → IsFine (bound_by pat)
       by w = elim (alts_either t alts w) [
         | inl s ↦ fine_there (bound_by pat) (OfPattern i s.there (sym (s.same i) ∙ e))
-        | inr g ↦ good_fine w.decision.params (params_most c unbroken sound read w.decision w.stood) (bound_by pat) (g.lists i pat e)
+        | inr g ↦ good_fine w.decision.params (params_most c unbroken read w.decision w.stood) (bound_by pat) (g.lists i pat e)
       ]
 
   -- ---- applications
@@ -368,7 +368,7 @@ module _ (c : Source) (unbroken : (k at : ℕ) → rules.Broken c k at → ⊥) 
       of_piece e i w (AGroup g) is r = absurd r
       of_piece e i w (SomeAlts a) is r = absurd r
 
-      by : Origin c unbroken sound read f.decision.at f.decision.params (params_most c unbroken sound read f.decision f.stood) t (AnApp app) → SameApp t app ⊎ GoodApp c unbroken sound read t app
+      by : Origin c unbroken sound read f.decision.at f.decision.params (params_most c unbroken read f.decision f.stood) t (AnApp app) → SameApp t app ⊎ GoodApp c unbroken sound read t app
       by (OfBody e i w) = inl (of_piece e i w w.piece refl w.renamed)
       by (OfApp g) = inr g
 

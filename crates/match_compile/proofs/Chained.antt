@@ -1,6 +1,7 @@
 -- Functions that stand for the trees of a function's equations, one after the other, serve the equations.
 use Rattle.std.proofs.Common.{◌≡◌, ℕ, suc, ◌<◌, List, [], ◌∷◌, ◌++◌, map, length, Some, None, slice_get, refl, sym, ap, ◌∙◌, subst, arith, length-append}
 use Rattle.seq.proofs.Lists.{append_nil, length_map}
+use Rattle.core_reader.specs.declared.syntax.Binder.{Binder}
 use Rattle.core_reader.specs.Tree.{Expr}
 use Rattle.arity_check.specs.Program as normal
 use Rattle.arity_check.specs.Normal.{Pairwise}
@@ -39,7 +40,7 @@ some_rows rows t (OfCase a b c) = omega arith
 some_equations : (es : List Equation) (t : Tree) → IsTree (map row_of es) t → 0 < length es
 some_equations es t is = let lt = some_rows (map row_of es) t is in let l = length_map row_of es in omega (arith, lt, l)
 
-module _ (c : Source) (B : Expr → normal.Term → Type 0) (arity many : ℕ → ℕ) (IsFun : ℕ → Type 0) (p : normal.Program) (width : ℕ) (ctx : Places) where
+module _ (c : Source) (B : Expr → List Binder → normal.Term → Type 0) (arity many : ℕ → ℕ) (IsFun : ℕ → Type 0) (p : normal.Program) (width : ℕ) (ctx : Places) where
   -- each function is for a tree, and goes on with the one for the next tree
   pub data Chained : List Decision → ℕ → Type 0 where
     LastTree : {d : Decision} {g : ℕ} (f : normal.Function) → slice_get p.funs g ≡ Some f → Codes c B arity many IsFun width None ctx width d.tree f.body → Chained (d ∷ []) g
@@ -49,8 +50,9 @@ module _ (c : Source) (B : Expr → normal.Term → Type 0) (arity many : ℕ �
   abbrev pub RowFor : Equation → Row → Type 0
   RowFor e g = Stands c B arity many IsFun width None ctx (row_of e) (settled (way width g))
 
-  pub record ServesFew (most : ℕ) (gs : List Row) (g : ℕ) : Type 0 where
+  pub record ServesFew (ds : List Decision) (most : ℕ) (gs : List Row) (g : ℕ) : Type 0 where
     pub more : ℕ
+    pub trees : suc more ≡ length ds
     pub below : more < most
     pub serves : Serves arity many IsFun p width more gs g
 
@@ -64,8 +66,8 @@ module _ (c : Source) (B : Expr → normal.Term → Type 0) (arity many : ℕ �
   none_stand NoneLeft e = refl
   none_stand (More is rest) e = absurd cc
 
-  module _ (one : OneName c B) where
-    pub chained_serves : {ds : List Decision} {g : ℕ} → Chained ds g → {k : ℕ} {es : List Equation} → StandFor k es ds → (gs : List Row) → Pairwise RowFor es gs → ServesFew (length es) gs g
+  module _ (one : OneName c B many) where
+    pub chained_serves : {ds : List Decision} {g : ℕ} → Chained ds g → {k : ℕ} {es : List Equation} → StandFor k es ds → (gs : List Row) → Pairwise RowFor es gs → ServesFew ds (length es) gs g
     chained_serves {g = g} (LastTree {d = d} f found code) (More {es = es} {rest = rest} is others) gs h =
         let q = parts_of RowFor es rest gs h in
         let none : rest ≡ [] = none_stand others refl in
@@ -74,7 +76,7 @@ module _ (c : Source) (B : Expr → normal.Term → Type 0) (arity many : ℕ �
         let dec : Decides arity many IsFun width None width (ways width q.first) f.body = codes_decide c B arity many IsFun width None one code is.tree (ways width q.first) (rows_for es q.first q.first_are) in
         let some = some_equations es d.tree is.tree in
         let l = length-append es rest in
-        record { more = 0; below = omega (arith, some, l); serves = ByOne f found (subst (λ z. Decides arity many IsFun width None width (ways width z) f.body) same dec) }
+        record { more = 0; trees = refl; below = omega (arith, some, l); serves = ByOne f found (subst (λ z. Decides arity many IsFun width None width (ways width z) f.body) same dec) }
     chained_serves {g = g} (AndTree {d = d} g' f found code chain) (More {es = es} {rest = rest} is others) gs h =
         let q = parts_of RowFor es rest gs h in
         let dec : Decides arity many IsFun width (Some g') width (ways width q.first) f.body = codes_decide c B arity many IsFun width (Some g') one code is.tree (ways width q.first) (rows_for es q.first q.first_are) in
@@ -82,4 +84,4 @@ module _ (c : Source) (B : Expr → normal.Term → Type 0) (arity many : ℕ �
         let some = some_equations es d.tree is.tree in
         let l = length-append es rest in
         let lt = s.below in
-        record { more = suc s.more; below = omega (arith, some, l, lt); serves = ByMore g' q.first q.rest f found dec s.serves q.is }
+        record { more = suc s.more; trees = ap suc s.trees; below = omega (arith, some, l, lt); serves = ByMore g' q.first q.rest f found dec s.serves q.is }

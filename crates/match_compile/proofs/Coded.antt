@@ -1,10 +1,12 @@
 -- A term that stands for a tree, node by node, decides between what stands for the rows of the tree.
-use Rattle.std.proofs.Common.{◌≡◌, ◌⊎◌, ℕ, ◌+◌, ◌≤◌, Bool, true, false, cond, List, [], ◌∷◌, map, Option, Some, None, slice_get, refl, sym, ap, ◌∙◌, subst, inl, inr}
+use Rattle.std.proofs.Common.{◌≡◌, ◌⊎◌, ℕ, ◌+◌, ◌≤◌, Bool, true, false, cond, List, [], ◌∷◌, map, length, Option, Some, None, slice_get, refl, sym, ap, ◌∙◌, subst, inl, inr}
 use Rattle.std.specs.Prelude.{◌==◌, ◌||◌, ℤ}
 use Rattle.std.specs.List.{range_with_len}
+use Rattle.std.proofs.lemmas.List.FromFn.{length-range_with_len}
 use Rattle.seq.specs.Lists.{AllOf, In, here, there}
 use Rattle.seq.proofs.Lists.{some_is}
 use Rattle.seq.proofs.Truth.{or_cases}
+use Rattle.core_reader.specs.declared.syntax.Binder.{Binder}
 use Rattle.core_reader.specs.Tree.{Expr}
 use Rattle.arity_check.specs.declared.normal.Flat.TheVariants as flat
 use Rattle.arity_check.specs.declared.normal.Var.TheVariants as var
@@ -36,25 +38,25 @@ pub record InScope (ctx : Places) (q : ℕ) : Type 0 where
   pub local : ℕ
   pub is : local_in ctx q ≡ Some local
 
-module _ (c : Source) (B : Expr → normal.Term → Type 0) (arity many : ℕ → ℕ) (IsFun : ℕ → Type 0) (params : ℕ) (next : Option ℕ) where
+abbrev pub Once : Places → Type 0
+Once ctx = (q p : ℕ) → InScope ctx q → InScope ctx p → local_of ctx q ≡ local_of ctx p → q ≡ p
+
+-- a branch's places are new, and have the locals of its fields
+pub record Fresh (ctx ctx' : Places) (places xs : List ℕ) : Type 0 where
+  pub same : (q : ℕ) → InScope ctx q → local_of ctx' q ≡ local_of ctx q
+  pub more : (q : ℕ) → InScope ctx q → InScope ctx' q
+  pub new : AllOf (InScope ctx') places
+  pub locals : map (local_of ctx') places ≡ xs
+
+module _ (c : Source) (B : Expr → List Binder → normal.Term → Type 0) (arity many : ℕ → ℕ) (IsFun : ℕ → Type 0) (params : ℕ) (next : Option ℕ) where
   abbrev pub Stands : Places → tree.Row → Attempt → Type 0
-  Stands ctx = RowAs c B (InScope ctx) (local_of ctx)
+  Stands ctx = RowAs c B many (InScope ctx) (local_of ctx)
 
   -- a body whose names are these locals is alike to a term
   pub record BodyAlike (a : Attempt) (e : normal.Term) : Type 0 where
     pub pairs : Pairs
     pub linked : (x y : ℕ) → Linked pairs x y → slice_get a.bound x ≡ Some y
     pub alike : TermAlike arity many IsFun pairs a.body e
-
-  abbrev pub Once : Places → Type 0
-  Once ctx = (q p : ℕ) → InScope ctx q → InScope ctx p → local_of ctx q ≡ local_of ctx p → q ≡ p
-
-  -- a branch's places are new, and have the locals of its fields
-  pub record Fresh (ctx ctx' : Places) (places xs : List ℕ) : Type 0 where
-    pub same : (q : ℕ) → InScope ctx q → local_of ctx' q ≡ local_of ctx q
-    pub more : (q : ℕ) → InScope ctx q → InScope ctx' q
-    pub new : AllOf (InScope ctx') places
-    pub locals : map (local_of ctx') places ≡ xs
 
   mutual
     -- a term for a tree, where the locals from n on are free
@@ -74,7 +76,7 @@ module _ (c : Source) (B : Expr → normal.Term → Type 0) (arity many : ℕ �
 
   -- ---- first tests
 
-  none_left : (jobs : List Job) (tasks : List Task) (loc : ℕ → ℕ) → jobs ≡ [] → JobsAs c B loc jobs tasks → tasks ≡ []
+  none_left : (jobs : List Job) (tasks : List Task) (loc : ℕ → ℕ) → jobs ≡ [] → JobsAs c B many loc jobs tasks → tasks ≡ []
   none_left [] [] loc e h = refl
   none_left [] (k ∷ ks) loc e h = absurd h
   none_left (j ∷ js) ks loc e h = absurd cc
@@ -99,24 +101,24 @@ module _ (c : Source) (B : Expr → normal.Term → Type 0) (arity many : ℕ �
   -- ---- kinds that were seen
 
   abbrev SeenSo : Branches → Branches → List decides.Kind → Type 0
-  SeenSo all bs seen = (g : Head) (k : decides.Kind) → has_head g all ≡ true → KindAs c B g k → In k seen ⊎ (has_head g bs ≡ true)
+  SeenSo all bs seen = (g : Head) (k : decides.Kind) → has_head g all ≡ true → KindAs c B many g k → In k seen ⊎ (has_head g bs ≡ true)
 
-  one_kind : (g : Head) (k k' : decides.Kind) → KindAs c B g k → KindAs c B g k' → k ≡ k'
+  one_kind : (g : Head) (k k' : decides.Kind) → KindAs c B many g k → KindAs c B many g k' → k ≡ k'
   one_kind g k k' SameInteger SameInteger = refl
   one_kind g k k' (SameConstructor e) (SameConstructor f) = ap (λ z. decides.Constructor z) (some_is (sym e ∙ f))
 
-  seen_more : (all bs : Branches) (h : Head) (places : List ℕ) (t : Tree) (seen : List decides.Kind) (kind : decides.Kind) → KindAs c B h kind → SeenSo all (AndBranch h places t bs) seen → SeenSo all bs (kind ∷ seen)
+  seen_more : (all bs : Branches) (h : Head) (places : List ℕ) (t : Tree) (seen : List decides.Kind) (kind : decides.Kind) → KindAs c B many h kind → SeenSo all (AndBranch h places t bs) seen → SeenSo all bs (kind ∷ seen)
   seen_more all bs h places t seen kind is s g k known as' = by (s g k known as')
     where
       found : (same_head h g ≡ true) ⊎ (has_head g bs ≡ true) → In k (kind ∷ seen) ⊎ (has_head g bs ≡ true)
-      found (inl e) = inl (subst (λ z. In z (kind ∷ seen)) (one_kind g kind k (subst (λ z. KindAs c B z kind) (same_is h g e) is) as') here)
+      found (inl e) = inl (subst (λ z. In z (kind ∷ seen)) (one_kind g kind k (subst (λ z. KindAs c B many z kind) (same_is h g e) is) as') here)
       found (inr e) = inr e
 
       by : In k seen ⊎ ((same_head h g || has_head g bs) ≡ true) → In k (kind ∷ seen) ⊎ (has_head g bs ≡ true)
       by (inl i) = inl (there i)
       by (inr e) = found (or_cases (same_head h g) (has_head g bs) e)
 
-  seen_all : (all : Branches) (seen : List decides.Kind) → SeenSo all NoBranch seen → (g : Head) (k : decides.Kind) → has_head g all ≡ true → KindAs c B g k → In k seen
+  seen_all : (all : Branches) (seen : List decides.Kind) → SeenSo all NoBranch seen → (g : Head) (k : decides.Kind) → has_head g all ≡ true → KindAs c B many g k → In k seen
   seen_all all seen s g k known as' = by (s g k known as')
     where
       by : In k seen ⊎ (has_head g NoBranch ≡ true) → In k seen
@@ -129,7 +131,7 @@ module _ (c : Source) (B : Expr → normal.Term → Type 0) (arity many : ℕ �
 
   -- ---- deciding
 
-  module _ (one : OneName c B) where
+  module _ (one : OneName c B many) where
     mutual
       pub codes_decide : {ctx : Places} {n : ℕ} {t : Tree} {e : normal.Term} → Codes ctx n t e → {rows : List tree.Row} → IsTree rows t → (as' : List Attempt) → Pairwise (Stands ctx) rows as' → Decides arity many IsFun params next n as' e
       codes_decide (CodeBody f) (OfBody done) [] g = absurd g
@@ -138,7 +140,7 @@ module _ (c : Source) (B : Expr → normal.Term → Type 0) (arity many : ℕ �
           ByBody b.pairs (none_left r.jobs a.tasks (local_of ctx) done g.0.tasks) b.linked b.alike
       codes_decide (CodeCase scope once codes) (OfCase begins branches others) [] g = absurd g
       codes_decide {ctx = ctx} {n = n} (CodeCase {p = p} {bs = bs} scope once codes) (OfCase {r = r} {rs = rs} begins branches others) (a ∷ as') g =
-          let t = first_test c B (local_of ctx) p begins.pat a r.jobs a.tasks refl g.0.tasks begins.test in
+          let t = first_test c B many (local_of ctx) p begins.pat a r.jobs a.tasks refl g.0.tasks begins.test in
           ByCase t.form t.rest t.is (form_tests t.form_is (first_head p begins.pat r.jobs g.0.begins begins.test))
           (codes_choose p bs [] scope once codes (λ g k known is. inr known) branches others (a ∷ as') g)
 
@@ -147,21 +149,21 @@ module _ (c : Source) (B : Expr → normal.Term → Type 0) (arity many : ℕ �
       codes_choose {ctx = ctx} p all seen scope once (CodeInt {k = k} {places = places} {t = t} {bs = bs} far used code codes) s {rows = rows} (OneOf apart is branches) others as' g =
           OnInteger far
           (codes_decide code is (map decides.settled (with_known (local_of ctx p) (heap.Int k) as'))
-          (rows_special c B one (InScope ctx) (InScope ctx) (local_of ctx) (local_of ctx) (λ q u. refl) (λ q u. u) places used p (λ q u e. once q p u scope e) (Integer k) (heap.Int k) AsInteger rows as' g))
+          (rows_special c B many one (InScope ctx) (InScope ctx) (local_of ctx) (local_of ctx) (λ q u. refl) (λ q u. u) places used p (λ q u e. once q p u scope e) (Integer k) (heap.Int k) AsInteger rows as' g))
           (codes_choose p all (decides.Integer k ∷ seen) scope once codes (seen_more all bs (Integer k) places t seen (decides.Integer k) SameInteger s) branches others as' g)
       codes_choose {ctx = ctx} p all seen scope once (CodeCon {m = m} {d = d} {number = number} {places = places} {t = t} {bs = bs} ctx' far known fresh code codes) s {rows = rows} (OneOf apart is branches) others as' g =
           let xs : List ℕ = range_with_len m (many number) in
-          let value : ValueAs c B (Constructor d) (map (local_of ctx') places) (heap.Con number xs) = subst (λ z. ValueAs c B (Constructor d) (map (local_of ctx') places) (heap.Con number z)) fresh.locals (AsConstructor known) in
+          let value : ValueAs c B many (Constructor d) (map (local_of ctx') places) (heap.Con number xs) = subst (λ z. ValueAs c B many (Constructor d) (map (local_of ctx') places) (heap.Con number z)) fresh.locals (AsConstructor known (ap length fresh.locals ∙ length-range_with_len m (many number))) in
           OnConstructor far refl
           (codes_decide code is (map decides.settled (with_known (local_of ctx p) (heap.Con number xs) as'))
-          (rows_special c B one (InScope ctx) (InScope ctx') (local_of ctx) (local_of ctx') fresh.same fresh.more places fresh.new p (λ q u e. once q p u scope e) (Constructor d) (heap.Con number xs) value rows as' g))
+          (rows_special c B many one (InScope ctx) (InScope ctx') (local_of ctx) (local_of ctx') fresh.same fresh.more places fresh.new p (λ q u e. once q p u scope e) (Constructor d) (heap.Con number xs) value rows as' g))
           (codes_choose p all (decides.Constructor number ∷ seen) scope once codes (seen_more all bs (Constructor d) places t seen (decides.Constructor number) (SameConstructor known) s) branches others as' g)
       codes_choose {ctx = ctx} p all seen scope once (CodeDefault far code) s NoneOf (OthersStay leaves sure is) as' g =
-          let l = leaves_as c B (InScope ctx) (local_of ctx) p all seen (seen_all all seen s) leaves as' g in
+          let l = leaves_as c B many (InScope ctx) (local_of ctx) p all seen (seen_all all seen s) leaves as' g in
           Others far l.are (codes_decide code is l.others l.stand)
       codes_choose {ctx = ctx} p all seen scope once (CodeNext e) s NoneOf (AllGo leaves) as' g =
-          let l = leaves_as c B (InScope ctx) (local_of ctx) p all seen (seen_all all seen s) leaves as' g in
+          let l = leaves_as c B many (InScope ctx) (local_of ctx) p all seen (seen_all all seen s) leaves as' g in
           OnNext (subst (λ z. decides.Left (local_of ctx p) seen as' z) (no_rows ctx l.others l.stand) l.are) e
       codes_choose {ctx = ctx} p all seen scope once (CodeEnd e) s NoneOf (AllGo leaves) as' g =
-          let l = leaves_as c B (InScope ctx) (local_of ctx) p all seen (seen_all all seen s) leaves as' g in
+          let l = leaves_as c B many (InScope ctx) (local_of ctx) p all seen (seen_all all seen s) leaves as' g in
           NoOther (subst (λ z. decides.Left (local_of ctx p) seen as' z) (no_rows ctx l.others l.stand) l.are) e

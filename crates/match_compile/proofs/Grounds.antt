@@ -21,7 +21,7 @@ use Rattle.std.proofs.Math.Nat.{le-max_left, le-max_right}
 use Rattle.match_compile.specs.Sizes.{functions, rows, longest, most_equations}
 use Rattle.match_compile.specs.Trees.{most_chained, insert}
 use Rattle.match_compile.specs.Decisions.{Decision, begun, grown, decided, decisions_from, all_decisions, decisions, row_of}
-use Rattle.match_compile.specs.Translated.{is_nameless, with_nameless, names, equation_name, first_of, each_of, firsts, others, translated}
+use Rattle.match_compile.specs.Translated.{words_of, is_nameless, with_nameless, names, equation_name, first_of, each_of, firsts, others, translated}
 use Rattle.match_compile.specs.Form.{as_many, head_of, heads, headed}
 use Rattle.match_compile.specs.Decides.{fields_in}
 use Rattle.match_compile.proofs.Decided.{by_insert}
@@ -34,7 +34,7 @@ module _ (p : normal.Program) where
   abbrev many : ℕ → ℕ
   many c = fields_in (slice_get p.cons c)
 
-  fields_are : (c k : ℕ) → HasFields p c k → many c ≡ k
+  pub fields_are : (c k : ℕ) → HasFields p c k → many c ≡ k
   fields_are c k h = ap fields_in h.1 ∙ h.2
 
   form_fits : (S : ℕ → Type 0) (f : Flat) → FormOk p S f → ConFits many f
@@ -71,7 +71,7 @@ with_more xs = by (position is_nameless xs)
     by (Some n) = ([], sym (append_nil xs))
     by None = (codes "_" ∷ [], refl)
 
-name_kept : (c : Source) (x : ℕ) → x < length c.names → slice_get (names c) x ≡ slice_get c.names x
+pub name_kept : (c : Source) (x : ℕ) → x < length c.names → slice_get (names c) x ≡ slice_get c.names x
 name_kept c x lt =
     let found = some_at c.names x lt in
     let more = with_more c.names in
@@ -90,7 +90,7 @@ pub record FirstIs (d : Decision) (ds : List Decision) : Type 0 where
   pub name : first.name ≡ d.name
   pub params : first.params ≡ d.params
 
-first_decided : (d : Decision) (k : ℕ) (es : List Equation) → FirstIs d (decided d k es)
+pub first_decided : (d : Decision) (k : ℕ) (es : List Equation) → FirstIs d (decided d k es)
 first_decided d k [] = record { first = d; rest = []; is = refl; name = refl; params = refl }
 first_decided d k (e ∷ es) =
     by_insert (FirstIs d) d k e es (insert most_chained d.tree d.free (row_of e))
@@ -105,17 +105,17 @@ numbers_long : (n k : ℕ) → length (numbers_from n k) ≡ k
 numbers_long n zero = refl
 numbers_long n (suc k) = ap suc (numbers_long (suc n) k)
 
-as_many_long : (b : Binder) (ps : Pats) → length (as_many b ps) ≡ count ps
+pub as_many_long : (b : Binder) (ps : Pats) → length (as_many b ps) ≡ count ps
 as_many_long b NoPats = refl
 as_many_long b (AndPat p ps) = ap suc (as_many_long b ps)
 
 module _ (c : Source) where
   -- the first function of each has the name and as many parameters as there are patterns
-  same_head : (k : ℕ) (f : List Equation) → SameHead (head_of f) (first_of c (decisions_from k (rows f)))
+  pub same_head : (k : ℕ) (f : List Equation) → SameHead (head_of f) (first_of (words_of c) (decisions_from k (rows f)))
   same_head k [] = NoHead
   same_head k (e ∷ es) =
       let f = first_decided (begun k e) (suc k) (cond (tests_of e.pats == 0) [] (rows es)) in
-      subst (λ ds. SameHead (head_of (e ∷ es)) (first_of c ds)) (sym f.is)
+      subst (λ ds. SameHead (head_of (e ∷ es)) (first_of (words_of c) ds)) (sym f.is)
       (OneHead (sym f.name) (as_many_long (record { name = record { 0 = e.name }; at = e.at }) e.pats ∙ sym (length_map _ (numbers_from 0 f.first.params) ∙ numbers_long 0 f.first.params ∙ f.params)))
 
   module _ (x : ℕ) (below : x < length c.names) where
@@ -131,29 +131,29 @@ module _ (c : Source) where
     long : length c.names ≤ length (with_nameless c.names)
     long = let more = with_more c.names in let l = ap length more.1 ∙ length-append c.names more.0 in omega (arith, l)
 
-    each_new : (ds : List Decision) (rest : List Function) → NotIn rest → NotIn (each_of c ds ++ rest)
+    each_new : (ds : List Decision) (rest : List Function) → NotIn rest → NotIn (each_of (words_of c) ds ++ rest)
     each_new [] rest h i = h i
     each_new (d ∷ ds) rest h i =
-        let other : equation_name c d.number ≡ x → ⊥ = λ e. omega (arith, e, below, long) in
-        rw (eq_false (equation_name c d.number) x other) (each_new ds rest h (i + 1))
+        let other : equation_name (words_of c) d.number ≡ x → ⊥ = λ e. omega (arith, e, below, long) in
+        rw (eq_false (equation_name (words_of c) d.number) x other) (each_new ds rest h (i + 1))
 
-    others_new : (fs : List (List Decision)) → NotIn (others c fs)
+    others_new : (fs : List (List Decision)) → NotIn (others (words_of c) fs)
     others_new [] i = refl
     others_new ([] ∷ fs) i = others_new fs i
-    others_new ((d ∷ ds) ∷ fs) i = each_new ds (others c fs) (others_new fs) i
+    others_new ((d ∷ ds) ∷ fs) i = each_new ds (others (words_of c) fs) (others_new fs) i
 
     one_head : (hs gs hs' gs' : List Function) → SameHead hs gs → ((i : ℕ) → function_from out gs' i x ≡ function_from text hs' i x) → (i : ℕ) → function_from out (gs ++ gs') i x ≡ function_from text (hs ++ hs') i x
     one_head hs gs hs' gs' NoHead h i = h i
     one_head hs gs hs' gs' (OneHead {f = f} {g = g} e l) h i = λ j. cond (sym e j == x) (stands.Function i (sym l j)) (h (i + 1) j)
 
-    firsts_same : (fs : List (List Equation)) (k : ℕ) (rest : List Function) → NotIn rest → (i : ℕ) → function_from out (firsts c (all_decisions k fs) ++ rest) i x ≡ function_from text (heads fs) i x
+    firsts_same : (fs : List (List Equation)) (k : ℕ) (rest : List Function) → NotIn rest → (i : ℕ) → function_from out (firsts (words_of c) (all_decisions k fs) ++ rest) i x ≡ function_from text (heads fs) i x
     firsts_same [] k rest h i = h i
     firsts_same (f ∷ fs) k rest h i =
-        ap (λ w. function_from out w i x) (append_again (first_of c (decisions_from k (rows f))) (firsts c (all_decisions (k + length f) fs)) rest)
-        ∙ one_head (head_of f) (first_of c (decisions_from k (rows f))) (heads fs) (firsts c (all_decisions (k + length f) fs) ++ rest) (same_head k f) (firsts_same fs (k + length f) rest h) i
+        ap (λ w. function_from out w i x) (append_again (first_of (words_of c) (decisions_from k (rows f))) (firsts (words_of c) (all_decisions (k + length f) fs)) rest)
+        ∙ one_head (head_of f) (first_of (words_of c) (decisions_from k (rows f))) (heads fs) (firsts (words_of c) (all_decisions (k + length f) fs) ++ rest) (same_head k f) (firsts_same fs (k + length f) rest h) i
 
     pub same_function : function_from out out.functions 0 x ≡ function_from text text.functions 0 x
-    same_function = firsts_same (functions c.equations) 0 (others c (decisions c)) (others_new (decisions c)) 0
+    same_function = firsts_same (functions c.equations) 0 (others (words_of c) (decisions c)) (others_new (decisions c)) 0
 
 -- ---- no function has more rows than the largest has equations
 

@@ -13,7 +13,7 @@ use Rattle.match_compile.specs.Rules.{Behind, arity_in, last_name, Broken, Dupli
 use Rattle.match_compile.specs.Sizes.{joined, functions, rows}
 use Rattle.match_compile.specs.Trees.{most_chained, insert}
 use Rattle.match_compile.specs.Decisions.{Decision, row_of, begun, grown, decided, decisions_from, all_decisions, decisions}
-use Rattle.match_compile.specs.Translated.{with_nameless, equation_name, first_of, each_of, firsts, others, translated}
+use Rattle.match_compile.specs.Translated.{words_of, with_nameless, equation_name, first_of, each_of, firsts, others, translated}
 use Rattle.match_compile.proofs.Decided.{by_insert}
 use Rattle.match_compile.proofs.NamedAs.{nameless_length}
 
@@ -78,6 +78,14 @@ climb_on a b d (x ∷ xs) ys h k = (h.0, climb_on (suc x) b d xs ys h.1 k)
 pub all_above : (lo hi : ℕ) (ns : List ℕ) → Climbs lo hi ns → AllOf (λ n. lo ≤ n) ns
 all_above lo hi [] h = tt
 all_above lo hi (n ∷ ns) h = let l = h.0 in (l, all_are (λ m. suc n ≤ m) (λ m. lo ≤ m) (λ m k. omega (arith, l, k)) ns (all_above (suc n) hi ns h.1))
+
+pub all_below : (lo hi : ℕ) (ns : List ℕ) → Climbs lo hi ns → AllOf (λ n. n < hi) ns
+all_below lo hi [] h = tt
+all_below lo hi (n ∷ ns) h = let l = least (suc n) hi ns h.1 in (omega (arith, l), all_below (suc n) hi ns h.1)
+  where
+    least : (lo hi : ℕ) (ns : List ℕ) → Climbs lo hi ns → lo ≤ hi
+    least lo hi [] h = h
+    least lo hi (n ∷ ns) h = let l = h.0 in let m = least (suc n) hi ns h.1 in omega (arith, l, m)
 
 climbs_differ : (f : ℕ → ℕ) → ((m n : ℕ) → f m ≡ f n → m ≡ n) → (lo hi : ℕ) (ns : List ℕ) → Climbs lo hi ns → Differ (map f ns)
 climbs_differ f g lo hi [] h = tt
@@ -308,7 +316,7 @@ decided_climb d k (e ∷ es) lt =
           (to_higher k (suc k + length es) (k + length (e ∷ es)) (numbers_of (decided (begun k e) (suc k) es)) (omega arith) (decided_climb (begun k e) (suc k) es (omega arith))),
     )
 
-decisions_climb : (k : ℕ) (es : List Equation) → Climbs k (k + length es) (numbers_of (decisions_from k es))
+pub decisions_climb : (k : ℕ) (es : List Equation) → Climbs k (k + length es) (numbers_of (decisions_from k es))
 decisions_climb k [] = omega arith
 decisions_climb k (e ∷ es) = to_higher k (suc k + length es) (k + length (e ∷ es)) (numbers_of (decisions_from k (e ∷ es))) (omega arith) (decided_climb (begun k e) (suc k) es (omega arith))
 
@@ -367,27 +375,27 @@ below_all n ([] ∷ fs) h = below_all n fs h.1
 below_all n ((e ∷ es) ∷ fs) h = (h.0.0, below_all n fs h.1)
 
 module _ (c : Source) where
-  each_names : (ds : List Decision) → function_names (each_of c ds) ≡ map (equation_name c) (numbers_of ds)
+  each_names : (ds : List Decision) → function_names (each_of (words_of c) ds) ≡ map (equation_name (words_of c)) (numbers_of ds)
   each_names [] = refl
-  each_names (d ∷ ds) = ap (λ w. equation_name c d.number ∷ w) (each_names ds)
+  each_names (d ∷ ds) = ap (λ w. equation_name (words_of c) d.number ∷ w) (each_names ds)
 
-  pub others_names : (fs : List (List Decision)) → function_names (others c fs) ≡ map (equation_name c) (other_numbers fs)
+  pub others_names : (fs : List (List Decision)) → function_names (others (words_of c) fs) ≡ map (equation_name (words_of c)) (other_numbers fs)
   others_names [] = refl
   others_names ([] ∷ fs) = others_names fs
   others_names ((d ∷ ds) ∷ fs) =
-      names_append (each_of c ds) (others c fs) ∙ (λ i. each_names ds i ++ others_names fs i) ∙ sym (map_append (equation_name c) (numbers_of ds) (other_numbers fs))
+      names_append (each_of (words_of c) ds) (others (words_of c) fs) ∙ (λ i. each_names ds i ++ others_names fs i) ∙ sym (map_append (equation_name (words_of c)) (numbers_of ds) (other_numbers fs))
 
-  pub firsts_names : (k : ℕ) (fs : List (List Equation)) → function_names (firsts c (all_decisions k fs)) ≡ first_names fs
+  pub firsts_names : (k : ℕ) (fs : List (List Equation)) → function_names (firsts (words_of c) (all_decisions k fs)) ≡ first_names fs
   firsts_names k [] = refl
   firsts_names k ([] ∷ fs) = firsts_names (k + 0) fs
   firsts_names k ((e ∷ es) ∷ fs) = go (decisions_from k (rows (e ∷ es))) (decided_first (begun k e) (suc k) (if tests_of e.pats == 0 then [] else rows es)) (firsts_names (k + length (e ∷ es)) fs)
     where
-      go : (ds : List Decision) → FirstIs (begun k e) ds → function_names (firsts c (all_decisions (k + length (e ∷ es)) fs)) ≡ first_names fs → function_names (firsts c (ds ∷ all_decisions (k + length (e ∷ es)) fs)) ≡ e.name ∷ first_names fs
+      go : (ds : List Decision) → FirstIs (begun k e) ds → function_names (firsts (words_of c) (all_decisions (k + length (e ∷ es)) fs)) ≡ first_names fs → function_names (firsts (words_of c) (ds ∷ all_decisions (k + length (e ∷ es)) fs)) ≡ e.name ∷ first_names fs
       go ds r ih =
-          ap (λ (w : List Decision). function_names (first_of c w ++ firsts c (all_decisions (k + length (e ∷ es)) fs))) r.is
+          ap (λ (w : List Decision). function_names (first_of (words_of c) w ++ firsts (words_of c) (all_decisions (k + length (e ∷ es)) fs))) r.is
           ∙ (λ i. r.name i ∷ ih i)
 
-  pub equation_apart : (m n : ℕ) → equation_name c m ≡ equation_name c n → m ≡ n
+  pub equation_apart : (m n : ℕ) → equation_name (words_of c) m ≡ equation_name (words_of c) n → m ≡ n
   equation_apart m n e = omega (arith, e)
 
   module _ (unbroken : (k at : ℕ) → Broken c k at → ⊥) where
@@ -413,13 +421,13 @@ module _ (c : Source) where
         let lower = all_are (λ (e : Equation). e.name < length c.names) (λ (e : Equation). e.name < n) (λ e lt. omega (arith, le, lt)) c.equations below in
         let firsts_are = firsts_names 0 fs in
         let others_are = others_names (decisions c) in
-        let are : function_names (translated c).functions ≡ first_names fs ++ map (equation_name c) (other_numbers (decisions c)) =
-        names_append (firsts c (decisions c)) (others c (decisions c)) ∙ (λ i. firsts_are i ++ others_are i) in
+        let are : function_names (translated c).functions ≡ first_names fs ++ map (equation_name (words_of c)) (other_numbers (decisions c)) =
+        names_append (firsts (words_of c) (decisions c)) (others (words_of c) (decisions c)) ∙ (λ i. firsts_are i ++ others_are i) in
         subst Differ (sym are)
-        (differ_append n (first_names fs) (map (equation_name c) (other_numbers (decisions c))) (firsts_differ [] c.equations refl)
-        (climbs_differ (equation_name c) equation_apart 0 (0 + total fs) (other_numbers (decisions c)) (others_climb 0 fs))
+        (differ_append n (first_names fs) (map (equation_name (words_of c)) (other_numbers (decisions c))) (firsts_differ [] c.equations refl)
+        (climbs_differ (equation_name (words_of c)) equation_apart 0 (0 + total fs) (other_numbers (decisions c)) (others_climb 0 fs))
         (below_all n fs (functions_all (λ (e : Equation). e.name < n) c.equations lower))
-        (all_mapped (equation_name c) n (λ k. omega arith) (other_numbers (decisions c))))
+        (all_mapped (equation_name (words_of c)) n (λ k. omega arith) (other_numbers (decisions c))))
 
     pub differ_names : AllOf (λ (e : Equation). e.name < length c.names) c.equations → (i j : ℕ) (f g : Function) → i < j → slice_get (translated c).functions i ≡ Some f → slice_get (translated c).functions j ≡ Some g → g.name ≢ f.name
     differ_names below i j f g lt e h = differ_at (function_names (translated c).functions) i j f.name g.name (names_differ below) lt (name_at (translated c).functions i e) (name_at (translated c).functions j h)

@@ -13,7 +13,7 @@ use Rattle.core_reader.specs.declared.look.Kind.TheVariants.{Lower, Upper, Digit
 use Rattle.core_reader.specs.declared.token.Token.{Token}
 use Rattle.core_reader.specs.declared.token.Token.TheVariants as word
 use Rattle.core_reader.specs.declared.token.Lexeme.{Lexeme}
-use Rattle.core_reader.specs.Tree.{Term, Terms, NoTerms, AndTerm, Application, Bind, Expr, App, Let, Case, Alts, NoAlts, AndAlt}
+use Rattle.core_reader.specs.Tree.{Term, Terms, NoTerms, AndTerm, Application, Bind, Expr, App, Let, Case, Alts, NoAlts, AndAlt, Data}
 use Rattle.core_reader.specs.Tree as core
 use Rattle.core_reader.specs.Grammar.{Room, lexeme, binders, SpellsPattern, SpellsTerm, SpellsTerms, SpellsApp, SpellsBinds, SpellsExpr, SpellsAlts}
 use Rattle.core_reader.specs.TokensOf.{Piece, kind_of}
@@ -25,7 +25,7 @@ use Rattle.core_reader.proofs.Readability.{at_number}
 use Rattle.arity_check.specs.Pieces.{binders_of, bound_by}
 use Rattle.match_compile.specs.Source.{Pat, Name, Int, Con, Pats, NoPats, AndPat, Equation, Source}
 use Rattle.match_compile.specs.Parts.{names_in, names_of}
-use Rattle.match_compile.specs.Grammar.{IsBare, SpellsPat, SpellsPats, SpellsEquation, Decl, Declares, Equates, SpellsDecls, equations_of, IsText}
+use Rattle.match_compile.specs.Grammar.{IsBare, SpellsPat, SpellsPats, SpellsEquation, Decl, Declares, Equates, SpellsDecls, constructors_of, equations_of, IsText}
 use Rattle.match_compile.proofs.AlikeFlats.{FitsTerm, FitsTerms}
 use Rattle.match_compile.proofs.AlikeTerms.{BinderFits, AppFits, FitsExpr, FitsAlts}
 
@@ -189,3 +189,18 @@ text_fits text c t =
     let q = t.program in
     let held : EachHeld Core c.names t.pieces = subst (λ v. EachHeld Core v t.pieces) (sym q.names) (each_held Core [] t.pieces) in
     subst (AllOf (EquationFits (length c.names))) q.equations (decls_below (length c.names) _ q.decls (map (said Core c.names) t.pieces) q.spelled (each_below Core c.names t.pieces held))
+
+declared_below : (N : ℕ) (room : Room) (ds : List Decl) (ts : List Lexeme) → SpellsDecls room ds ts → EachBelow N ts → AllOf (λ (d : Data). d.name < N) (constructors_of ds)
+declared_below N room [] ts h k = tt
+declared_below N room (Declares d ∷ ds) ts h k =
+    let k2 = subst (EachBelow N) h.4 k in
+    let one = h.2 in
+    ((subst (EachBelow N) one.3 (front N h.0 h.1 k2)).1.0, declared_below N room ds h.1 h.3 (back N h.0 h.1 k2))
+declared_below N room (Equates e ∷ ds) ts h k = let k2 = subst (EachBelow N) h.4 k in declared_below N room ds h.1 h.3 (back N h.0 h.1 k2)
+
+-- the names of its constructors are below the number of names too
+pub constructors_fit : (text : List ℕ) (c : Source) → IsText text c → AllOf (λ (d : Data). d.name < length c.names) c.constructors
+constructors_fit text c t =
+    let q = t.program in
+    let held : EachHeld Core c.names t.pieces = subst (λ v. EachHeld Core v t.pieces) (sym q.names) (each_held Core [] t.pieces) in
+    subst (AllOf (λ (d : Data). d.name < length c.names)) q.constructors (declared_below (length c.names) _ q.decls (map (said Core c.names) t.pieces) q.spelled (each_below Core c.names t.pieces held))

@@ -94,13 +94,13 @@ settled_is body bound ((p, Con c ps) ∷ js) = (Constructor c.name.0, refl)
 pub zero_plus : (n : ℕ) → n ≡ 0 + n
 zero_plus n = omega arith
 
-settled_tests : (body : Expr) (bound : List (Binder × ℕ)) (js : List Job) → tests_left (settled body bound js).jobs ≡ tests_left js
+pub settled_tests : (body : Expr) (bound : List (Binder × ℕ)) (js : List Job) → tests_left (settled body bound js).jobs ≡ tests_left js
 settled_tests body bound [] = refl
 settled_tests body bound ((p, Name b) ∷ js) = settled_tests body (bound ++ (b, p) ∷ []) js ∙ zero_plus (tests_left js)
 settled_tests body bound ((p, Int k at) ∷ js) = refl
 settled_tests body bound ((p, Con c ps) ∷ js) = refl
 
-tests_append : (xs ys : List Job) → tests_left (xs ++ ys) ≡ tests_left xs + tests_left ys
+pub tests_append : (xs ys : List Job) → tests_left (xs ++ ys) ≡ tests_left xs + tests_left ys
 tests_append [] ys = zero_plus (tests_left ys)
 tests_append (x ∷ xs) ys = omega (arith, tests_append xs ys)
 
@@ -109,7 +109,7 @@ tests_at places NoPats = omega arith
 tests_at [] (AndPat pat ps) = omega arith
 tests_at (p ∷ places) (AndPat pat ps) = omega (arith, tests_at places ps)
 
-test_counts : (pat : Pat) (h : Head) → head_of pat ≡ Some h → tests_in pat ≡ suc (tests_of (fields_of pat))
+pub test_counts : (pat : Pat) (h : Head) → head_of pat ≡ Some h → tests_in pat ≡ suc (tests_of (fields_of pat))
 test_counts (Name b) h e = absurd cc
 test_counts (Int k at) h e = refl
 test_counts (Con c ps) h e = refl

@@ -228,7 +228,7 @@ module _ (c : Source) where
       go false h (inl l) = inl (next ∙ ap suc l)
       go false h (inr r) = inr (r.0, ap (slice_get (w ∷ ns)) next ∙ r.1, r.2)
 
-  nameless_text : (w : List ℕ) × (slice_get (with_nameless c.names) (position_or_len is_nameless c.names) ≡ Some w) × (is_nameless w ≡ true)
+  pub nameless_text : (w : List ℕ) × (slice_get (with_nameless c.names) (position_or_len is_nameless c.names) ≡ Some w) × (is_nameless w ≡ true)
   nameless_text = go (nameless_at c.names)
     where
       n : ℕ
@@ -244,6 +244,12 @@ module _ (c : Source) where
       go : (n ≡ length c.names) ⊎ ((w : List ℕ) × (slice_get c.names n ≡ Some w) × (is_nameless w ≡ true)) → (w : List ℕ) × (slice_get (with_nameless c.names) n ≡ Some w) × (is_nameless w ≡ true)
       go (inl l) = (codes "_", (λ i. slice_get (added (lt_false n (length c.names) (omega (arith, l))) i) (l i)) ∙ last c.names, refl)
       go (inr r) = (r.0, nameless_left c.names n r.1, r.2)
+
+  pub nameless_named : is_named (translated c) (codes "_") (position_or_len is_nameless c.names) ≡ true
+  nameless_named =
+      let t = nameless_text in
+      let at : slice_get (translated c).names (position_or_len is_nameless c.names) ≡ Some t.0 = get_left (with_nameless c.names) new_texts (position_or_len is_nameless c.names) t.0 t.1 in
+      named_by (translated c) (codes "_") t.0 (position_or_len is_nameless c.names) at ∙ t.2
 
   pub nameless_apart : (w : List ℕ) → IsApart w → is_named (translated c) w (position_or_len is_nameless c.names) ≡ false
   nameless_apart w a =

@@ -1,10 +1,10 @@
 -- Rows of a text and equations on their way that stand for them, where places have become locals: both
 -- become the same where a value of a head stands at a place.
-use Rattle.std.proofs.Common.{◌≡◌, ℕ, Bool, true, false, cond, List, [], ◌∷◌, ◌++◌, map, Option, Some, None, refl, sym, ap, ◌∙◌, subst, arith}
+use Rattle.std.proofs.Common.{◌≡◌, ℕ, suc, Bool, true, false, cond, List, [], ◌∷◌, ◌++◌, map, length, Option, Some, None, refl, sym, ap, ◌∙◌, subst, arith}
 use Rattle.std.specs.Prelude.{◌==◌, ℤ, pos, negsuc}
 use Rattle.std.specs.Ordering.{int_eq}
 use Rattle.seq.specs.Lists.{AllOf, In}
-use Rattle.seq.proofs.Lists.{map_push, map_append, all_append, some_is}
+use Rattle.seq.proofs.Lists.{map_push, map_append, length_map, all_append, some_is}
 use Rattle.seq.proofs.Order.{eq_true, eq_false, eq_from, differs_from}
 use Rattle.core_reader.specs.declared.syntax.Binder.{Binder}
 use Rattle.core_reader.specs.Tree.{Expr}
@@ -15,13 +15,16 @@ use Rattle.core_meaning.specs.Heap as heap
 use Rattle.core_meaning.specs.Heap.{Value}
 use Rattle.core_meaning.specs.Evaluation as core
 use Rattle.match_compile.specs.Source.{Pat, Name, Int, Con, Pats, NoPats, AndPat, Source}
+use Rattle.match_compile.specs.Parts.{count, names_in}
 use Rattle.match_compile.specs.Heads.{Head, Integer, Constructor, same_head}
 use Rattle.match_compile.specs.Trees as tree
 use Rattle.match_compile.specs.Trees.{Job, head_of, jobs_at, fields_of, test_at, special_by, special, specialised, opened, later}
-use Rattle.match_compile.specs.Form.{Form, Forms, NoForms, headed, IsForm, OfName, OfInt, OfCon, AreForms, NoneOf, OneOf}
+use Rattle.match_compile.specs.Form.{Form, Forms, NoForms, AndForm, headed, IsForm, OfName, OfInt, OfCon, AreForms, NoneOf, OneOf}
+use Rattle.match_compile.specs.Jobs as tries
 use Rattle.match_compile.specs.Jobs.{Task, Attempt, attempt, tasks_of, kept_by, decided_by, known_first, with_known}
 use Rattle.match_compile.specs.Decides as decides
 use Rattle.match_compile.specs.Decides.{settled_by, settled}
+use Rattle.match_compile.proofs.Sown.{job_names, bound_names, names_append, names_at, bound_names_last}
 
 pub pairs_both : {X Y : Type 0} (R : X → Y → Type 0) (xs xs' : List X) (ys ys' : List Y) → Pairwise R xs ys → Pairwise R xs' ys' → Pairwise R (xs ++ xs') (ys ++ ys')
 pairs_both R [] xs' [] ys' h g = g
@@ -29,8 +32,14 @@ pairs_both R [] xs' (y ∷ ys) ys' h g = absurd h
 pairs_both R (x ∷ xs) xs' [] ys' h g = absurd h
 pairs_both R (x ∷ xs) xs' (y ∷ ys) ys' h g = (h.0, pairs_both R xs xs' ys ys' h.1 g)
 
--- B says which body in normal form stands for a body of the text.
-module _ (c : Source) (B : Expr → normal.Term → Type 0) where
+-- as many forms as patterns
+forms_count : (c : Source) {ps : Pats} {fs : Forms} → AreForms c ps fs → tries.count fs ≡ count ps
+forms_count c NoneOf = refl
+forms_count c (OneOf is rest) = ap suc (forms_count c rest)
+
+-- B says which body in normal form stands for a body of the text, in an equation that binds these names.
+-- Constructors have so many fields.
+module _ (c : Source) (B : Expr → List Binder → normal.Term → Type 0) (many : ℕ → ℕ) where
   -- a pattern at a place is a form at its local
   abbrev pub JobAs : (ℕ → ℕ) → Job → Task → Type 0
   JobAs loc j k = (k.0 ≡ loc j.0) × IsForm c j.1 k.1
@@ -38,42 +47,56 @@ module _ (c : Source) (B : Expr → normal.Term → Type 0) where
   abbrev pub JobsAs : (ℕ → ℕ) → List Job → List Task → Type 0
   JobsAs loc = Pairwise (JobAs loc)
 
+  -- each form has as many fields as its constructor
+  abbrev pub TasksFit : List Task → Type 0
+  TasksFit = AllOf (λ (k : Task). decides.FormOk many k.1)
+
+  -- the names that a row binds
+  abbrev pub names_left : List (Binder × ℕ) → List Job → List Binder
+  names_left bound jobs = bound_names bound ++ job_names jobs
+
   abbrev pub locals : (ℕ → ℕ) → List (Binder × ℕ) → List ℕ
   locals loc bound = map (λ b. loc b.1) bound
 
   -- U are the places that are in scope
   pub record RowAs (U : ℕ → Type 0) (loc : ℕ → ℕ) (r : tree.Row) (a : Attempt) : Type 0 where
-    pub body : B r.body a.body
+    pub body : B r.body (names_left r.bound r.jobs) a.body
     pub bound : a.bound ≡ locals loc r.bound
     pub tasks : JobsAs loc r.jobs a.tasks
     pub begins : tree.IsSettled r.jobs
     pub bound_used : AllOf (λ b. U b.1) r.bound
     pub jobs_used : AllOf (λ j. U j.0) r.jobs
+    pub fits : TasksFit a.tasks
 
   bound_more : (loc : ℕ → ℕ) (bound : List (Binder × ℕ)) (bound' : List ℕ) (b : Binder) (p x : ℕ) → bound' ≡ locals loc bound → x ≡ loc p → bound' ++ x ∷ [] ≡ locals loc (bound ++ (b, p) ∷ [])
   bound_more loc bound bound' b p x e f = (λ i. e i ++ f i ∷ []) ∙ sym (map_push (λ (w : Binder × ℕ). loc w.1) bound (b, p))
 
-  first_as : (U : ℕ → Type 0) (loc : ℕ → ℕ) (body : Expr) (term : normal.Term) (bound : List (Binder × ℕ)) (bound' : List ℕ) (p x : ℕ) (js : List Job) (ks : List Task) (pat : Pat) (f : Form) → IsForm c pat f → B body term → bound' ≡ locals loc bound → x ≡ loc p → JobsAs loc js ks
-      → AllOf (λ b. U b.1) bound → U p → AllOf (λ j. U j.0) js → ((b : Binder) → RowAs U loc (tree.settled body (bound ++ (b, p) ∷ []) js) (settled_by term (bound' ++ x ∷ []) ks)) → RowAs U loc (tree.settled body bound ((p, pat) ∷ js)) (settled_by term bound' ((x, f) ∷ ks))
-  first_as U loc body term bound bound' p x js ks pat f (OfName {b = name}) b e i h u up v rest = rest name
-  first_as U loc body term bound bound' p x js ks pat f (OfInt {k = k}) b e i h u up v rest = record { body = b; bound = e; tasks = ((i, OfInt), h); begins = (Integer k, refl); bound_used = u; jobs_used = (up, v) }
-  first_as U loc body term bound bound' p x js ks pat f (OfCon {b = con} known forms) b e i h u up v rest = record { body = b; bound = e; tasks = ((i, OfCon known forms), h); begins = (Constructor con.name.0, refl); bound_used = u; jobs_used = (up, v) }
+  first_as : (U : ℕ → Type 0) (loc : ℕ → ℕ) (body : Expr) (term : normal.Term) (bound : List (Binder × ℕ)) (bound' : List ℕ) (p x : ℕ) (js : List Job) (ks : List Task) (pat : Pat) (f : Form) → IsForm c pat f → B body (names_left bound ((p, pat) ∷ js)) term → bound' ≡ locals loc bound → x ≡ loc p → JobsAs loc js ks
+      → AllOf (λ b. U b.1) bound → U p → AllOf (λ j. U j.0) js → TasksFit ((x, f) ∷ ks) → ((b : Binder) → B body (names_left (bound ++ (b, p) ∷ []) js) term → RowAs U loc (tree.settled body (bound ++ (b, p) ∷ []) js) (settled_by term (bound' ++ x ∷ []) ks)) → RowAs U loc (tree.settled body bound ((p, pat) ∷ js)) (settled_by term bound' ((x, f) ∷ ks))
+  first_as U loc body term bound bound' p x js ks pat f (OfName {b = name}) b e i h u up v fit rest = rest name (subst (λ w. B body w term) (sym (bound_names_last bound name p (job_names js))) b)
+  first_as U loc body term bound bound' p x js ks pat f (OfInt {k = k}) b e i h u up v fit rest = record { body = b; bound = e; tasks = ((i, OfInt), h); begins = (Integer k, refl); bound_used = u; jobs_used = (up, v); fits = fit }
+  first_as U loc body term bound bound' p x js ks pat f (OfCon {b = con} known forms) b e i h u up v fit rest = record { body = b; bound = e; tasks = ((i, OfCon known forms), h); begins = (Constructor con.name.0, refl); bound_used = u; jobs_used = (up, v); fits = fit }
 
-  pub settled_as : (U : ℕ → Type 0) (loc : ℕ → ℕ) (body : Expr) (term : normal.Term) (bound : List (Binder × ℕ)) (bound' : List ℕ) (jobs : List Job) (tasks : List Task) → B body term → bound' ≡ locals loc bound → JobsAs loc jobs tasks
-      → AllOf (λ b. U b.1) bound → AllOf (λ j. U j.0) jobs → RowAs U loc (tree.settled body bound jobs) (settled_by term bound' tasks)
-  settled_as U loc body term bound bound' [] [] b e h u v = record { body = b; bound = e; tasks = tt; begins = tt; bound_used = u; jobs_used = tt }
-  settled_as U loc body term bound bound' [] (k ∷ ks) b e h u v = absurd h
-  settled_as U loc body term bound bound' (j ∷ js) [] b e h u v = absurd h
-  settled_as U loc body term bound bound' ((p, pat) ∷ js) ((x, f) ∷ ks) b e h u v =
-      first_as U loc body term bound bound' p x js ks pat f h.0.1 b e h.0.0 h.1 u v.0 v.1
-      (λ name. settled_as U loc body term (bound ++ (name, p) ∷ []) (bound' ++ x ∷ []) js ks b (bound_more loc bound bound' name p x e h.0.0) h.1 (all_append (λ b. U b.1) bound ((name, p) ∷ []) u (v.0, tt)) v.1)
+  pub settled_as : (U : ℕ → Type 0) (loc : ℕ → ℕ) (body : Expr) (term : normal.Term) (bound : List (Binder × ℕ)) (bound' : List ℕ) (jobs : List Job) (tasks : List Task) → B body (names_left bound jobs) term → bound' ≡ locals loc bound → JobsAs loc jobs tasks
+      → AllOf (λ b. U b.1) bound → AllOf (λ j. U j.0) jobs → TasksFit tasks → RowAs U loc (tree.settled body bound jobs) (settled_by term bound' tasks)
+  settled_as U loc body term bound bound' [] [] b e h u v fit = record { body = b; bound = e; tasks = tt; begins = tt; bound_used = u; jobs_used = tt; fits = tt }
+  settled_as U loc body term bound bound' [] (k ∷ ks) b e h u v fit = absurd h
+  settled_as U loc body term bound bound' (j ∷ js) [] b e h u v fit = absurd h
+  settled_as U loc body term bound bound' ((p, pat) ∷ js) ((x, f) ∷ ks) b e h u v fit =
+      first_as U loc body term bound bound' p x js ks pat f h.0.1 b e h.0.0 h.1 u v.0 v.1 fit
+      (λ name b. settled_as U loc body term (bound ++ (name, p) ∷ []) (bound' ++ x ∷ []) js ks b (bound_more loc bound bound' name p x e h.0.0) h.1 (all_append (λ b. U b.1) bound ((name, p) ∷ []) u (v.0, tt)) v.1 fit.1)
 
   pub fields_as : (loc : ℕ → ℕ) (places : List ℕ) (ps : Pats) (fs : Forms) → AreForms c ps fs → JobsAs loc (jobs_at places ps) (tasks_of (map loc places) fs)
   fields_as loc places ps fs NoneOf = tt
   fields_as loc [] ps fs (OneOf is rest) = tt
   fields_as loc (p ∷ places) ps fs (OneOf is rest) = ((refl, is), fields_as loc places _ _ rest)
 
-  fields_used : (U : ℕ → Type 0) (places : List ℕ) (ps : Pats) → AllOf U places → AllOf (λ j. U j.0) (jobs_at places ps)
+  pub fields_fit : (xs : List ℕ) (fs : Forms) → decides.FormsOk many fs → TasksFit (tasks_of xs fs)
+  fields_fit xs NoForms h = tt
+  fields_fit [] (AndForm f fs) h = tt
+  fields_fit (x ∷ xs) (AndForm f fs) h = (h.0, fields_fit xs fs h.1)
+
+  pub fields_used : (U : ℕ → Type 0) (places : List ℕ) (ps : Pats) → AllOf U places → AllOf (λ j. U j.0) (jobs_at places ps)
   fields_used U places NoPats h = tt
   fields_used U [] (AndPat p ps) h = tt
   fields_used U (q ∷ places) (AndPat p ps) h = (h.0, fields_used U places ps h.1)
@@ -97,7 +120,7 @@ module _ (c : Source) (B : Expr → normal.Term → Type 0) where
   -- a value of the head, whose fields are these locals
   pub data ValueAs : Head → List ℕ → Value → Type 0 where
     AsInteger : {k : ℤ} {xs : List ℕ} → ValueAs (Integer k) xs (heap.Int k)
-    AsConstructor : {d number : ℕ} {xs : List ℕ} → con_number (headed c) d ≡ Some number → ValueAs (Constructor d) xs (heap.Con number xs)
+    AsConstructor : {d number : ℕ} {xs : List ℕ} → con_number (headed c) d ≡ Some number → length xs ≡ many number → ValueAs (Constructor d) xs (heap.Con number xs)
 
   -- constructors with the same number have the same name
   abbrev pub OneName : Type 0
@@ -147,55 +170,63 @@ module _ (c : Source) (B : Expr → normal.Term → Type 0) where
     stays_as r a is =
         subst (λ z. RowAs U' loc' z (settled a)) (again r r.jobs refl is.begins)
         (settled_as U' loc' r.body a.body r.bound a.bound r.jobs a.tasks is.body (is.bound ∙ locals_same U loc loc' same r.bound is.bound_used) (jobs_same U loc loc' same r.jobs a.tasks is.jobs_used is.tasks)
-        (used_more U U' (λ (b : Binder × ℕ). b.1) more r.bound is.bound_used) (used_more U U' (λ (j : Job). j.0) more r.jobs is.jobs_used))
+        (used_more U U' (λ (b : Binder × ℕ). b.1) more r.bound is.bound_used) (used_more U U' (λ (j : Job). j.0) more r.jobs is.jobs_used) is.fits)
 
-    by_kept : (b b' : Bool) (r : tree.Row) (x : Attempt) → b ≡ b' → RowAs U' loc' r (settled x) → Pairwise (RowAs U' loc') (special_by b r) (map settled (kept_by b' x))
-    by_kept true true r x e g = (g, tt)
+    by_kept : (b b' : Bool) (r : tree.Row) (x : Attempt) → b ≡ b' → (b ≡ true → RowAs U' loc' r (settled x)) → Pairwise (RowAs U' loc') (special_by b r) (map settled (kept_by b' x))
+    by_kept true true r x e g = (g refl, tt)
     by_kept true false r x e g = absurd cc
     by_kept false true r x e g = absurd cc
     by_kept false false r x e g = tt
 
     int_heads : (k : ℤ) {g : Head} {xs : List ℕ} {w : Value} → ValueAs g xs w → same_head (Integer k) g ≡ core.is_int k w
     int_heads k (AsInteger {k = j}) = same_ints k j
-    int_heads k (AsConstructor known) = refl
+    int_heads k (AsConstructor known long) = refl
 
     -- the row goes on with what is behind its test
-    opens : (r : tree.Row) (a : Attempt) (j : Job) (js : List Job) (ks : List Task) (pat : Pat) (fs : Forms) → RowAs U loc r a → r.jobs ≡ j ∷ js → AllOf (λ j. U j.0) js → JobsAs loc js ks → AreForms c (fields_of pat) fs
+    opens : (r : tree.Row) (a : Attempt) (j : Job) (js : List Job) (ks : List Task) (pat : Pat) (fs : Forms) → RowAs U loc r a → r.jobs ≡ j ∷ js → j.1 ≡ pat → AllOf (λ j. U j.0) js → JobsAs loc js ks → AreForms c (fields_of pat) fs → TasksFit ks → decides.FormsOk many fs → job_names (jobs_at places (fields_of pat)) ≡ names_in pat
         → RowAs U' loc' (opened r pat places) (settled (attempt a.body a.bound (tasks_of (map loc' places) fs ++ ks)))
-    opens r a j js ks pat fs is e used rest forms =
+    opens r a j js ks pat fs is e at used rest forms fit fields named =
+        let before : job_names r.jobs ≡ names_in pat ++ job_names js = ap job_names e ∙ ap (λ z. names_in z ++ job_names js) at in
+        let behind : job_names (jobs_at places (fields_of pat) ++ js) ≡ names_in pat ++ job_names js = names_append (jobs_at places (fields_of pat)) js ∙ ap (λ w. w ++ job_names js) named in
+        let body : B r.body (names_left r.bound (jobs_at places (fields_of pat) ++ js)) a.body = subst (λ w. B r.body (bound_names r.bound ++ w) a.body) (before ∙ sym behind) is.body in
         subst (λ z. RowAs U' loc' (tree.settled r.body r.bound (jobs_at places (fields_of pat) ++ z)) (settled (attempt a.body a.bound (tasks_of (map loc' places) fs ++ ks)))) (sym (ap later e))
-        (settled_as U' loc' r.body a.body r.bound a.bound (jobs_at places (fields_of pat) ++ js) (tasks_of (map loc' places) fs ++ ks) is.body (is.bound ∙ locals_same U loc loc' same r.bound is.bound_used)
+        (settled_as U' loc' r.body a.body r.bound a.bound (jobs_at places (fields_of pat) ++ js) (tasks_of (map loc' places) fs ++ ks) body (is.bound ∙ locals_same U loc loc' same r.bound is.bound_used)
         (pairs_both (JobAs loc') (jobs_at places (fields_of pat)) js (tasks_of (map loc' places) fs) ks (fields_as loc' places (fields_of pat) fs forms) (jobs_same U loc loc' same js ks used rest))
         (used_more U U' (λ (b : Binder × ℕ). b.1) more r.bound is.bound_used)
-        (all_append (λ j. U' j.0) (jobs_at places (fields_of pat)) js (fields_used U' places (fields_of pat) new) (used_more U U' (λ (j : Job). j.0) more js used)))
+        (all_append (λ j. U' j.0) (jobs_at places (fields_of pat)) js (fields_used U' places (fields_of pat) new) (used_more U U' (λ (j : Job). j.0) more js used))
+        (all_append (λ (k : Task). decides.FormOk many k.1) (tasks_of (map loc' places) fs) ks (fields_fit (map loc' places) fs fields) fit))
 
-    test_as : (r : tree.Row) (a : Attempt) (j : Job) (js : List Job) (ks : List Task) (pat : Pat) (f : Form) → RowAs U loc r a → r.jobs ≡ j ∷ js → AllOf (λ j. U j.0) js → JobsAs loc js ks → tree.IsSettled ((p, pat) ∷ js) → IsForm c pat f
+    test_as : (r : tree.Row) (a : Attempt) (j : Job) (js : List Job) (ks : List Task) (pat : Pat) (f : Form) → RowAs U loc r a → r.jobs ≡ j ∷ js → j.1 ≡ pat → AllOf (λ j. U j.0) js → JobsAs loc js ks → tree.IsSettled ((p, pat) ∷ js) → TasksFit ks → decides.FormOk many f → IsForm c pat f
         → Pairwise (RowAs U' loc') (special (Some pat) h places r) (map settled (decided_by v a f ks))
-    test_as r a j js ks pat f is e used rest begins OfName = absurd (no_head begins.1)
+    test_as r a j js ks pat f is e at used rest begins fit form OfName = absurd (no_head begins.1)
       where
         no_head : {g : Head} → ◌≡◌ {A = Option Head} None (Some g) → ⊥
         no_head e = absurd cc
-    test_as r a j js ks pat f is e used rest begins (OfInt {k = k} {at = at}) =
-        by_kept (same_head (Integer k) h) (core.is_int k v) (opened r (Int k at) places) (attempt a.body a.bound ks) (int_heads k value) (opens r a j js ks (Int k at) NoForms is e used rest NoneOf)
-    test_as r a j js ks pat f is e used rest begins (OfCon {b = b} {ps = ps} {fs = fs} {n = n} known forms) = of_con value
+    test_as r a j js ks pat f is e at used rest begins fit form (OfInt {k = k} {at = place}) =
+        by_kept (same_head (Integer k) h) (core.is_int k v) (opened r (Int k place) places) (attempt a.body a.bound ks) (int_heads k value) (λ _. opens r a j js ks (Int k place) NoForms is e at used rest NoneOf fit tt refl)
+    test_as r a j js ks pat f is e at used rest begins fit form (OfCon {b = b} {ps = ps} {fs = fs} {n = n} known forms) = of_con value
       where
         of_con : {g : Head} {w : Value} → ValueAs g (map loc' places) w → Pairwise (RowAs U' loc') (special_by (same_head (Constructor b.name.0) g) (opened r (Con b ps) places)) (map settled (kept_by (core.is_con n w) (attempt a.body a.bound (tasks_of (core.fields_of w) fs ++ ks))))
         of_con AsInteger = tt
-        of_con (AsConstructor {d = d} {number = m} other) =
-            by_kept (b.name.0 == d) (m == n) (opened r (Con b ps) places) (attempt a.body a.bound (tasks_of (map loc' places) fs ++ ks)) (same_cons one b.name.0 d n m known other) (opens r a j js ks (Con b ps) fs is e used rest forms)
+        of_con (AsConstructor {d = d} {number = m} other long) =
+            by_kept (b.name.0 == d) (m == n) (opened r (Con b ps) places) (attempt a.body a.bound (tasks_of (map loc' places) fs ++ ks)) (same_cons one b.name.0 d n m known other)
+            (λ q.
+            let number : n ≡ m = some_is (sym known ∙ ap (con_number (headed c)) (eq_from b.name.0 d q) ∙ other) in
+            let len : length places ≡ count ps = sym (length_map loc' places) ∙ long ∙ ap many (sym number) ∙ sym form.0 ∙ forms_count c forms in
+            opens r a j js ks (Con b ps) fs is e at used rest forms fit form.1 (names_at places ps len))
 
-    special_as : (r : tree.Row) (a : Attempt) → RowAs U loc r a → (jobs : List Job) (tasks : List Task) → r.jobs ≡ jobs → a.tasks ≡ tasks → JobsAs loc jobs tasks → tree.IsSettled jobs → AllOf (λ j. U j.0) jobs
+    special_as : (r : tree.Row) (a : Attempt) → RowAs U loc r a → (jobs : List Job) (tasks : List Task) → r.jobs ≡ jobs → a.tasks ≡ tasks → JobsAs loc jobs tasks → tree.IsSettled jobs → AllOf (λ j. U j.0) jobs → TasksFit tasks
         → Pairwise (RowAs U' loc') (special (test_at p jobs) h places r) (map settled (known_first (loc p) v a tasks))
-    special_as r a is [] [] e f js s u = (stays_as r a is, tt)
-    special_as r a is [] (k ∷ ks) e f js s u = absurd js
-    special_as r a is (j ∷ js) [] e f hs s u = absurd hs
-    special_as r a is (j ∷ js) (k ∷ ks) e f hs s u = by (j.0 == p) refl
+    special_as r a is [] [] e f js s u fit = (stays_as r a is, tt)
+    special_as r a is [] (k ∷ ks) e f js s u fit = absurd js
+    special_as r a is (j ∷ js) [] e f hs s u fit = absurd hs
+    special_as r a is (j ∷ js) (k ∷ ks) e f hs s u fit = by (j.0 == p) refl
       where
         by : (b : Bool) → (j.0 == p) ≡ b → Pairwise (RowAs U' loc') (special (cond b (Some j.1) None) h places r) (map settled (cond (k.0 == loc p) (decided_by v a k.1 ks) (a ∷ [])))
         by true at =
             let here : j.0 ≡ p = eq_from j.0 p at in
             subst (λ w. Pairwise (RowAs U' loc') (special (Some j.1) h places r) (map settled (cond w (decided_by v a k.1 ks) (a ∷ [])))) (sym (eq_true k.0 (loc p) (hs.0.0 ∙ ap loc here)))
-            (test_as r a j js ks j.1 k.1 is e u.1 hs.1 s hs.0.1)
+            (test_as r a j js ks j.1 k.1 is e refl u.1 hs.1 s fit.1 fit.0 hs.0.1)
         by false apart =
             subst (λ w. Pairwise (RowAs U' loc') (special None h places r) (map settled (cond w (decided_by v a k.1 ks) (a ∷ [])))) (sym (eq_false k.0 (loc p) (λ i. differs_from j.0 p apart (once j.0 u.0 (sym hs.0.0 ∙ i)))))
             (stays_as r a is, tt)
@@ -208,7 +239,7 @@ module _ (c : Source) (B : Expr → normal.Term → Type 0) where
     rows_special (r ∷ rs) (a ∷ as') g =
         subst (λ z. Pairwise (RowAs U' loc') (specialised p h places (r ∷ rs)) z) (sym (map_append settled (known_first (loc p) v a a.tasks) (with_known (loc p) v as')))
         (pairs_both (RowAs U' loc') (special (test_at p r.jobs) h places r) (specialised p h places rs) (map settled (known_first (loc p) v a a.tasks)) (map settled (with_known (loc p) v as'))
-        (special_as r a g.0 r.jobs a.tasks refl refl g.0.tasks g.0.begins g.0.jobs_used) (rows_special rs as' g.1))
+        (special_as r a g.0 r.jobs a.tasks refl refl g.0.tasks g.0.begins g.0.jobs_used g.0.fits) (rows_special rs as' g.1))
 
   -- ---- rows that are left over
 

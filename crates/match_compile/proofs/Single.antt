@@ -14,7 +14,7 @@ use Rattle.match_compile.specs.Heads.{Head, Integer, Constructor, same_head, sam
 use Rattle.match_compile.specs.Sizes.{joined, functions, rows, Test, NoTest, OneTest, OtherTest, test_from, beside, is_one, test_of, all_beside, is_simple, is_plain}
 use Rattle.match_compile.specs.Trees.{Job, Row, row, settled, jobs_at, head_of, fields_of, Tree, Body, Case, Branches, NoBranch, AndBranch, NoDefault, has_head, opened, places_from, tests_left, one_branch, by_head, alone, alone_from, fits, in_branch, in_later, new_branch, or_default, pred, most_chained, insert, insert_branch}
 use Rattle.match_compile.specs.Decisions.{Decision, row_of, begun, grown, decided, decisions_from, all_decisions, decisions, IsOf, StandFor, NoneLeft, More}
-use Rattle.match_compile.specs.Translated.{with_nameless, equation_name, function_of, first_of, firsts, others, translated}
+use Rattle.match_compile.specs.Translated.{words_of, with_nameless, equation_name, function_of, first_of, firsts, others, translated}
 use Rattle.match_compile.specs.OneFunction.{IsOneFunction}
 use Rattle.match_compile.proofs.Inserted.{or_false, zero_plus, first_test, no_tests, or_neither}
 use Rattle.match_compile.proofs.Decided.{trees_stand}
@@ -216,9 +216,9 @@ record Goes (p : ℕ) (bs : Branches) (e : Equation) : Type 0 where
   kind : fits head bs ≡ true
   other : has_head head bs ≡ false
 
-record One (ds : List Decision) : Type 0 where
-  decision : Decision
-  is : ds ≡ decision ∷ []
+pub record One (ds : List Decision) : Type 0 where
+  pub decision : Decision
+  pub is : ds ≡ decision ∷ []
 
 still_go : (p : ℕ) (h : Head) (bs new : Branches) → ((g : Head) → fits g bs ≡ true → same_kind h g ≡ true → fits g new ≡ true) → ((g : Head) → has_head g bs ≡ false → same_head h g ≡ false → has_head g new ≡ false)
     → (es : List Equation) → AllOf (Goes p bs) es → all_beside (OneTest p h) es ≡ true → AllOf (Goes p new) es
@@ -287,15 +287,15 @@ plain_rows e = go (tests_of e.pats == 0)
     go false = refl
 
 -- the equations are all tried, and have one tree
-record Whole (k : ℕ) (es : List Equation) : Type 0 where
-  all : rows es ≡ es
-  one : One (decisions_from k es)
+pub record Whole (k : ℕ) (es : List Equation) : Type 0 where
+  pub all : rows es ≡ es
+  pub one : One (decisions_from k es)
 
 plain_whole : (k : ℕ) (e : Equation) (es : List Equation) → is_plain (e ∷ es) ≡ true → Whole k (e ∷ es)
 plain_whole k e [] s = record { all = plain_rows e; one = record { decision = begun k e; is = refl } }
 plain_whole k e (f ∷ es) s = absurd cc
 
-whole : (k : ℕ) (e : Equation) (es : List Equation) → (is_simple (e ∷ es) || is_plain (e ∷ es)) ≡ true → Whole k (e ∷ es)
+pub whole : (k : ℕ) (e : Equation) (es : List Equation) → (is_simple (e ∷ es) || is_plain (e ∷ es)) ≡ true → Whole k (e ∷ es)
 whole k e es s = go (is_simple (e ∷ es)) refl s
   where
     go : (b : Bool) → is_simple (e ∷ es) ≡ b → (b || is_plain (e ∷ es)) ≡ true → Whole k (e ∷ es)
@@ -321,7 +321,7 @@ one_stands {k = k} d (More {es = es} {rest = rest} is more) e =
 -- ---- the functions of the program
 
 -- each function has an equation
-abbrev HasFirst : List Equation → Type 0
+abbrev pub HasFirst : List Equation → Type 0
 HasFirst [] = ⊥
 HasFirst (e ∷ es) = Unit {0}
 
@@ -334,7 +334,7 @@ joined_first e ((f ∷ es) ∷ fs) h = go (e.name == f.name)
     go true = (tt, h.1)
     go false = (tt, h)
 
-functions_first : (es : List Equation) → AllOf HasFirst (functions es)
+pub functions_first : (es : List Equation) → AllOf HasFirst (functions es)
 functions_first [] = tt
 functions_first (e ∷ es) = joined_first e (functions es) (functions_first es)
 
@@ -368,16 +368,16 @@ climbs_up : (lo hi : ℕ) (ns : List ℕ) → Climbs lo hi ns → lo ≤ hi
 climbs_up lo hi [] h = h
 climbs_up lo hi (n ∷ ns) h = let l = h.0 in let m = climbs_up (suc n) hi ns h.1 in omega (arith, l, m)
 
-all_under : (lo hi : ℕ) (ns : List ℕ) → Climbs lo hi ns → AllOf (λ n. n < hi) ns
+pub all_under : (lo hi : ℕ) (ns : List ℕ) → Climbs lo hi ns → AllOf (λ n. n < hi) ns
 all_under lo hi [] h = tt
 all_under lo hi (n ∷ ns) h = let m = climbs_up (suc n) hi ns h.1 in (omega (arith, m), all_under (suc n) hi ns h.1)
 
 module _ (c : Source) where
-  firsts_append : (xs ys : List (List Decision)) → firsts c (xs ++ ys) ≡ firsts c xs ++ firsts c ys
+  firsts_append : (xs ys : List (List Decision)) → firsts (words_of c) (xs ++ ys) ≡ firsts (words_of c) xs ++ firsts (words_of c) ys
   firsts_append [] ys = refl
-  firsts_append (f ∷ xs) ys = ap (λ w. first_of c f ++ w) (firsts_append xs ys) ∙ sym (append_assoc (first_of c f) (firsts c xs) (firsts c ys))
+  firsts_append (f ∷ xs) ys = ap (λ w. first_of (words_of c) f ++ w) (firsts_append xs ys) ∙ sym (append_assoc (first_of (words_of c) f) (firsts (words_of c) xs) (firsts (words_of c) ys))
 
-  all_equations : (P : ℕ → Type 0) (ns : List ℕ) → AllOf (λ n. P (equation_name c n)) ns → AllOf P (map (equation_name c) ns)
+  all_equations : (P : ℕ → Type 0) (ns : List ℕ) → AllOf (λ n. P (equation_name (words_of c) n)) ns → AllOf P (map (equation_name (words_of c)) ns)
   all_equations P [] h = tt
   all_equations P (n ∷ ns) h = (h.0, all_equations P ns h.1)
 
@@ -388,17 +388,17 @@ module _ (c : Source) where
         ∙ ap (λ n. all_decisions 0 before ++ all_decisions n (es ∷ after)) (sym (zero_plus (total before)))
         ∙ ap (λ ds. all_decisions 0 before ++ ds ∷ all_decisions (total before + length es) after) one
 
-    place : AllOf HasFirst before → length (firsts c (all_decisions 0 before)) + 0 ≡ length before
-    place h = omega (arith, names_count (firsts c (all_decisions 0 before)), first_count before h, ap (λ (w : List ℕ). length w) (firsts_names c 0 before))
+    place : AllOf HasFirst before → length (firsts (words_of c) (all_decisions 0 before)) + 0 ≡ length before
+    place h = omega (arith, names_count (firsts (words_of c) (all_decisions 0 before)), first_count before h, ap (λ (w : List ℕ). length w) (firsts_names c 0 before))
 
-    its_function : AllOf HasFirst before → slice_get (translated c).functions (length before) ≡ Some (function_of c d.name d None)
+    its_function : AllOf HasFirst before → slice_get (translated c).functions (length before) ≡ Some (function_of (words_of c) d.name d None)
     its_function h =
         let ds : List (List Decision) = all_decisions (total before + length es) after in
-        let f : Function = function_of c d.name d None in
-        let at : slice_get (firsts c (all_decisions 0 before) ++ f ∷ firsts c ds) (length before) ≡ Some f =
-        ap (slice_get (firsts c (all_decisions 0 before) ++ f ∷ firsts c ds)) (sym (place h)) ∙ get_right (firsts c (all_decisions 0 before)) (f ∷ firsts c ds) 0 f refl in
-        let are : firsts c (decisions c) ≡ firsts c (all_decisions 0 before) ++ f ∷ firsts c ds = ap (firsts c) decisions_are ∙ firsts_append (all_decisions 0 before) ((d ∷ []) ∷ ds) in
-        get_left (firsts c (decisions c)) (others c (decisions c)) (length before) f (ap (λ w. slice_get w (length before)) are ∙ at)
+        let f : Function = function_of (words_of c) d.name d None in
+        let at : slice_get (firsts (words_of c) (all_decisions 0 before) ++ f ∷ firsts (words_of c) ds) (length before) ≡ Some f =
+        ap (slice_get (firsts (words_of c) (all_decisions 0 before) ++ f ∷ firsts (words_of c) ds)) (sym (place h)) ∙ get_right (firsts (words_of c) (all_decisions 0 before)) (f ∷ firsts (words_of c) ds) 0 f refl in
+        let are : firsts (words_of c) (decisions c) ≡ firsts (words_of c) (all_decisions 0 before) ++ f ∷ firsts (words_of c) ds = ap (firsts (words_of c)) decisions_are ∙ firsts_append (all_decisions 0 before) ((d ∷ []) ∷ ds) in
+        get_left (firsts (words_of c) (decisions c)) (others (words_of c) (decisions c)) (length before) f (ap (λ w. slice_get w (length before)) are ∙ at)
 
     module _ (j : ℕ) (lt : j < length es) where
       numbers_apart : AllOf (λ n. n ≢ total before + j) (other_numbers (decisions c))
@@ -411,7 +411,7 @@ module _ (c : Source) where
           (all_are (λ n. total before + length es ≤ n) (λ n. n ≢ total before + j) (λ n l e. omega (arith, l, e, lt)) (other_numbers ds)
           (all_above (total before + length es) (total before + length es + total after) (other_numbers ds) (others_climb (total before + length es) after))))
 
-      names_apart : AllOf (λ (e : Equation). e.name < length c.names) c.equations → AllOf (λ x. x ≢ equation_name c (total before + j)) (function_names (translated c).functions)
+      names_apart : AllOf (λ (e : Equation). e.name < length c.names) c.equations → AllOf (λ x. x ≢ equation_name (words_of c) (total before + j)) (function_names (translated c).functions)
       names_apart below =
           let n : ℕ = length (with_nameless c.names) in
           let le : length c.names ≤ n = nameless_length c.names in
@@ -419,13 +419,13 @@ module _ (c : Source) where
           let lower = all_are (λ (e : Equation). e.name < length c.names) (λ (e : Equation). e.name < n) (λ e l. omega (arith, le, l)) c.equations below in
           let firsts_are = firsts_names c 0 fs in
           let others_are = others_names c (decisions c) in
-          let are : function_names (translated c).functions ≡ first_names fs ++ map (equation_name c) (other_numbers (decisions c)) =
-          names_append (firsts c (decisions c)) (others c (decisions c)) ∙ (λ i. firsts_are i ++ others_are i) in
-          subst (AllOf (λ x. x ≢ equation_name c (total before + j))) (sym are)
-          (all_append (λ x. x ≢ equation_name c (total before + j)) (first_names fs) (map (equation_name c) (other_numbers (decisions c)))
-          (all_are (λ x. x < n) (λ x. x ≢ equation_name c (total before + j)) (λ x l e. omega (arith, l, e)) (first_names fs) (below_all n fs (functions_all (λ (e : Equation). e.name < n) c.equations lower)))
-          (all_equations (λ x. x ≢ equation_name c (total before + j)) (other_numbers (decisions c))
-          (all_are (λ n. n ≢ total before + j) (λ n. equation_name c n ≢ equation_name c (total before + j)) (λ n f e. f (equation_apart c n (total before + j) e)) (other_numbers (decisions c)) numbers_apart)))
+          let are : function_names (translated c).functions ≡ first_names fs ++ map (equation_name (words_of c)) (other_numbers (decisions c)) =
+          names_append (firsts (words_of c) (decisions c)) (others (words_of c) (decisions c)) ∙ (λ i. firsts_are i ++ others_are i) in
+          subst (AllOf (λ x. x ≢ equation_name (words_of c) (total before + j))) (sym are)
+          (all_append (λ x. x ≢ equation_name (words_of c) (total before + j)) (first_names fs) (map (equation_name (words_of c)) (other_numbers (decisions c)))
+          (all_are (λ x. x < n) (λ x. x ≢ equation_name (words_of c) (total before + j)) (λ x l e. omega (arith, l, e)) (first_names fs) (below_all n fs (functions_all (λ (e : Equation). e.name < n) c.equations lower)))
+          (all_equations (λ x. x ≢ equation_name (words_of c) (total before + j)) (other_numbers (decisions c))
+          (all_are (λ n. n ≢ total before + j) (λ n. equation_name (words_of c) n ≢ equation_name (words_of c) (total before + j)) (λ n f e. f (equation_apart c n (total before + j) e)) (other_numbers (decisions c)) numbers_apart)))
 
 pub stays_one : (c : Source) → WasRead c → (before after : List (List Equation)) (es : List Equation) → functions c.equations ≡ before ++ es ∷ after → (is_simple es || is_plain es) ≡ true → IsOneFunction c (length before) (sum_of (map length before)) es
 stays_one c read before after [] parts s =
@@ -438,5 +438,5 @@ stays_one c read before after (e ∷ es) parts s =
       decision = w.one.decision;
       stands = subst (λ x. IsOf k x w.one.decision) w.all (one_stands w.one.decision (trees_stand k (rows (e ∷ es))) (ap (decisions_from k) w.all ∙ w.one.is));
       function = its_function c before after (e ∷ es) parts w.one.decision (ap (decisions_from k) w.all ∙ w.one.is) (front_all HasFirst before ((e ∷ es) ∷ after) (subst (AllOf HasFirst) parts (functions_first c.equations)));
-      no_other = λ f i j lt. all_of (λ x. x ≢ equation_name c (k + j)) (function_names (translated c).functions) (names_apart c before after (e ∷ es) parts w.one.decision (ap (decisions_from k) w.all ∙ w.one.is) j lt below) (name_among (translated c).functions i);
+      no_other = λ f i j lt. all_of (λ x. x ≢ equation_name (words_of c) (k + j)) (function_names (translated c).functions) (names_apart c before after (e ∷ es) parts w.one.decision (ap (decisions_from k) w.all ∙ w.one.is) j lt below) (name_among (translated c).functions i);
     }

@@ -18,7 +18,7 @@ use Rattle.match_compile.specs.Sizes.{equation_size, source_size, tests, joined,
 use Rattle.match_compile.specs.Trees.{Tree, Body, Case, Branches, NoBranch, AndBranch, Default, NoDefault, ATree}
 use Rattle.match_compile.specs.Decisions.{Decision, all_decisions, decisions}
 use Rattle.match_compile.specs.Renamed.{name_for, hidden, renamed_term, renamed_terms, renamed_bind, renamed_expr, renamed_alts}
-use Rattle.match_compile.specs.Translated.{taken, binder, with_fields, binders, pattern_of, expr_of, alts_of, default_of, with_params, arguments, call, is_called, function_of, equation_name, next_of, first_of, each_of, others_of, firsts, others}
+use Rattle.match_compile.specs.Translated.{taken, binder, with_fields, binders, pattern_of, expr_of, alts_of, default_of, with_params, arguments, call, is_called, function_of, equation_name, next_of, first_of, each_of, others_of, firsts, others, Words, words_of}
 use Rattle.match_compile.specs.Laws.{IsSmall}
 use Rattle.match_compile.proofs.Weights.{weight, branches_weight, default_weight, cost, costs, whole, wholes, decisions_cost}
 
@@ -56,14 +56,14 @@ map_length : {X Y : Type 0} (f : X → Y) (xs : List X) → length (map f xs) �
 map_length f [] = refl
 map_length f (x ∷ xs) = ap suc (map_length f xs)
 
-pattern_small : (c : Source) (at params : ℕ) (h : Head) (bs : List Binder) → pattern_size (pattern_of c at params h bs) ≤ 1 + length bs
+pattern_small : (c : Words) (at params : ℕ) (h : Head) (bs : List Binder) → pattern_size (pattern_of c at params h bs) ≤ 1 + length bs
 pattern_small c at params (Integer k) bs = omega arith
 pattern_small c at params (Constructor d) bs = omega arith
 
-binders_count : (c : Source) (at params : ℕ) (s : Scope) (ps : List ℕ) → length (binders c at params s ps) ≡ length ps
+binders_count : (c : Words) (at params : ℕ) (s : Scope) (ps : List ℕ) → length (binders c at params s ps) ≡ length ps
 binders_count c at params s ps = map_length (λ p. binder c at params (name_for s p)) ps
 
-module _ (c : Source) (at params : ℕ) (rest : Alts) (short : alts_size rest ≤ 14) where
+module _ (c : Words) (at params : ℕ) (rest : Alts) (short : alts_size rest ≤ 14) where
   mutual
     expr_small : (s : Scope) (t : Tree) → expr_size (expr_of c at params rest s t) ≤ weight t
     expr_small s (Body r) = omega (arith, expr_same (taken c s r.bound) r.body)
@@ -81,7 +81,7 @@ module _ (c : Source) (at params : ℕ) (rest : Alts) (short : alts_size rest �
 
 -- ---- functions
 
-arguments_count : (c : Source) (at : ℕ) (bs : List Binder) → terms_size (arguments c at bs) ≡ length bs
+arguments_count : (c : Words) (at : ℕ) (bs : List Binder) → terms_size (arguments c at bs) ≡ length bs
 arguments_count c at [] = refl
 arguments_count c at (b ∷ bs) = omega (arith, arguments_count c at bs)
 
@@ -90,14 +90,14 @@ abbrev Fits : ℕ → Option ℕ → Type 0
 Fits n None = Unit {0}
 Fits n (Some f) = n ≤ 12
 
-call_small : (c : Source) (at : ℕ) (next : Option ℕ) (bs : List Binder) → Fits (length bs) next → alts_size (call c at next bs) ≤ 14
+call_small : (c : Words) (at : ℕ) (next : Option ℕ) (bs : List Binder) → Fits (length bs) next → alts_size (call c at next bs) ≤ 14
 call_small c at None bs h = omega arith
 call_small c at (Some f) bs h = let short : length bs ≤ 12 = h in omega (arith, short, arguments_count c at bs)
 
 twelve : (n : ℕ) → nat_le n 12 ≡ true → n ≤ 12
 twelve n e = grind (arith, nat_tests)
 
-next_fits : (c : Source) (d : Decision) (ds : List Decision) → Fits d.params (next_of c d ds)
+next_fits : (c : Words) (d : Decision) (ds : List Decision) → Fits d.params (next_of c d ds)
 next_fits c d [] = tt
 next_fits c d (e ∷ es) = go (nat_le d.params 12) refl
   where
@@ -105,7 +105,7 @@ next_fits c d (e ∷ es) = go (nat_le d.params 12) refl
     go true h = twelve d.params h
     go false h = tt
 
-function_small : (c : Source) (name : ℕ) (d : Decision) (next : Option ℕ) → Fits d.params next → function_size (function_of c name d next) ≤ whole d
+function_small : (c : Words) (name : ℕ) (d : Decision) (next : Option ℕ) → Fits d.params next → function_size (function_of c name d next) ≤ whole d
 function_small c name d next fits =
     let places : Scope = with_params c (is_called c d next) d (numbers_from 0 d.params) [] in
     let params : List Binder = binders c d.at d.params places (numbers_from 0 d.params) in
@@ -116,12 +116,12 @@ function_small c name d next fits =
 abbrev sizes : List Function → ℕ
 sizes fs = sum_by function_size fs
 
-each_small : (c : Source) (ds : List Decision) → sizes (each_of c ds) ≤ wholes ds
+each_small : (c : Words) (ds : List Decision) → sizes (each_of c ds) ≤ wholes ds
 each_small c [] = omega arith
 each_small c (d ∷ ds) =
     omega (arith, sum_by-cons function_size (function_of c (equation_name c d.number) d (next_of c d ds)) (each_of c ds), function_small c (equation_name c d.number) d (next_of c d ds) (next_fits c d ds), each_small c ds)
 
-group_small : (c : Source) (ds : List Decision) → sizes (first_of c ds) + sizes (others_of c ds) ≤ wholes ds
+group_small : (c : Words) (ds : List Decision) → sizes (first_of c ds) + sizes (others_of c ds) ≤ wholes ds
 group_small c [] = omega arith
 group_small c (d ∷ ds) =
     omega (arith, sum_by-cons function_size (function_of c d.name d (next_of c d ds)) [], function_small c d.name d (next_of c d ds) (next_fits c d ds), each_small c ds)
@@ -130,7 +130,7 @@ abbrev all_wholes : List (List Decision) → ℕ
 all_wholes [] = 0
 all_wholes (f ∷ fs) = wholes f + all_wholes fs
 
-all_small : (c : Source) (fs : List (List Decision)) → sizes (firsts c fs) + sizes (others c fs) ≤ all_wholes fs
+all_small : (c : Words) (fs : List (List Decision)) → sizes (firsts c fs) + sizes (others c fs) ≤ all_wholes fs
 all_small c [] = omega arith
 all_small c (f ∷ fs) =
     omega (arith, sum_by-append function_size (first_of c f) (firsts c fs), sum_by-append function_size (others_of c f) (others c fs), group_small c f, all_small c fs)
@@ -171,8 +171,8 @@ costs_are [] = refl
 costs_are (e ∷ es) =
     omega (arith, sum_by-cons equation_size e es, sum_by-cons (λ (e : Equation). tests_of e.pats) e es, costs_are es)
 
-small : (c : Source) (ds : List (List Decision)) → all_wholes ds ≤ costs c.equations → 2 * length c.constructors + sizes (firsts c ds ++ others c ds) ≤ source_size c + 16 * tests c
-small c ds l = omega (arith, sum_by-append function_size (firsts c ds) (others c ds), all_small c ds, l, costs_are c.equations)
+small : (c : Source) (ds : List (List Decision)) → all_wholes ds ≤ costs c.equations → 2 * length c.constructors + sizes (firsts (words_of c) ds ++ others (words_of c) ds) ≤ source_size c + 16 * tests c
+small c ds l = omega (arith, sum_by-append function_size (firsts (words_of c) ds) (others (words_of c) ds), all_small (words_of c) ds, l, costs_are c.equations)
 
 paid_for : (c : Source) → all_wholes (decisions c) ≤ costs c.equations
 paid_for c = subst (λ n. all_wholes (decisions c) ≤ n) (functions_cost c.equations) (all_cost 0 (functions c.equations))

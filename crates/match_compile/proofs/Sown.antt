@@ -3,7 +3,7 @@
 use Rattle.std.proofs.Common.{◌≡◌, ℕ, zero, suc, ◌+◌, ◌<◌, ◌≤◌, Bool, true, false, cond, List, [], ◌∷◌, ◌++◌, length, refl, sym, ap, subst, ◌∙◌, append_assoc, arith, Option, Some, None, ◌⊎◌, inl, inr, ⊎_elim}
 use Rattle.std.specs.Prelude.{◌≢◌, ◌==◌, ◌&&◌, if◌then◌else◌}
 use Rattle.seq.specs.Lists.{AllOf, In, here, there, numbers_from}
-use Rattle.seq.proofs.Lists.{all_append}
+use Rattle.seq.proofs.Lists.{all_append, append_nil}
 use Rattle.seq.proofs.Counted.{length_numbers}
 use Rattle.seq.proofs.Member.{none_in, in_left, in_right, in_split, cons_in}
 use Rattle.seq.proofs.Order.{eq_from, same_or_not}
@@ -16,7 +16,7 @@ use Rattle.match_compile.specs.Rules.{fields_in, Broken, UnknownName, PatternAri
 use Rattle.match_compile.specs.Heads.{Head, Integer, Constructor, same_head, same_kind}
 use Rattle.match_compile.specs.Trees.{Job, Row, row, settled, IsSettled, jobs_at, places_from, head_of, fields_of, Tree, Body, Case, Branches, NoBranch, AndBranch, Default, NoDefault, ATree, branches_fail, test_at, later, opened, tests_left, one_branch, by_head, alone, alone_from, fits, in_default, in_branch, in_later, new_branch, or_default, pred, most_chained, insert, insert_branch}
 use Rattle.match_compile.specs.Sizes.{functions, rows}
-use Rattle.match_compile.specs.Decisions.{Decision, row_of, begun, grown, decided, all_decisions, decisions}
+use Rattle.match_compile.specs.Decisions.{Decision, row_of, begun, grown, decided, decisions_from, all_decisions, decisions}
 use Rattle.match_compile.specs.Translated.{bound_at, is_name, all_bind, branches_bind}
 use Rattle.match_compile.proofs.Inserted.{some_is, same_is, settled_is, fewer, no_tests, first_test, at_head, at_pat, at_test, branch_by, by_test}
 use Rattle.match_compile.proofs.Decided.{by_insert}
@@ -31,7 +31,7 @@ numbers_above : (n k : ℕ) → AllOf (λ p. n ≤ p) (numbers_from n k)
 numbers_above n zero = tt
 numbers_above n (suc k) = (omega arith, all_are (λ p. suc n ≤ p) (λ p. n ≤ p) (λ p le. omega (arith, le)) (numbers_from (suc n) k) (numbers_above (suc n) k))
 
-numbers_below : (n k : ℕ) → AllOf (λ p. p < n + k) (numbers_from n k)
+pub numbers_below : (n k : ℕ) → AllOf (λ p. p < n + k) (numbers_from n k)
 numbers_below n zero = tt
 numbers_below n (suc k) = (omega arith, all_are (λ p. p < suc n + k) (λ p. p < n + suc k) (λ p lt. omega (arith, lt)) (numbers_from (suc n) k) (numbers_below (suc n) k))
 
@@ -88,7 +88,7 @@ abbrev pub bound_places : List (Binder × ℕ) → List ℕ
 bound_places [] = []
 bound_places (b ∷ bs) = b.1 ∷ bound_places bs
 
-names_append : (xs ys : List Job) → job_names (xs ++ ys) ≡ job_names xs ++ job_names ys
+pub names_append : (xs ys : List Job) → job_names (xs ++ ys) ≡ job_names xs ++ job_names ys
 names_append [] ys = refl
 names_append (x ∷ xs) ys = ap (λ w. names_in x.1 ++ w) (names_append xs ys) ∙ sym (append_assoc (names_in x.1) (job_names xs) (job_names ys))
 
@@ -103,7 +103,7 @@ constructors_split (x ∷ xs) ys h = elim (in_split (constructors_in x.1) (job_c
   | inr i ↦ ⊎_elim (λ l. inl (in_right (constructors_in x.1) (job_constructors xs) l)) (λ r. inr r) (constructors_split xs ys i)
 ]
 
-names_at : (places : List ℕ) (ps : Pats) → length places ≡ count ps → job_names (jobs_at places ps) ≡ names_of ps
+pub names_at : (places : List ℕ) (ps : Pats) → length places ≡ count ps → job_names (jobs_at places ps) ≡ names_of ps
 names_at places NoPats e = refl
 names_at [] (AndPat p ps) e = absurd (omega (arith, e))
 names_at (x ∷ places) (AndPat p ps) e = ap (λ w. names_in p ++ w) (names_at places ps (omega (arith, e)))
@@ -119,7 +119,7 @@ constructors_at places NoPats h = h
 constructors_at [] (AndPat p ps) h = none_in h
 constructors_at (x ∷ places) (AndPat p ps) h = ⊎_elim (λ l. in_left (constructors_in p) (constructors_of ps) l) (λ r. in_right (constructors_in p) (constructors_of ps) (constructors_at places ps r)) (in_split (constructors_in p) (job_constructors (jobs_at places ps)) h)
 
-bound_names_last : (bs : List (Binder × ℕ)) (b : Binder) (p : ℕ) (ys : List Binder) → bound_names (bs ++ (b, p) ∷ []) ++ ys ≡ bound_names bs ++ b ∷ ys
+pub bound_names_last : (bs : List (Binder × ℕ)) (b : Binder) (p : ℕ) (ys : List Binder) → bound_names (bs ++ (b, p) ∷ []) ++ ys ≡ bound_names bs ++ b ∷ ys
 bound_names_last [] b p ys = refl
 bound_names_last (x ∷ bs) b p ys = ap (λ w. x.0 ∷ w) (bound_names_last bs b p ys)
 
@@ -137,7 +137,7 @@ settled_places body bound ((p, Name b) ∷ js) = settled_places body (bound ++ (
 settled_places body bound ((p, Int k at) ∷ js) = refl
 settled_places body bound ((p, Con c ps) ∷ js) = refl
 
-pat_names : (pat : Pat) (h : Head) → head_of pat ≡ Some h → names_in pat ≡ names_of (fields_of pat)
+pub pat_names : (pat : Pat) (h : Head) → head_of pat ≡ Some h → names_in pat ≡ names_of (fields_of pat)
 pat_names (Name b) h e = absurd cc
 pat_names (Int k at) h e = refl
 pat_names (Con c ps) h e = refl
@@ -147,7 +147,7 @@ pat_constructors (Name b) h = h
 pat_constructors (Int k at) h = h
 pat_constructors (Con c ps) h = there h
 
-test_is : (p : ℕ) (js : List Job) (pat : Pat) → test_at p js ≡ Some pat → js ≡ (p, pat) ∷ later js
+pub test_is : (p : ℕ) (js : List Job) (pat : Pat) → test_at p js ≡ Some pat → js ≡ (p, pat) ∷ later js
 test_is p [] pat e = absurd cc
 test_is p (j ∷ js) pat e = go (j.0 == p) refl e
   where
@@ -212,6 +212,55 @@ kinds_over g h (AndBranch f ps t bs) a e = (kind_over g f h a.0.1 e, kinds_over 
 all_fit : (h : Head) (bs : Branches) → EachBeside bs → fits h bs ≡ true → AllKind h bs
 all_fit h NoBranch a e = tt
 all_fit h (AndBranch g ps t bs) a e = (e, kinds_over g h bs a.0 e)
+
+-- ---- leaves
+
+-- a body, and the names that its equation binds
+abbrev pub Leaf : Type 0
+Leaf = Expr × List Binder
+
+abbrev mutual
+  pub leaves : Tree → List Leaf
+  leaves (Body r) = (r.body, bound_names r.bound) ∷ []
+  leaves (Case p bs o) = leaves_in bs ++ leaves_else o
+
+  pub leaves_in : Branches → List Leaf
+  leaves_in NoBranch = []
+  leaves_in (AndBranch h ps t bs) = leaves t ++ leaves_in bs
+
+  pub leaves_else : Default → List Leaf
+  leaves_else NoDefault = []
+  leaves_else (ATree t) = leaves t
+
+-- what a row comes to
+abbrev pub leaf_of : Row → Leaf
+leaf_of r = (r.body, bound_names r.bound ++ job_names r.jobs)
+
+settled_leaf : (body : Expr) (bound : List (Binder × ℕ)) (js : List Job) → leaf_of (settled body bound js) ≡ (body, bound_names bound ++ job_names js)
+settled_leaf body bound [] = refl
+settled_leaf body bound ((p, Name b) ∷ js) = settled_leaf body (bound ++ (b, p) ∷ []) js ∙ ap (λ (w : List Binder). (body, w)) (bound_names_last bound b p (job_names js))
+settled_leaf body bound ((p, Int k at) ∷ js) = refl
+settled_leaf body bound ((p, Con c ps) ∷ js) = refl
+
+-- behind its first test a row comes to the same
+opened_leaf : (p : ℕ) (r : Row) (pat : Pat) (h : Head) (ps : List ℕ) → test_at p r.jobs ≡ Some pat → head_of pat ≡ Some h → length ps ≡ count (fields_of pat) → leaf_of (opened r pat ps) ≡ leaf_of r
+opened_leaf p r pat h ps t e len =
+    let fs : List Job = jobs_at ps (fields_of pat) in
+    let js : List Job = later r.jobs in
+    let same : job_names fs ≡ names_in pat = names_at ps (fields_of pat) len ∙ sym (pat_names pat h e) in
+    let all : job_names (fs ++ js) ≡ job_names r.jobs = names_append fs js ∙ ap (λ w. w ++ job_names js) same ∙ sym (ap job_names (test_is p r.jobs pat t)) in
+    settled_leaf r.body r.bound (fs ++ js) ∙ ap (λ (w : List Binder). (r.body, bound_names r.bound ++ w)) all
+
+-- a leaf stays where the second leaves do
+either_side : (xs ys zs : List Leaf) (l : Leaf) → (In l ys → In l zs) → In l (xs ++ ys) → In l (xs ++ zs)
+either_side xs ys zs l f i = ⊎_elim (λ a. in_left xs zs a) (λ b. in_right xs zs (f b)) (in_split xs ys i)
+
+-- and where the first do
+other_side : (xs ys zs : List Leaf) (l : Leaf) → (In l xs → In l ys) → In l (xs ++ zs) → In l (ys ++ zs)
+other_side xs ys zs l f i = ⊎_elim (λ a. in_left ys zs (f a)) (λ b. in_right ys zs b) (in_split xs zs i)
+
+row_leaf : (e : Equation) → leaf_of (row_of e) ≡ (e.body, names_of e.pats)
+row_leaf e = settled_leaf e.body [] (jobs_at (places_from 0 e.pats) e.pats) ∙ ap (λ (w : List Binder). (e.body, w)) (names_at (places_from 0 e.pats) e.pats (length_numbers 0 (count e.pats)))
 
 module _ (c : Source) where
   -- ---- rows
@@ -302,7 +351,7 @@ module _ (c : Source) where
       go (Constructor d) a b = some_is n m (sym a ∙ b)
 
   module _ (unbroken : (k at : ℕ) → Broken c k at → ⊥) where
-    declared : {e : Equation} → In e c.equations → (d : Binder) (n : ℕ) → In (d, n) (constructors_of e.pats) → fields_in c.constructors d.name.0 ≡ Some n
+    pub declared : {e : Equation} → In e c.equations → (d : Binder) (n : ℕ) → In (d, n) (constructors_of e.pats) → fields_in c.constructors d.name.0 ≡ Some n
     declared {e = e} i d n h = go (fields_in c.constructors d.name.0) refl
       where
         go : (o : Option ℕ) → fields_in c.constructors d.name.0 ≡ o → fields_in c.constructors d.name.0 ≡ Some n
@@ -362,20 +411,25 @@ module _ (c : Source) where
     fine : Fine t.1 ks t.0
     more : n ≤ t.1
     free : (p x : ℕ) → p < n → NotIn p (places_of r) → all_bind p x t.0 ≡ false
+    leaf : In (leaf_of r) (leaves t.0)
 
   -- ---- a row that went into a tree
 
-  record Sown (n : ℕ) (ks : List ℕ) (t : Tree) (u : Tree × ℕ) : Type 0 where
+  record Sown (n : ℕ) (ks : List ℕ) (r : Row) (t : Tree) (u : Tree × ℕ) : Type 0 where
     fine : Fine u.1 ks u.0
     more : n ≤ u.1
     kept : (p x : ℕ) → all_bind p x t ≡ false → all_bind p x u.0 ≡ false
+    old : (l : Leaf) → In l (leaves t) → In l (leaves u.0)
+    leaf : In (leaf_of r) (leaves u.0)
 
-  record SownIn (n : ℕ) (ks : List ℕ) (h : Head) (bs : Branches) (v : Branches × ℕ) : Type 0 where
+  record SownIn (n : ℕ) (ks : List ℕ) (r : Row) (h : Head) (bs : Branches) (v : Branches × ℕ) : Type 0 where
     fine : FineBranches v.1 ks v.0
     more : n ≤ v.1
     kept : (p x : ℕ) → branches_bind p x bs ≡ false → branches_bind p x v.0 ≡ false
     beside : (g : Head) → AllBeside g bs → Beside g h → AllBeside g v.0
     each : EachBeside bs → AllKind h bs → EachBeside v.0
+    old : (l : Leaf) → In l (leaves_in bs) → In l (leaves_in v.0)
+    leaf : In (leaf_of r) (leaves_in v.0)
 
   module _ (unbroken : (k at : ℕ) → Broken c k at → ⊥) where
     -- the fields of a first test get places that are free
@@ -388,6 +442,7 @@ module _ (c : Source) where
       under : AllOf (λ q. q < n + count (fields_of pat)) (places_from n (fields_of pat) ++ ks)
       comes : Comes (places_from n (fields_of pat) ++ ks) (opened r pat (places_from n (fields_of pat)))
       past : (q : ℕ) → q < n → NotIn q (places_from n (fields_of pat))
+      leaf : leaf_of (opened r pat (places_from n (fields_of pat))) ≡ leaf_of r
 
     opens : (n : ℕ) (ks : List ℕ) (p : ℕ) (r : Row) (pat : Pat) (h : Head) → AllOf (λ q. q < n) ks → test_at p r.jobs ≡ Some pat → head_of pat ≡ Some h → Comes ks r → Opened n ks p r pat h
     opens n ks p r pat h low t e w =
@@ -404,6 +459,7 @@ module _ (c : Source) where
           under = all_append (λ q. q < n + k) ps ks (numbers_below n k) (below_more n (n + k) ks (omega arith) low);
           comes = opened_comes ks p r pat h ps t e len (numbers_differ n k) new w;
           past = λ q lt i. let le : n ≤ q = all_of (λ q. n ≤ q) ps (numbers_above n k) i in omega (arith, le, lt);
+          leaf = opened_leaf p r pat h ps t e len;
         }
 
     one_case : (n : ℕ) (ks : List ℕ) (p : ℕ) (r : Row) (pat : Pat) (h : Head) (t : Tree × ℕ) → AllOf (λ q. q < n) ks → In p ks → test_at p r.jobs ≡ Some pat → Comes ks r → Opened n ks p r pat h
@@ -418,6 +474,7 @@ module _ (c : Source) where
           fine = (i, (λ x. only p x lt (opened_past ks p r pat ps test o.count_is (o.past p lt) w)), (tt, tt), (o.suits, o.differ, o.new, below_more (n + k) t.1 ps le o.below, a.fine, tt), tt);
           more = omega (arith, le);
           free = λ q x l m. ap (λ b. b && true) (only q x l (opened_other p q r pat ps test o.count_is (o.past q l) m));
+          leaf = in_left (leaves t.0 ++ []) [] (in_left (leaves t.0) [] (subst (λ w. In w (leaves t.0)) o.leaf a.leaf));
         }
 
     body_alone : (n : ℕ) (ks : List ℕ) (body : Expr) (bound : List (Binder × ℕ)) → Comes ks (row body bound []) → Alone n ks (row body bound []) (Body (row body bound []), n)
@@ -425,6 +482,7 @@ module _ (c : Source) where
       fine = (w, refl);
       more = omega arith;
       free = λ p x lt m. ap (is_name x) (unbound_at p bound (λ i. m (in_left (bound_places bound) [] i)));
+      leaf = subst (λ (w : List Binder). In {X = Leaf} (body, w) ((body, bound_names bound) ∷ [])) (sym (append_nil (bound_names bound))) here;
     }
 
     alone_fine : (k n : ℕ) (ks : List ℕ) (body : Expr) (bound : List (Binder × ℕ)) (js : List Job) → AllOf (λ q. q < n) ks → IsSettled js → tests_left js ≤ k → Comes ks (row body bound js) → Alone n ks (row body bound js) (alone k n (row body bound js))
@@ -445,71 +503,81 @@ module _ (c : Source) where
     alone_sown : (n : ℕ) (ks : List ℕ) (r : Row) → AllOf (λ q. q < n) ks → IsSettled r.jobs → Comes ks r → Alone n ks r (alone_from n r)
     alone_sown n ks r low s w = alone_fine (tests_left r.jobs) n ks r.body r.bound r.jobs low s (omega arith) w
 
-    sown_default : (n : ℕ) (ks : List ℕ) (p : ℕ) (bs : Branches) (t : Tree) (o : Option (Tree × ℕ)) (u : Tree × ℕ) → Fine n ks (Case p bs (ATree t)) → in_default p bs o ≡ Some u → ((v : Tree × ℕ) → o ≡ Some v → Sown n ks t v) → Sown n ks (Case p bs (ATree t)) u
-    sown_default n ks p bs t None u f e ih = absurd cc
-    sown_default n ks p bs t (Some v) u f e ih =
+    sown_default : (n : ℕ) (ks : List ℕ) (p : ℕ) (bs : Branches) (t : Tree) (r : Row) (o : Option (Tree × ℕ)) (u : Tree × ℕ) → Fine n ks (Case p bs (ATree t)) → in_default p bs o ≡ Some u → ((v : Tree × ℕ) → o ≡ Some v → Sown n ks r t v) → Sown n ks r (Case p bs (ATree t)) u
+    sown_default n ks p bs t r None u f e ih = absurd cc
+    sown_default n ks p bs t r (Some v) u f e ih =
         let s = ih v refl in
-        subst (Sown n ks (Case p bs (ATree t))) (some_is (Case p bs (ATree v.0), v.1) u e) (record {
+        subst (Sown n ks r (Case p bs (ATree t))) (some_is (Case p bs (ATree v.0), v.1) u e) (record {
           fine = (f.0, f.1, f.2, branches_more n v.1 ks bs s.more f.3, s.fine);
           more = s.more;
           kept = λ q x h. and_kept (branches_bind q x bs) (all_bind q x t) (all_bind q x v.0) (s.kept q x) h;
+          old = λ l i. either_side (leaves_in bs) (leaves t) (leaves v.0) l (s.old l) i;
+          leaf = in_right (leaves_in bs) (leaves v.0) s.leaf;
         })
 
-    sown_new : (n : ℕ) (ks : List ℕ) (p : ℕ) (bs : Branches) (r : Row) (room : ℕ) (u : Tree × ℕ) → Fine n ks (Case p bs NoDefault) → AllOf (λ q. q < n) ks → IsSettled r.jobs → Comes ks r → or_default room p bs n r None ≡ Some u → Sown n ks (Case p bs NoDefault) u
+    sown_new : (n : ℕ) (ks : List ℕ) (p : ℕ) (bs : Branches) (r : Row) (room : ℕ) (u : Tree × ℕ) → Fine n ks (Case p bs NoDefault) → AllOf (λ q. q < n) ks → IsSettled r.jobs → Comes ks r → or_default room p bs n r None ≡ Some u → Sown n ks r (Case p bs NoDefault) u
     sown_new n ks p bs r zero u f low s w e = absurd cc
     sown_new n ks p bs r (suc room) u f low s w e = go (branches_fail bs) e
       where
-        go : (b : Bool) → cond b None (in_default p bs (Some (alone_from n r))) ≡ Some u → Sown n ks (Case p bs NoDefault) u
+        go : (b : Bool) → cond b None (in_default p bs (Some (alone_from n r))) ≡ Some u → Sown n ks r (Case p bs NoDefault) u
         go true e = absurd cc
         go false e =
             let t : Tree × ℕ = alone_from n r in
             let a = alone_sown n ks r low s w in
-            subst (Sown n ks (Case p bs NoDefault)) (some_is (Case p bs (ATree t.0), t.1) u e) (record {
+            subst (Sown n ks r (Case p bs NoDefault)) (some_is (Case p bs (ATree t.0), t.1) u e) (record {
               fine = (f.0, f.1, f.2, branches_more n t.1 ks bs a.more f.3, a.fine);
               more = a.more;
               kept = λ q x h. and_less (branches_bind q x bs) (all_bind q x t.0) h;
+              old = λ l i. either_side (leaves_in bs) [] (leaves t.0) l none_in i;
+              leaf = in_right (leaves_in bs) (leaves t.0) a.leaf;
             })
 
     sown_case : (n : ℕ) (ks : List ℕ) (p : ℕ) (bs : Branches) (r : Row) (room : ℕ) (o : Option (Branches × ℕ)) (u : Tree × ℕ) → Fine n ks (Case p bs NoDefault) → AllOf (λ q. q < n) ks → IsSettled r.jobs → Comes ks r → or_default room p bs n r o ≡ Some u
-        → ((v : Branches × ℕ) → o ≡ Some v → (h : Head) × AllKind h bs × SownIn n ks h bs v) → Sown n ks (Case p bs NoDefault) u
+        → ((v : Branches × ℕ) → o ≡ Some v → (h : Head) × AllKind h bs × SownIn n ks r h bs v) → Sown n ks r (Case p bs NoDefault) u
     sown_case n ks p bs r room None u f low s w e ih = sown_new n ks p bs r room u f low s w e
     sown_case n ks p bs r room (Some v) u f low s w e ih =
         let i = ih v refl in
         let g = i.2 in
-        subst (Sown n ks (Case p bs NoDefault)) (some_is (Case p v.0 NoDefault, v.1) u e) (record {
+        subst (Sown n ks r (Case p bs NoDefault)) (some_is (Case p v.0 NoDefault, v.1) u e) (record {
           fine = (f.0, (λ x. g.kept p x (f.1 x)), g.each f.2 i.1, g.fine, tt);
           more = g.more;
           kept = λ q x h. and_both (branches_bind q x bs) (branches_bind q x v.0) true true (g.kept q x) (λ z. z) h;
+          old = λ l k. other_side (leaves_in bs) (leaves_in v.0) [] l (g.old l) k;
+          leaf = in_left (leaves_in v.0) [] g.leaf;
         })
 
-    sown_branch : (n : ℕ) (ks : List ℕ) (g h : Head) (ps : List ℕ) (t : Tree) (bs : Branches) (o : Option (Tree × ℕ)) (v : Branches × ℕ) → FineBranches n ks (AndBranch g ps t bs) → in_branch g ps bs o ≡ Some v → ((x : Tree × ℕ) → o ≡ Some x → Sown n (ps ++ ks) t x)
-        → SownIn n ks h (AndBranch g ps t bs) v
-    sown_branch n ks g h ps t bs None v f e ih = absurd cc
-    sown_branch n ks g h ps t bs (Some x) v f e ih =
+    sown_branch : (n : ℕ) (ks : List ℕ) (g h : Head) (ps : List ℕ) (t : Tree) (bs : Branches) (r w : Row) → leaf_of w ≡ leaf_of r → (o : Option (Tree × ℕ)) (v : Branches × ℕ) → FineBranches n ks (AndBranch g ps t bs) → in_branch g ps bs o ≡ Some v → ((x : Tree × ℕ) → o ≡ Some x → Sown n (ps ++ ks) w t x)
+        → SownIn n ks r h (AndBranch g ps t bs) v
+    sown_branch n ks g h ps t bs r w same None v f e ih = absurd cc
+    sown_branch n ks g h ps t bs r w same (Some x) v f e ih =
         let s = ih x refl in
-        subst (SownIn n ks h (AndBranch g ps t bs)) (some_is (AndBranch g ps x.0 bs, x.1) v e) (record {
+        subst (SownIn n ks r h (AndBranch g ps t bs)) (some_is (AndBranch g ps x.0 bs, x.1) v e) (record {
           fine = (f.0, f.1, f.2, below_more n x.1 ps s.more f.3, s.fine, branches_more n x.1 ks bs s.more f.5);
           more = s.more;
           kept = λ q y z. and_both (all_bind q y t) (all_bind q y x.0) (branches_bind q y bs) (branches_bind q y bs) (s.kept q y) (λ w. w) z;
           beside = λ k a b. a;
           each = λ e k. e;
+          old = λ l i. other_side (leaves t) (leaves x.0) (leaves_in bs) l (s.old l) i;
+          leaf = in_left (leaves x.0) (leaves_in bs) (subst (λ z. In z (leaves x.0)) same s.leaf);
         })
 
-    sown_later : (n : ℕ) (ks : List ℕ) (g h : Head) (ps : List ℕ) (t : Tree) (bs : Branches) (o : Option (Branches × ℕ)) (v : Branches × ℕ) → same_head g h ≡ false → FineBranches n ks (AndBranch g ps t bs) → in_later g ps t o ≡ Some v → ((x : Branches × ℕ) → o ≡ Some x → SownIn n ks h bs x)
-        → SownIn n ks h (AndBranch g ps t bs) v
-    sown_later n ks g h ps t bs None v m f e ih = absurd cc
-    sown_later n ks g h ps t bs (Some x) v m f e ih =
+    sown_later : (n : ℕ) (ks : List ℕ) (g h : Head) (ps : List ℕ) (t : Tree) (bs : Branches) (r : Row) (o : Option (Branches × ℕ)) (v : Branches × ℕ) → same_head g h ≡ false → FineBranches n ks (AndBranch g ps t bs) → in_later g ps t o ≡ Some v → ((x : Branches × ℕ) → o ≡ Some x → SownIn n ks r h bs x)
+        → SownIn n ks r h (AndBranch g ps t bs) v
+    sown_later n ks g h ps t bs r None v m f e ih = absurd cc
+    sown_later n ks g h ps t bs r (Some x) v m f e ih =
         let s = ih x refl in
-        subst (SownIn n ks h (AndBranch g ps t bs)) (some_is (AndBranch g ps t x.0, x.1) v e) (record {
+        subst (SownIn n ks r h (AndBranch g ps t bs)) (some_is (AndBranch g ps t x.0, x.1) v e) (record {
           fine = (f.0, f.1, f.2, below_more n x.1 ps s.more f.3, fine_more n x.1 (ps ++ ks) t s.more f.4, s.fine);
           more = s.more;
           kept = λ q y z. and_kept (all_bind q y t) (branches_bind q y bs) (branches_bind q y x.0) (s.kept q y) z;
           beside = λ k a b. (a.0, s.beside k a.1 b);
           each = λ a k. (s.beside g a.0 (m, k.0), s.each a.1 k.1);
+          old = λ l i. either_side (leaves t) (leaves_in bs) (leaves_in x.0) l (s.old l) i;
+          leaf = in_right (leaves t) (leaves_in x.0) s.leaf;
         })
 
     sown_first : (n : ℕ) (ks : List ℕ) (p : ℕ) (r : Row) (pat : Pat) (h : Head) (t : Tree × ℕ) → Opened n ks p r pat h → Alone (n + count (fields_of pat)) (places_from n (fields_of pat) ++ ks) (opened r pat (places_from n (fields_of pat))) t
-        → SownIn n ks h NoBranch (new_branch h (places_from n (fields_of pat)) t)
+        → SownIn n ks r h NoBranch (new_branch h (places_from n (fields_of pat)) t)
     sown_first n ks p r pat h t o a =
         let le : n + count (fields_of pat) ≤ t.1 = a.more in
         record {
@@ -518,31 +586,33 @@ module _ (c : Source) where
           kept = λ q x e. absurd cc;
           beside = λ g a b. (b, tt);
           each = λ a k. (tt, tt);
+          old = λ l i. none_in i;
+          leaf = in_left (leaves t.0) [] (subst (λ w. In w (leaves t.0)) o.leaf a.leaf);
         }
 
     mutual
-      sown : (room : ℕ) (t : Tree) (n : ℕ) (r : Row) (ks : List ℕ) → AllOf (λ q. q < n) ks → IsSettled r.jobs → Fine n ks t → Comes ks r → (u : Tree × ℕ) → insert room t n r ≡ Some u → Sown n ks t u
+      sown : (room : ℕ) (t : Tree) (n : ℕ) (r : Row) (ks : List ℕ) → AllOf (λ q. q < n) ks → IsSettled r.jobs → Fine n ks t → Comes ks r → (u : Tree × ℕ) → insert room t n r ≡ Some u → Sown n ks r t u
       sown room (Body q) n r ks low s f w u e = absurd cc
-      sown room (Case p bs (ATree t)) n r ks low s f w u e = sown_default n ks p bs t (insert (pred room) t n r) u f e (λ v i. sown (pred room) t n r ks low s f.4 w v i)
+      sown room (Case p bs (ATree t)) n r ks low s f w u e = sown_default n ks p bs t r (insert (pred room) t n r) u f e (λ v i. sown (pred room) t n r ks low s f.4 w v i)
       sown room (Case p bs NoDefault) n r ks low s f w u e =
           sown_case n ks p bs r (pred room) (at_test (λ pat. at_pat (λ h. at_head (insert_branch pat h bs n r) (fits h bs)) (head_of pat)) (test_at p r.jobs)) u f low s w e
-          (λ v i. by_test ((h : Head) × AllKind h bs × SownIn n ks h bs v) p bs n r v (λ pat h test head fit g. (h, all_fit h bs f.2 fit, sown_in pat h bs n r p ks low test head f.3 w v g)) (test_at p r.jobs) refl i)
+          (λ v i. by_test ((h : Head) × AllKind h bs × SownIn n ks r h bs v) p bs n r v (λ pat h test head fit g. (h, all_fit h bs f.2 fit, sown_in pat h bs n r p ks low test head f.3 w v g)) (test_at p r.jobs) refl i)
 
-      sown_in : (pat : Pat) (h : Head) (bs : Branches) (n : ℕ) (r : Row) (p : ℕ) (ks : List ℕ) → AllOf (λ q. q < n) ks → test_at p r.jobs ≡ Some pat → head_of pat ≡ Some h → FineBranches n ks bs → Comes ks r → (v : Branches × ℕ) → insert_branch pat h bs n r ≡ Some v → SownIn n ks h bs v
+      sown_in : (pat : Pat) (h : Head) (bs : Branches) (n : ℕ) (r : Row) (p : ℕ) (ks : List ℕ) → AllOf (λ q. q < n) ks → test_at p r.jobs ≡ Some pat → head_of pat ≡ Some h → FineBranches n ks bs → Comes ks r → (v : Branches × ℕ) → insert_branch pat h bs n r ≡ Some v → SownIn n ks r h bs v
       sown_in pat h NoBranch n r p ks low test head f w v e =
           let ps : List ℕ = places_from n (fields_of pat) in
           let o = opens n ks p r pat h low test head w in
           let next : Row = opened r pat ps in
           let a = alone_sown (n + count (fields_of pat)) (ps ++ ks) next o.under (settled_is r.body r.bound (jobs_at ps (fields_of pat) ++ later r.jobs)) o.comes in
-          subst (SownIn n ks h NoBranch) (some_is (new_branch h ps (alone_from (n + count (fields_of pat)) next)) v e) (sown_first n ks p r pat h (alone_from (n + count (fields_of pat)) next) o a)
+          subst (SownIn n ks r h NoBranch) (some_is (new_branch h ps (alone_from (n + count (fields_of pat)) next)) v e) (sown_first n ks p r pat h (alone_from (n + count (fields_of pat)) next) o a)
       sown_in pat h (AndBranch g ps t bs) n r p ks low test head f w v e = elim (two_ways (same_head g h)) [
         | inl y ↦
             let len : length ps ≡ count (fields_of pat) = suits_same g h (length ps) (count (fields_of pat)) y f.0 (test_suits unbroken ks p r pat h test head w) in
-            sown_branch n ks g h ps t bs (insert most_chained t n (opened r pat ps)) v f
+            sown_branch n ks g h ps t bs r (opened r pat ps) (opened_leaf p r pat h ps test head len) (insert most_chained t n (opened r pat ps)) v f
             (ap (branch_by (in_branch g ps bs (insert most_chained t n (opened r pat ps))) (in_later g ps t (insert_branch pat h bs n r))) (sym y) ∙ e)
             (λ x i. sown most_chained t n (opened r pat ps) (ps ++ ks) (all_append (λ q. q < n) ps ks f.3 low) (settled_is r.body r.bound (jobs_at ps (fields_of pat) ++ later r.jobs)) f.4 (opened_comes ks p r pat h ps test head len f.1 f.2 w) x i)
         | inr m ↦
-            sown_later n ks g h ps t bs (insert_branch pat h bs n r) v m f
+            sown_later n ks g h ps t bs r (insert_branch pat h bs n r) v m f
             (ap (branch_by (in_branch g ps bs (insert most_chained t n (opened r pat ps))) (in_later g ps t (insert_branch pat h bs n r))) (sym m) ∙ e)
             (λ x i. sown_in pat h bs n r p ks low test head f.5 w x i)
       ]
@@ -564,6 +634,15 @@ module _ (c : Source) where
           known = subst (AllOf (λ p. In p ps)) (sym (places_at ps e.pats len)) (all_in ps);
         })
 
+  -- one of these trees has the leaf
+  pub record HasLeaf (ds : List Decision) (l : Leaf) : Type 0 where
+    pub decision : Decision
+    pub is_in : In decision ds
+    pub leaf : In l (leaves decision.tree)
+
+  leaf_behind : (d : Decision) (ds : List Decision) (l : Leaf) → HasLeaf ds l → HasLeaf (d ∷ ds) l
+  leaf_behind d ds l h = record { decision = h.decision; is_in = there h.is_in; leaf = h.leaf }
+
   -- a tree with what holds of it
   pub record Stood (d : Decision) : Type 0 where
     pub first : Equation
@@ -583,16 +662,20 @@ module _ (c : Source) where
         let a = alone_sown unbroken n (numbers_from 0 n) (row_of e) (params_low n n (omega arith)) (settled_is e.body [] (jobs_at (places_from 0 e.pats) e.pats)) (row_comes unbroken e i) in
         record { first = e; is_in = i; name = refl; params = refl; low = a.more; fine = a.fine }
 
+    equation_sown : (d : Decision) (e : Equation) (t : Tree × ℕ) → Stood d → In e c.equations → count e.pats ≡ d.params → insert most_chained d.tree d.free (row_of e) ≡ Some t → Sown d.free (numbers_from 0 d.params) (row_of e) d.tree t
+    equation_sown d e t s i n q =
+        let w : Comes (numbers_from 0 d.params) (row_of e) = subst (λ n. Comes (numbers_from 0 n) (row_of e)) n (row_comes unbroken e i) in
+        sown unbroken most_chained d.tree d.free (row_of e) (numbers_from 0 d.params) (params_low d.params d.free s.low) (settled_is e.body [] (jobs_at (places_from 0 e.pats) e.pats)) s.fine w t q
+
     grown_stood : (d : Decision) (e : Equation) (t : Tree × ℕ) → Stood d → In e c.equations → count e.pats ≡ d.params → insert most_chained d.tree d.free (row_of e) ≡ Some t → Stood (grown d t)
     grown_stood d e t s i n q =
         let le : d.params ≤ d.free = s.low in
-        let w : Comes (numbers_from 0 d.params) (row_of e) = subst (λ n. Comes (numbers_from 0 n) (row_of e)) n (row_comes unbroken e i) in
-        let g = sown unbroken most_chained d.tree d.free (row_of e) (numbers_from 0 d.params) (params_low d.params d.free le) (settled_is e.body [] (jobs_at (places_from 0 e.pats) e.pats)) s.fine w t q in
+        let g = equation_sown d e t s i n q in
         let more : d.free ≤ t.1 = g.more in
         record { first = s.first; is_in = s.is_in; name = s.name; params = s.params; low = omega (arith, le, more); fine = g.fine }
 
     -- an equation of the text with so many patterns
-    abbrev Takes : ℕ → Equation → Type 0
+    abbrev pub Takes : ℕ → Equation → Type 0
     Takes n e = In e c.equations × (count e.pats ≡ n)
 
     decided_stood : (d : Decision) (k : ℕ) (es : List Equation) → Stood d → AllOf (Takes d.params) es → AllOf Stood (decided d k es)
@@ -602,18 +685,55 @@ module _ (c : Source) where
         (λ t i. decided_stood (grown d t) (suc k) es (grown_stood d e t s h.0.0 h.0.1 i) h.1)
         (s, decided_stood (begun k e) (suc k) es (begun_stood k e h.0.0) (all_are (Takes d.params) (Takes (count e.pats)) (λ f g. (g.0, g.1 ∙ sym h.0.1)) es h.1))
 
+    begun_leaf : (k : ℕ) (e : Equation) → In e c.equations → In (e.body, names_of e.pats) (leaves (begun k e).tree)
+    begun_leaf k e i =
+        let n : ℕ = count e.pats in
+        let a = alone_sown unbroken n (numbers_from 0 n) (row_of e) (params_low n n (omega arith)) (settled_is e.body [] (jobs_at (places_from 0 e.pats) e.pats)) (row_comes unbroken e i) in
+        subst (λ l. In l (leaves (begun k e).tree)) (row_leaf e) a.leaf
+
+    -- the leaves that there are stay, and each equation has one
+    decided_leaves : (d : Decision) (k : ℕ) (es : List Equation) → Stood d → AllOf (Takes d.params) es
+        → ((l : Leaf) → In l (leaves d.tree) → HasLeaf (decided d k es) l) × AllOf (λ e. HasLeaf (decided d k es) (e.body, names_of e.pats)) es
+    decided_leaves d k [] s h = ((λ l i. record { decision = d; is_in = here; leaf = i }), tt)
+    decided_leaves d k (e ∷ es) s h =
+        by_insert (λ ds. ((l : Leaf) → In l (leaves d.tree) → HasLeaf ds l) × AllOf (λ e. HasLeaf ds (e.body, names_of e.pats)) (e ∷ es)) d k e es (insert most_chained d.tree d.free (row_of e))
+        (λ t i.
+        let g = equation_sown d e t s h.0.0 h.0.1 i in
+        let r = decided_leaves (grown d t) (suc k) es (grown_stood d e t s h.0.0 h.0.1 i) h.1 in
+        ((λ l j. r.0 l (g.old l j)), (r.0 (e.body, names_of e.pats) (subst (λ l. In l (leaves t.0)) (row_leaf e) g.leaf), r.1)))
+        (let r = decided_leaves (begun k e) (suc k) es (begun_stood k e h.0.0) (all_are (Takes d.params) (Takes (count e.pats)) (λ f g. (g.0, g.1 ∙ sym h.0.1)) es h.1) in
+        let ds : List Decision = decided (begun k e) (suc k) es in (
+          (λ l i. record { decision = d; is_in = here; leaf = i }),
+          (
+            leaf_behind d ds (e.body, names_of e.pats) (r.0 (e.body, names_of e.pats) (begun_leaf k e h.0.0)),
+            all_are (λ (f : Equation). HasLeaf ds (f.body, names_of f.pats)) (λ (f : Equation). HasLeaf (d ∷ ds) (f.body, names_of f.pats)) (λ f x. leaf_behind d ds (f.body, names_of f.pats) x) es r.1,
+          ),
+        ))
+
+    -- equations of one name with the same number of patterns
+    pub takes_all : (e : Equation) (es : List Equation) → AllOf (λ e. In e c.equations) (e ∷ es) → OneName (e ∷ es) → AllOf (Takes (count e.pats)) (e ∷ es)
+    takes_all e es h o = ((h.0, refl), both_are es h.1 o)
+      where
+        both_are : (es : List Equation) → AllOf (λ e. In e c.equations) es → AllOf (λ (f : Equation). f.name ≡ e.name) es → AllOf (Takes (count e.pats)) es
+        both_are [] i q = tt
+        both_are (f ∷ es) i q = ((i.0, same_count c unbroken i.0 h.0 q.0), both_are es i.1 q.1)
+
+    -- each equation of a function that is tried has a leaf in one of its trees
+    pub rows_leaves : (k : ℕ) (es : List Equation) → AllOf (λ e. In e c.equations) es → OneName es → AllOf (λ e. HasLeaf (decisions_from k (rows es)) (e.body, names_of e.pats)) (rows es)
+    rows_leaves k [] h o = tt
+    rows_leaves k (e ∷ es) h o =
+        let takes = takes_all e es h o in
+        let r = decided_leaves (begun k e) (suc k) (if tests_of e.pats == 0 then [] else rows es) (begun_stood k e h.0) (rows_all (Takes (count e.pats)) (e ∷ es) takes).1 in
+        (r.0 (e.body, names_of e.pats) (begun_leaf k e h.0), r.1)
+
     all_stood : (k : ℕ) (fs : List (List Equation)) → AllOf (AllOf (λ e. In e c.equations)) fs → AllOf OneName fs → AllOf (AllOf Stood) (all_decisions k fs)
     all_stood k [] h o = tt
     all_stood k ([] ∷ fs) h o = (tt, all_stood (k + 0) fs h.1 o.1)
     all_stood k ((e ∷ es) ∷ fs) h o =
-        let takes : AllOf (Takes (count e.pats)) (e ∷ es) = ((h.0.0, refl), both_are es h.0.1 o.0) in (
+        let takes : AllOf (Takes (count e.pats)) (e ∷ es) = takes_all e es h.0 o.0 in (
           decided_stood (begun k e) (suc k) (if tests_of e.pats == 0 then [] else rows es) (begun_stood k e h.0.0) (rows_all (Takes (count e.pats)) (e ∷ es) takes).1,
           all_stood (k + length (e ∷ es)) fs h.1 o.1,
         )
-      where
-        both_are : (es : List Equation) → AllOf (λ e. In e c.equations) es → AllOf (λ (f : Equation). f.name ≡ e.name) es → AllOf (Takes (count e.pats)) es
-        both_are [] i q = tt
-        both_are (f ∷ es) i q = ((i.0, same_count c unbroken i.0 h.0.0 q.0), both_are es i.1 q.1)
 
     pub decisions_stood : AllOf (AllOf Stood) (decisions c)
     decisions_stood = all_stood 0 (functions c.equations) (functions_all (λ e. In e c.equations) c.equations (all_in c.equations)) (functions_one c.equations)

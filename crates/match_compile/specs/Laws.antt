@@ -1,19 +1,23 @@
 -- What the definitions of equations, their rules and their trees say by themselves.
 use Rattle.std.specs.Prelude.{◌≡◌, ℕ, ◌+◌, ◌*◌, ◌≤◌, true, ◌||◌, List, [], ◌∷◌, ◌++◌, map, length, Some}
-use Rattle.seq.specs.Lists.{sum_of}
+use Rattle.seq.specs.Lists.{In, sum_of}
 use Rattle.core_reader.specs.declared.syntax.Binder.{Binder}
 use Rattle.core_reader.specs.Tree.{Expr}
 use Rattle.core_reader.specs.Size.{program_size}
+use Rattle.core_reader.specs.Readable as program-text
 use Rattle.arity_check.specs.Broken as program
 use Rattle.arity_check.specs.Program as normal
+use Rattle.arity_check.specs.Accepted as check
+use Rattle.arity_check.specs.Normal.{IsNormalForm}
 use Rattle.core_meaning.specs.Told.{of_core}
 use Rattle.match_compile.specs.Source.{Equation, Source}
-use Rattle.match_compile.specs.Grammar.{IsText}
+use Rattle.match_compile.specs.Grammar.{IsText, IsRead}
 use Rattle.match_compile.specs.Rules.{IsUnbroken, IsFirstBroken}
+use Rattle.match_compile.specs.Readable.{IsReadable}
 use Rattle.match_compile.specs.Sound.{IsSound}
-use Rattle.match_compile.specs.Sizes.{source_size, tests, functions, is_simple, is_plain}
+use Rattle.match_compile.specs.Sizes.{source_size, tests, most_equations, functions, is_simple, is_plain}
 use Rattle.match_compile.specs.Translated.{translated}
-use Rattle.match_compile.specs.Form.{Equations}
+use Rattle.match_compile.specs.Form.{Equations, IsFormOf}
 use Rattle.match_compile.specs.ByEquations.{of_equations}
 use Rattle.match_compile.specs.Within.{Within, InStep}
 use Rattle.match_compile.specs.Decides.{AreServed}
@@ -30,6 +34,10 @@ abbrev pub OneFirst : Type 0
 OneFirst =
     (text : List ℕ) (k at k' at' : ℕ) → IsFirstBroken text k at → IsFirstBroken text k' at'
     → (k ≡ k') × (at ≡ at')
+
+-- The equations of a text that breaks none of the rules 1 to 5 are readable.
+abbrev pub ReadIsReadable : Type 0
+ReadIsReadable = (text : List ℕ) (c : Source) → IsRead text → IsText text c → IsReadable c
 
 -- A row that goes into a tree for others makes it a tree for all of them, in their order.
 abbrev pub RowsGoIn : Type 0
@@ -78,3 +86,15 @@ ServedWithin =
 abbrev pub ServedInStep : Type 0
 ServedInStep =
     (q : Equations) (p : normal.Program) → AreServed q 1 p → InStep (of_equations q) (of_core p)
+
+-- Where equations that break no rule become a program that breaks none, they have a normal form, and
+-- the program puts out what they do: it needs no more units for one of theirs than the largest
+-- function has equations, and the same where each function is simple, or one equation of names alone.
+abbrev pub MeansItsEquations : Type 0
+MeansItsEquations =
+    (text : List ℕ) (c : Source) (p : normal.Program) → IsText text c → IsUnbroken text
+    → program-text.IsReadable (translated c) → check.IsUnbroken (translated c)
+    → IsNormalForm (translated c) p
+    → (q : Equations) × IsFormOf c q × Within (most_equations c) (of_equations q) (of_core p)
+    × (((es : List Equation) → In es (functions c.equations) → (is_simple es || is_plain es) ≡ true)
+    → InStep (of_equations q) (of_core p))

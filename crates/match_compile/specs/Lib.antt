@@ -20,12 +20,22 @@ pub mod Decisions
 pub mod Renamed
 pub mod Translated
 pub mod OneFunction
+pub mod Translates
+-- what holds of all equations that were read
+pub mod Readable
 -- examples
 pub mod Examples
 -- laws
 pub mod Laws
 -- what the code keeps, and devices of the proofs
 pub mod SourceOf
+pub mod RowOf
+pub mod TreeOf
+pub mod DecisionOf
+pub mod WordsOf
+pub mod ApartOf
+pub mod NamesOf
+pub mod EmissionOf
 pub mod Reading
 pub mod Refusal
 pub mod Faults

@@ -114,9 +114,23 @@ names c =
     ++ (texts (most_params c.equations) param_name
     ++ texts (most_fields_of (decisions c)) field_name))
 
+-- what new names go by: the names of the text, the number of its equations, and the largest number
+-- of their patterns
+pub record Words : Type 0 where
+  pub names : List (List ℕ)
+  pub equations : ℕ
+  pub columns : ℕ
+
+abbrev pub words_of : Source → Words
+words_of c = record {
+  names = c.names;
+  equations = length c.equations;
+  columns = most_params c.equations;
+}
+
 -- ---- trees as expressions
 
-module _ (c : Source) where
+module _ (c : Words) where
   abbrev pub nameless : ℕ
   nameless = position_or_len is_nameless c.names
 
@@ -129,8 +143,8 @@ module _ (c : Source) where
   -- the new name of a place, the parameters being so many
   abbrev pub place_name : (params p : ℕ) → ℕ
   place_name params p =
-      length (with_nameless c.names) + length c.equations
-      + (if nat_lt p params then p else most_params c.equations + (p - params))
+      length (with_nameless c.names) + c.equations
+      + (if nat_lt p params then p else c.columns + (p - params))
 
   -- what the names in the patterns of a row have become, where the places have these names
   abbrev pub taken : Scope → List (Binder × ℕ) → Scope
@@ -250,5 +264,5 @@ abbrev pub translated : Source → Program
 translated c = record {
   names = names c;
   constructors = c.constructors;
-  functions = firsts c (decisions c) ++ others c (decisions c);
+  functions = firsts (words_of c) (decisions c) ++ others (words_of c) (decisions c);
 }

@@ -1,6 +1,6 @@
 //! What the definitions of equations, their rules and their trees say by themselves.
 
-ghost use Rattle.match_compile.specs.Laws.{OneSource, OneFirst, RowsGoIn, OneRow, TreesStand, IsSmall, BreaksOnlySize, SimpleStaysOne, ServedWithin, ServedInStep};
+ghost use Rattle.match_compile.specs.Laws.{OneSource, OneFirst, ReadIsReadable, RowsGoIn, OneRow, TreesStand, IsSmall, BreaksOnlySize, SimpleStaysOne, ServedWithin, ServedInStep, MeansItsEquations};
 ghost use Rattle.match_compile.specs.Stays.{KnownStays};
 ghost use Rattle.match_compile.specs.Jobs.{Specialises};
 ghost use Rattle.match_compile.specs.Examples.{Examples};
@@ -13,6 +13,11 @@ pub fn one_source()
 /// At most one rule is the first that a text breaks, at one place.
 pub fn one_first()
     ensures { OneFirst }
+{}
+
+/// The equations of a text that breaks none of the rules 1 to 5 are readable.
+pub fn read_is_readable()
+    ensures { ReadIsReadable }
 {}
 
 /// A row that goes into a tree for others makes it a tree for all of them, in their order.
@@ -65,6 +70,12 @@ pub fn served_within()
 /// Where each function is served by one, they put out the same within the same units.
 pub fn served_in_step()
     ensures { ServedInStep }
+{}
+
+/// Where equations that have a meaning become a program that breaks no rule, they have a normal form,
+/// and the program puts out what they do.
+pub fn means_its_equations()
+    ensures { MeansItsEquations }
 {}
 
 /// What small texts of equations become and put out, computed from the definitions.

@@ -1,5 +1,7 @@
-//! Rows that `read_equations` is tried on.
+//! Rows that `read_equations` and `compile_matches` are tried on.
 #![tactic(auto)]
 
+#[cfg(test)]
+mod programs;
 #[cfg(test)]
 mod tests;

@@ -2,3 +2,4 @@ pub mod Tests
 pub mod Bound
 pub mod Mentions
 pub mod Vectors
+pub mod Walked

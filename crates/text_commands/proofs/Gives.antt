@@ -11,6 +11,8 @@ use Rattle.arity_check.specs.Program.{Program}
 use Rattle.arity_check.specs.Broken.{Broken}
 use Rattle.core_link.specs.Rules as linking
 use Rattle.lambda_lift.specs.Rules as lifting
+use Rattle.match_compile.specs.Rules as matching
+use Rattle.core_types.specs.Refused as typing
 use Rattle.grin_io.specs.Changes.{SinkChange}
 use Rattle.grin_io.specs.Causes.{Rose}
 use Rattle.text_commands.specs.declared.status.Status.{Status}
@@ -20,6 +22,10 @@ use Rattle.text_commands.specs.Checking.{Checks}
 use Rattle.text_commands.specs.Printing.{IsCanonicalText, Prints}
 use Rattle.text_commands.specs.Linking.{IsLinkedText, IsNotLinked, Links}
 use Rattle.text_commands.specs.Lifting.{IsLiftedText, Lifts}
+use Rattle.text_commands.specs.Matching.{IsMatchedText, IsNotMatched, Matches}
+use Rattle.text_commands.specs.Typing.{IsTypedText, Types}
+use Rattle.text_commands.proofs.Matched.{unmatched_broken}
+use Rattle.text_commands.proofs.TypesFit.{untyped_broken}
 use Rattle.text_commands.proofs.Written.{writes_gives}
 
 -- ---- accepted texts are not refused
@@ -61,3 +67,11 @@ unlifted_broken text k at u (lifting.Unlifted read broken first) = u.lifted k at
 pub lift_gives : {K : Type 0} (o : SinkChange K) → (Rose (o.faults o.old) (o.faults o.new) → ⊥) → (text : List ℕ) (status : Status) → Lifts o text status
     → (status ≡ OutOfMemory) ⊎ (lifting.IsUnbroken text → status ≡ Done)
 lift_gives o well text status h = writes_gives IsLiftedText lifting.IsFirstBroken o well text (λ k at u b. unlifted_broken text k at u b) status h
+
+pub match_gives : {K : Type 0} (o : SinkChange K) → (Rose (o.faults o.old) (o.faults o.new) → ⊥) → (text : List ℕ) (status : Status) → Matches o text status
+    → (status ≡ OutOfMemory) ⊎ (matching.IsUnbroken text → status ≡ Done)
+match_gives o well text status h = writes_gives IsMatchedText IsNotMatched o well text (λ k at u b. unmatched_broken text k at u b) status h
+
+pub types_gives : {K : Type 0} (o : SinkChange K) → (Rose (o.faults o.old) (o.faults o.new) → ⊥) → (text : List ℕ) (status : Status) → Types o text status
+    → (status ≡ OutOfMemory) ⊎ (typing.IsUnbrokenText text → status ≡ Done)
+types_gives o well text status h = writes_gives IsTypedText typing.IsFirstBrokenText o well text (λ k at u b. untyped_broken text k at u b) status h

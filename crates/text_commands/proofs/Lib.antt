@@ -7,4 +7,6 @@ pub mod Printed
 pub mod Putting
 pub mod Linked
 pub mod Lifted
+pub mod Matched
+pub mod TypesFit
 pub mod Gives

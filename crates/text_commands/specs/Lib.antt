@@ -13,3 +13,5 @@ pub mod Checking
 pub mod Printing
 pub mod Linking
 pub mod Lifting
+pub mod Matching
+pub mod Typing

@@ -9,7 +9,8 @@ use Rattle.arity_check.specs.Program as normal
 use Rattle.arity_check.specs.Normal.{Pairwise, IsConstructor}
 use Rattle.core_types.specs.Source.{Written, Writtens, NoTypes, AndType, Constructor, TypeDecl, Source, data_of, erased}
 use Rattle.core_types.specs.Source as written
-use Rattle.core_types.specs.Rules.{IsUnbroken, UnknownVariable, Has, HasIn, IsBound, is_named}
+use Rattle.core_types.specs.Rules.{IsUnbroken, UnknownVariable, Has, HasIn, IsBound}
+use Rattle.core_types.specs.Lists.{is_named}
 use Rattle.core_types.specs.Typing.{Typed, Int, Named, Arrow, AndTyped, read, read_all, read_list, applied, all_of, declared_by}
 use Rattle.type_meaning.specs.Judgement.{Instance, instance, IsNamed}
 use Rattle.type_meaning.specs.SourceTypes.{ConHas}

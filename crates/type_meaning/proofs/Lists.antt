@@ -15,7 +15,9 @@ use Rattle.arity_check.specs.Normal.{Pairwise, IsConstructor}
 use Rattle.arity_check.proofs.Names.{same_bytes}
 use Rattle.core_types.specs.Source.{Written, Writtens, NoTypes, AndType, Constructor, TypeDecl, Source, data_of, erased}
 use Rattle.core_types.specs.Source as written
-use Rattle.core_types.specs.Rules.{IsUnbroken, ListType, ReservedType, is_list, is_list_of, is_named, is_var, is_empty, is_one_var, is_applied, is_tail, is_item_and_tail, are_list_constructors, has_list_constructors}
+use Rattle.core_types.specs.Rules.{IsUnbroken, ListType, ReservedType}
+use Rattle.core_types.proofs.Finding.{find_none, find_some}
+use Rattle.core_types.specs.Lists.{is_list, is_list_of, is_named, is_var, is_empty, is_one_var, is_applied, is_tail, is_item_and_tail, are_list_constructors, has_list_constructors}
 use Rattle.core_types.specs.Typing.{Typed, Types, Int, Named, NoTypeds, AndTyped, declared_by, integers, applied, read_list}
 use Rattle.core_types.specs.Typing as types
 use Rattle.core_meaning.specs.Evaluation.{nil, cons, con_named}
@@ -32,23 +34,6 @@ both false b e = absurd cc
 one_of : (a b : Bool) → (a || b) ≡ true → (a ≡ true) ⊎ (b ≡ true)
 one_of true b e = inl refl
 one_of false b e = inr e
-
-find_none : {X : Type 0} (test : X → Bool) (xs : List X) (i : ℕ) (x : X) → find test xs ≡ None → slice_get xs i ≡ Some x → test x ≡ false
-find_none test [] i x e h = none_is_some h
-find_none test (y ∷ ys) i x e h = by_test (test y) refl e i h (λ e i h. find_none test ys i x e h)
-  where
-    by_test : (b : Bool) → test y ≡ b → cond b (Some y) (find test ys) ≡ None → (i : ℕ) → slice_get (y ∷ ys) i ≡ Some x → (find test ys ≡ None → (i : ℕ) → slice_get ys i ≡ Some x → test x ≡ false) → test x ≡ false
-    by_test true q e i h k = none_is_some (sym e)
-    by_test false q e zero h k = ap test (sym (some_is h)) ∙ q
-    by_test false q e (suc i) h k = k e i h
-
-find_some : {X : Type 0} (test : X → Bool) (xs : List X) (x : X) → find test xs ≡ Some x → (i : ℕ) × (slice_get xs i ≡ Some x) × (test x ≡ true)
-find_some test [] x e = none_is_some e
-find_some test (y ∷ ys) x e = by_test (test y) refl e (find_some test ys x)
-  where
-    by_test : (b : Bool) → test y ≡ b → cond b (Some y) (find test ys) ≡ Some x → (find test ys ≡ Some x → (i : ℕ) × (slice_get ys i ≡ Some x) × (test x ≡ true)) → (i : ℕ) × (slice_get (y ∷ ys) i ≡ Some x) × (test x ≡ true)
-    by_test true q e k = (0, e, ap test (sym (some_is e)) ∙ q)
-    by_test false q e k = let r = k e in (suc r.0, r.1, r.2)
 
 place_below : {X : Type 0} (test : X → Bool) (xs : List X) (i : ℕ) (x : X) → slice_get xs i ≡ Some x → test x ≡ true → position_or_len test xs < length xs
 place_below test [] i x e h = none_is_some e

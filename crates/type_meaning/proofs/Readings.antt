@@ -5,7 +5,7 @@ use Rattle.core_reader.specs.declared.syntax.Binder.{Binder}
 use Rattle.core_reader.specs.Tree as tree
 use Rattle.core_types.specs.Source.{Written, Writtens, NoTypes, AndType, TypeDecl, Signature, Source}
 use Rattle.core_types.specs.Source as written
-use Rattle.core_types.specs.Rules.{is_named}
+use Rattle.core_types.specs.Lists.{is_named}
 use Rattle.core_types.specs.Typing.{Typed, Types, Int, Rigid, Named, Arrow, NoTypeds, AndTyped, arrows, read, read_all, read_list, signed, all_of, applied, used_at, function_type, own_type, signature_of, Substitution, under, under_all}
 use Rattle.type_meaning.specs.Judgement.{Instance, instance, instances}
 

@@ -19,7 +19,8 @@ use Rattle.arity_check.specs.Scope as scope
 use Rattle.arity_check.specs.Scope.{Scope}
 use Rattle.arity_check.specs.Normal.{IsFunction, IsNormalForm}
 use Rattle.core_types.specs.Source.{TypeDecl, Source, erased}
-use Rattle.core_types.specs.Rules.{IsUnbroken, InCore, NotExhaustive, HasCase, HasCaseIn, is_list}
+use Rattle.core_types.specs.Rules.{IsUnbroken, InCore, NotExhaustive, HasCase, HasCaseIn}
+use Rattle.core_types.specs.Lists.{is_list}
 use Rattle.core_types.specs.Typing.{Typed, Int, Rigid, Locals, binds, binds_all, of_expr, of_function, of_signature, constraints, constraint, Constraint, signature_of, signed, own_type, param_type, result_type, integers, is_main, Substitution, under, Solves}
 use Rattle.core_types.specs.Typing as types
 use Rattle.core_meaning.specs.WellFormed.{WellFormed, FormOk, TermOk, BranchesOk, FunOk}

@@ -1,7 +1,6 @@
 //! Each rule on types once with its place, and which of two is named.
 
-use core_reader::ReadRefusal;
-use core_types::{TypeFault, check_source};
+use core_types::{TypeFault, typed_or_place};
 use std::alloc::{AllocError, Global};
 use std::process::Abort;
 use std::test::Fail;
@@ -9,42 +8,17 @@ use std::test::Fail;
 /// The type of lists, 37 bytes.
 const LIST: &str = "type List a = Nil | Cons a (List a); ";
 
-/// The rule that the reading of a text breaks first, with its place.
-fn unread(refusal: &ReadRefusal) -> Result<(u8, u64), AllocError> {
-    match refusal {
-        ReadRefusal::BadByte(at) => Ok((1, *at as u64)),
-        ReadRefusal::Syntax(at) => Ok((2, *at as u64)),
-        ReadRefusal::NumberRange(at) => Ok((3, *at as u64)),
-        ReadRefusal::TooDeep(at) => Ok((4, *at as u64)),
-        ReadRefusal::TextTooLong => Ok((5, 1048576)),
-        ReadRefusal::Memory(_) => Err(AllocError),
-    }
-}
-
-/// The rule that a refusal names, with its place. Want of memory is no rule.
-fn named(fault: &TypeFault) -> Result<(u8, u64), AllocError> {
-    match fault {
-        TypeFault::Unread(refusal) => unread(refusal),
-        TypeFault::Unchecked(refusal) => Ok((refusal.rule(), refusal.number())),
-        TypeFault::DuplicateType(at) => Ok((81, *at as u64)),
-        TypeFault::UnknownType(at) => Ok((82, *at as u64)),
-        TypeFault::BadSignature(at) => Ok((85, *at as u64)),
-        TypeFault::ListType => Ok((86, 0)),
-        TypeFault::NotExhaustive(at) => Ok((84, *at as u64)),
-        TypeFault::Memory(_) => Err(AllocError),
-    }
-}
-
-/// The rule that a text breaks first, with its place, or none.
+/// The rule that a text breaks first, with its place, or none. Want of memory is no rule.
 fn broken(alloc: Global, text: &str) -> Result<Option<(u8, u64)>, AllocError> {
-    match check_source(alloc, text.as_bytes()) {
+    match typed_or_place(alloc, text.as_bytes()) {
         Ok(_) => Ok(None),
-        Err(fault) => Ok(Some(named(&fault)?)),
+        Err(TypeFault::Memory(error)) => Err(error),
+        Err(fault) => Ok(Some((fault.rule(), fault.number()))),
     }
 }
 
 /// Texts behind the type of lists, with the rule that each breaks first, and its place.
-const BROKEN: [(&str, u8, u64); 25] = [
+const BROKEN: [(&str, u8, u64); 34] = [
     ("data T 0; main = Nil;", 2, 37),
     ("type T = C Int -> Int; main = Nil;", 2, 52),
     ("type T = C (List Int -> Int); main = Nil;", 2, 58),
@@ -67,7 +41,20 @@ const BROKEN: [(&str, u8, u64); 25] = [
     ("main = case Nil of { Nil -> Nil };", 84, 58),
     ("hd xs = case xs of { Cons h t -> h }; main = Nil;", 84, 58),
     ("f x = case x of { 1 -> 2 }; main = Nil;", 84, 55),
+    ("id x = x; main = Cons (id 65) (id Nil);", 83, 68),
+    ("f x = x x; main = Nil;", 83, 43),
+    ("sig f : a -> b; f x = x; main = Nil;", 83, 59),
+    ("main = Cons (Cons 1 Nil) Nil;", 83, 50),
+    ("sig main : a; main = Nil;", 83, 51),
+    ("main = Cons ((Nil)) Nil;", 83, 44),
     // Two at once.
+    ("f x = x x; sig g : Bar; g = 1; main = Nil;", 82, 56),
+    (
+        "f x = case x of { Nil -> Nil }; g x = x x; main = Nil;",
+        83,
+        75,
+    ),
+    ("f x = x x; g x = x x; main = Nil;", 83, 43),
     ("sig foo : Bar; main = Nil;", 85, 41),
     ("type T = A Bar; type T = B; main = Nil;", 82, 48),
     ("type T a a = T a; main = foo;", 14, 62),
@@ -102,7 +89,7 @@ fn each_rule_has_its_place(rt: HostRuntime) -> Result<(), Fail> {
 }
 
 /// Whole texts that have other lists or none.
-const NO_LISTS: [(&str, u8, u64); 4] = [
+const NO_LISTS: [(&str, u8, u64); 5] = [
     (
         "type List a = Nil | Cons a (List a) | Foo; main = Nil;",
         86,
@@ -113,6 +100,7 @@ const NO_LISTS: [(&str, u8, u64); 4] = [
         86,
         0,
     ),
+    ("type L a = Nil | Cons a a; f x = x x; main = Nil;", 86, 0),
     ("main = 1;", 21, 0),
     ("type L a = Nil | Cons a a; type L = A; main = Nil;", 81, 32),
 ];

@@ -18,9 +18,10 @@ const MOST_TAGS: usize = 8;
 
 /// The tags that a variable may stand for, by a solution of the program's flow system.
 #[derive(Drop)]
-pub(crate) struct Tags<'a> {
+pub struct Tags<'a> {
     /// How many tags the program has.
     pub count: usize,
+    /// The solution.
     pub flow: &'a Flow,
 }
 
@@ -107,8 +108,8 @@ impl Tags<'_> {
         }
     }
 
-    // The tags that a variable may stand for, ascending.
-    fn tags_of(&self, alloc: Global, var: VarId) -> Result<Seq<TagId>, AllocError>
+    /// The tags that a variable may stand for, ascending.
+    pub fn tags_of(&self, alloc: Global, var: VarId) -> Result<Seq<TagId>, AllocError>
         ensures { IfOk result (λ ts. map (λ t. t.0) ts ≡ tags_by self.now var.0) }
     {
         let mut made = Seq::new(alloc);
@@ -175,8 +176,8 @@ fn with_tag(alloc: Global, value: &Val, tag: TagId) -> Result<Val, AllocError>
     }
 }
 
-// The variable that stands for the tag of a value.
-fn tag_variable(value: &Val) -> Option<VarId>
+/// The variable that stands for the tag of a value.
+pub fn tag_variable(value: &Val) -> Option<VarId>
     ensures { result ≡ tag_variable value.now }
 {
     match value {

@@ -5,4 +5,5 @@
 mod blocks;
 mod pass;
 
+pub use blocks::{Tags, tag_variable};
 pub use pass::{Updates, with_literal_tags};

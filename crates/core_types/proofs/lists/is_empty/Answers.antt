@@ -1,7 +1,7 @@
 use Rattle.std.proofs.Common.{◌≡◌, ◌≤◌, false, List, [], ◌∷◌, length, refl, arith}
 use Rattle.core_types.specs.declared.source.Written as code-written
 use Rattle.core_types.specs.SourceOf.{types_in}
-use Rattle.core_types.specs.Rules.{is_empty}
+use Rattle.core_types.specs.Lists.{is_empty}
 use Rattle.core_types.proofs.lists.is_empty.Goals as goal
 
 some_types : (ts : List code-written.Written) → 1 ≤ length ts → false ≡ is_empty (types_in ts)

@@ -2,7 +2,7 @@ use Rattle.std.proofs.Common.{◌≡◌, ℕ, ◌≤◌, ◌<◌, Bool, true, fa
 use Rattle.std.specs.Prelude.{◌&&◌}
 use Rattle.core_types.specs.declared.source.Written as code-written
 use Rattle.core_types.specs.SourceOf.{written, types_in}
-use Rattle.core_types.specs.Rules.{is_var, is_applied, is_item_and_tail}
+use Rattle.core_types.specs.Lists.{is_var, is_applied, is_item_and_tail}
 use Rattle.core_types.proofs.lists.is_item_and_tail.Goals as goal
 
 and_false : (b : Bool) → false ≡ (b && false)

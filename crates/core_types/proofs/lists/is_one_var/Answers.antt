@@ -2,7 +2,7 @@ use Rattle.std.proofs.Common.{◌≡◌, ℕ, ◌≤◌, Bool, true, false, List
 use Rattle.std.specs.Prelude.{◌&&◌}
 use Rattle.core_types.specs.declared.source.Written as code-written
 use Rattle.core_types.specs.SourceOf.{written, types_in}
-use Rattle.core_types.specs.Rules.{is_var, is_one_var}
+use Rattle.core_types.specs.Lists.{is_var, is_one_var}
 use Rattle.core_types.proofs.lists.is_one_var.Goals as goal
 
 and_false : (b : Bool) → false ≡ (b && false)

@@ -1,7 +1,7 @@
 use Rattle.std.proofs.Common.{rules, ◌≤◌, length, take, subst}
 use Rattle.dead_store.specs.Holding.{holds}
 use Rattle.dead_store.proofs.Collected.{left, store_done}
-use Rattle.dead_store.proofs.Walked.{StmtsSoFar, stmts_next, bind_done, block_done, arms_next, arms_done}
+use Rattle.pass_ground.proofs.Walked.{StmtsSoFar, stmts_next, bind_done, block_done, arms_next, arms_done}
 use Rattle.dead_store.proofs.left.+left.Goals as goal
 
 pub alts_left-loop-alt-preserved : goal.alts_left-loop-alt-preserved

@@ -1,7 +1,7 @@
 use Rattle.std.proofs.Common.{take}
 use Rattle.dead_store.specs.Holding.{holds}
 use Rattle.dead_store.proofs.Collected.{left}
-use Rattle.dead_store.proofs.Walked.{StmtsSoFar, ArmsSoFar}
+use Rattle.pass_ground.proofs.Walked.{StmtsSoFar, ArmsSoFar}
 use Rattle.dead_store.proofs.left.+left.Given as goal
 
 abbrev pub invariant-alts_left-loop-alt : goal.invariant-alts_left-loop-alt

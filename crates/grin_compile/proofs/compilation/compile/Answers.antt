@@ -1,12 +1,12 @@
 use Rattle.std.proofs.lemmas.Result.{err_from_is_err_and}
-use Rattle.std.proofs.Common.{◌*◌, ap, ◌∙◌, subst}
+use Rattle.std.proofs.Common.{◌*◌, ap, ◌∙◌, subst, arith}
 use Rattle.arity_check.specs.Program.{program}
 use Rattle.elf32.specs.File as elf
 use Rattle.elf32.specs.Rules.{Loads}
 use Rattle.low_code.specs.Tree as low
 use Rattle.grin_compile.specs.Limits.{whole_words}
 use Rattle.grin_compile.specs.Parts.{HasLayers}
-use Rattle.grin_compile.proofs.CompiledProgram.{compilation, made_by}
+use Rattle.grin_compile.proofs.CompiledProgram.{compilation, made_by, narrow_cells, small_heap}
 use Rattle.grin_compile.proofs.compilation.compile.Goals as goal
 
 pub returns-clause-parts : goal.returns-clause-parts
@@ -26,3 +26,14 @@ pub returns-in_err-image-clause-refused : goal.returns-in_err-image-clause-refus
 returns-in_err-image-clause-refused c =
     let q = err_from_is_err_and c.from_residual-in_err-image.result c.from_residual-in_err-image.ensures.1 in
     rw (q.1, q.2) tt
+
+pub returns-in_err-layers-clause-refused : goal.returns-in_err-layers-clause-refused
+returns-in_err-layers-clause-refused c =
+    let q = err_from_is_err_and c.from_residual-in_err-layers.result c.from_residual-in_err-layers.ensures.1 in
+    rw (q.1, q.2) tt
+
+pub overflow_mul-heap-2 : goal.overflow_mul-heap-2
+overflow_mul-heap-2 c =
+    let layers = subst (λ g. HasLayers g c.args.options.cells (whole_words c.args.options.stack) c.in_ok-layers.layers) c.lowered_stage.ensures c.in_ok-layers.ensures in
+    let narrow = narrow_cells (program c.args.p.now) c.in_ok-stages.stages c.in_ok-layers.layers c.args.options.cells (whole_words c.args.options.stack) c.in_ok-stages.ensures.stages layers in
+    omega (arith, small_heap c.in_ok-layers.layers.low.width c.args.options.cells narrow c.requires.range.few_cells)

@@ -1,0 +1,183 @@
+//! Types as terms in a vector.
+
+ghost use Rattle.std.specs.Prelude.{◌≡◌, ℕ, Bool, IfOk};
+ghost use Rattle.core_types.specs.Nodes.{key_of, number_of, is_use, IsInRange, entry_of, entered, found_of, IsSound, IsMade, AreBelow, Denotes, DenoteAll, Grows, Gives};
+ghost use Rattle.core_types.specs.Typing.{Typed, Types, Int, Open, Rigid, Named, Arrow};
+
+use seq::Seq;
+use std::alloc::{AllocError, Global};
+use std::collections::BTreeMap;
+use unification::{Symbol, Term};
+
+/// What a variable of types is named by, with its place.
+#[derive(Clone, Copy, Debug)]
+pub enum Key {
+    /// A binder.
+    Binder(u32),
+    /// The result of a function.
+    Result(u32),
+    /// A bracket with arguments.
+    Bracket(u32),
+    /// The first pattern of a case.
+    Scrutinee(u32),
+    /// A variable of what is used at a place.
+    Use(u32, u32),
+}
+
+/// The kinds of keys other than uses.
+const KINDS: u64 = 4;
+
+/// How many names there are at most.
+const NAMES: u64 = 4294967296;
+
+impl Key {
+    /// The number of a key among the uses, or among the others.
+    fn number(self) -> u64
+        ensures number { result ≡ number_of (key_of self) }
+        ensures range { IsInRange (key_of self) }
+    {
+        match self {
+            Key::Binder(at) => u64::from(at) * KINDS,
+            Key::Result(at) => u64::from(at) * KINDS + 1,
+            Key::Bracket(at) => u64::from(at) * KINDS + 2,
+            Key::Scrutinee(at) => u64::from(at) * KINDS + 3,
+            Key::Use(at, variable) => u64::from(at) * NAMES + u64::from(variable),
+        }
+    }
+
+    /// Whether a key is a use's.
+    fn is_use(self) -> bool
+        ensures { result ≡ is_use (key_of self) }
+    {
+        match self {
+            Key::Binder(_) | Key::Result(_) | Key::Bracket(_) | Key::Scrutinee(_) => false,
+            Key::Use(_, _) => true,
+        }
+    }
+}
+
+/// Types as terms. Each variable stands once.
+#[derive(Drop)]
+pub struct Nodes {
+    /// The terms, each behind its arguments.
+    pub terms: Vec<Term>,
+    /// What each variable among them is named by.
+    pub keys: Vec<Option<Key>>,
+    /// The places of the variables of uses by the numbers of their keys, and those of the others.
+    pub uses: BTreeMap<u64, usize>,
+    pub places: BTreeMap<u64, usize>,
+}
+
+impl Nodes {
+    /// No terms.
+    pub fn new(alloc: Global) -> Nodes
+        ensures { IsSound result }
+    {
+        Nodes {
+            terms: Vec::new(alloc),
+            keys: Vec::new(alloc),
+            uses: BTreeMap::new(alloc),
+            places: BTreeMap::new(alloc),
+        }
+    }
+
+    /// Adds a symbol with arguments.
+    fn made(&mut self, symbol: Symbol, arguments: Seq<usize>) -> Result<usize, AllocError>
+        ensures grows { IfOk result (λ x. IsSound self.old → AreBelow self.old arguments
+            → Grows self.old self.new) }
+        ensures made { IfOk result (λ x. IsSound self.old → IsMade self.new x symbol arguments) }
+    {
+        let at = self.terms.len();
+        self.terms.push(Term::Made(symbol, arguments))?;
+        self.keys.push(None)?;
+        Ok(at)
+    }
+
+    /// The integers.
+    pub fn integer(&mut self, alloc: Global) -> Result<usize, AllocError>
+        ensures { IfOk result (λ x. IsSound self.old → Gives self.old self.new Int x) }
+    {
+        let at = self.made(Symbol::Integer, Seq::new(alloc))?;
+        Ok(at)
+    }
+
+    /// A variable that nothing is put for, of a function.
+    pub fn rigid(
+        &mut self,
+        alloc: Global,
+        function: u32,
+        variable: u32,
+    ) -> Result<usize, AllocError>
+        ensures { IfOk result (λ x. IsSound self.old
+            → Gives self.old self.new (Rigid function variable) x) }
+    {
+        let at = self.made(Symbol::Rigid(function, variable), Seq::new(alloc))?;
+        Ok(at)
+    }
+
+    /// A type by its name.
+    pub fn named(&mut self, name: u32, arguments: Seq<usize>) -> Result<usize, AllocError>
+        ensures { IfOk result (λ x. (ts : Types) → IsSound self.old
+            → DenoteAll self.old ts arguments → Gives self.old self.new (Named name ts) x) }
+    {
+        let at = self.made(Symbol::Named(name), arguments)?;
+        Ok(at)
+    }
+
+    /// The functions from one type to another one.
+    pub fn arrow(&mut self, alloc: Global, from: usize, to: usize) -> Result<usize, AllocError>
+        ensures { IfOk result (λ x. (t u : Typed) → IsSound self.old → Denotes self.old t from
+            → Denotes self.old u to → Gives self.old self.new (Arrow t u) x) }
+    {
+        let mut arguments = Seq::new(alloc);
+        arguments.push(from)?;
+        arguments.push(to)?;
+        let at = self.made(Symbol::Arrow, arguments)?;
+        Ok(at)
+    }
+
+    /// The place of a key's variable.
+    fn find(&self, key: Key) -> Option<usize>
+        ensures found { result ≡ found_of self.now (key_of key) }
+        ensures range { IsInRange (key_of key) }
+    {
+        let number = key.number();
+        if key.is_use() {
+            return self.uses.get(&number).copied();
+        }
+        self.places.get(&number).copied()
+    }
+
+    /// A key is found at a place from here on.
+    fn enter(&mut self, key: Key, at: usize) -> Result<(), AllocError>
+        ensures terms { IfOk result (λ _. self.new.terms.items ≡ self.old.terms.items) }
+        ensures keys { IfOk result (λ _. self.new.keys.items ≡ self.old.keys.items) }
+        ensures entered { IfOk result (λ _. (used : Bool) (number : ℕ)
+            → entry_of self.new used number ≡ entered self.old (key_of key) at used number) }
+        ensures range { IsInRange (key_of key) }
+    {
+        let number = key.number();
+        if key.is_use() {
+            self.uses.insert(number, at)?;
+        } else {
+            self.places.insert(number, at)?;
+        }
+        Ok(())
+    }
+
+    /// The variable of a key.
+    pub fn variable(&mut self, key: Key) -> Result<usize, AllocError>
+        ensures { IfOk result (λ x. IsSound self.old
+            → Gives self.old self.new (Open (key_of key)) x) }
+    {
+        let found = self.find(key);
+        if let Some(at) = found {
+            return Ok(at);
+        }
+        let at = self.terms.len();
+        self.enter(key, at)?;
+        self.terms.push(Term::Variable)?;
+        self.keys.push(Some(key))?;
+        Ok(at)
+    }
+}

@@ -1,0 +1,3 @@
+pub mod Flat
+pub mod Flattened
+pub mod Rest

@@ -1,0 +1,28 @@
+-- What several passes keep, one after another.
+use Rattle.std.proofs.Common.{arith}
+use Rattle.grin_syntax.specs.Tree.{Program}
+use Rattle.pass_ground.proofs.Vectors.{stays_again}
+use Rattle.case_simplify.specs.Simplified.{Simplified}
+use Rattle.copy_prop.specs.Copied.{Copied}
+use Rattle.flat_blocks.specs.Flattened.{Flattened}
+use Rattle.known_words.specs.KnownWords.{KnownWords}
+use Rattle.own_cells.specs.Unknown.{FetchesAnew}
+use Rattle.grin_opt.specs.Several.{Then, MadeBy, Tidied, OfKnownWords, OfOwnCells}
+
+one_then : (S T : Program → Program → Type 0) (g k h : Program) → MadeBy S g k → MadeBy T k h → MadeBy (Then S T) g h
+one_then S T g k h s t = record {
+  stays = stays_again g k h s.stays t.stays;
+  no_more_open = omega (arith, s.no_more_open, t.no_more_open);
+  by = record { between = k; first = s.by; second = t.by };
+}
+
+pub of_simple : (g k m h : Program) → MadeBy Simplified g k → Flattened k m → MadeBy Copied m h → MadeBy Tidied g h
+of_simple g k m h simple shape lean =
+    let flat : MadeBy Flattened k m = record { stays = shape.stays; no_more_open = omega (arith, shape.same_open); by = shape } in
+    one_then Simplified (Then Flattened Copied) g k h simple (one_then Flattened Copied k m h flat lean)
+
+pub of_known_words : (g k h : Program) → KnownWords g k → MadeBy Tidied k h → OfKnownWords g h
+of_known_words g k h shape tidy = one_then KnownWords Tidied g k h (record { stays = shape.stays; no_more_open = shape.no_more_open; by = shape }) tidy
+
+pub of_own_cells : (g k h : Program) → FetchesAnew g k → MadeBy Tidied k h → OfOwnCells g h
+of_own_cells g k h shape tidy = one_then FetchesAnew Tidied g k h (record { stays = shape.stays; no_more_open = omega (arith, shape.same_open); by = shape }) tidy

@@ -1,0 +1,35 @@
+-- Stages that several passes make, one after another.
+use Rattle.std.specs.Prelude.{◌≤◌}
+use Rattle.grin_syntax.specs.Tree.{Program}
+use Rattle.pass_ground.specs.Vectors.{StaysOfVectors}
+use Rattle.pass_ground.specs.OpenUpdates.{open_updates}
+use Rattle.case_simplify.specs.Simplified.{Simplified}
+use Rattle.copy_prop.specs.Copied.{Copied}
+use Rattle.flat_blocks.specs.Flattened.{Flattened}
+use Rattle.known_words.specs.KnownWords.{KnownWords}
+use Rattle.own_cells.specs.Unknown.{FetchesAnew}
+
+-- what two passes make, one after the other, by what each of them makes
+pub record Then (First Second : Program → Program → Type 0) (g h : Program) : Type 0 where
+  pub between : Program
+  pub first : First g between
+  pub second : Second between h
+
+-- h is what these passes make of g. So it is as good an input for a pass as g, and no update loses
+-- its literal tag
+pub record MadeBy (Passes : Program → Program → Type 0) (g h : Program) : Type 0 where
+  pub stays : StaysOfVectors g h
+  pub no_more_open : open_updates h ≤ open_updates g
+  pub by : Passes g h
+
+-- no case on a known tag is left; then no nested block; and then no copy
+abbrev pub Tidied : Program → Program → Type 0
+Tidied = Then Simplified (Then Flattened Copied)
+
+-- literals stand for the words that are known; and then the program is tidied
+abbrev pub OfKnownWords : Program → Program → Type 0
+OfKnownWords = MadeBy (Then KnownWords Tidied)
+
+-- no word is fetched from a cell of the procedure's own that is known to hold it; and then likewise
+abbrev pub OfOwnCells : Program → Program → Type 0
+OfOwnCells = MadeBy (Then FetchesAnew Tidied)

@@ -1,0 +1,12 @@
+pub mod Literals
+pub mod Words
+pub mod Sound
+pub mod Well
+pub mod Same
+pub mod Shape
+pub mod Sizes
+pub mod PassContract
+pub mod Loops
+pub mod Soles
+pub mod Fitting
+pub mod Standing

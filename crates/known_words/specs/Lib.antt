@@ -1,0 +1,4 @@
+pub mod Told
+pub mod Needed
+pub mod Known
+pub mod KnownWords

@@ -1,0 +1,105 @@
+// The alternatives of a case that a run may take.
+#![tactic(auto)]
+
+ghost use Rattle.std.specs.Prelude.{◌≡◌, map, IfOk};
+ghost use Rattle.points_to.specs.Found.{found};
+ghost use Rattle.pass_ground.specs.OpenUpdates.{tag_variable};
+ghost use Rattle.known_words.specs.Needed.{may_fit, without, left_by, needs, leaves, tags_at, numbers_left};
+ghost use Rattle.seq.specs.Lists.{is_among};
+
+use crate::told::Told;
+use grin_syntax::{Shape, TagId, Val};
+use seq::Seq;
+use std::alloc::{AllocError, Global};
+use update_special::{Tags, tag_variable};
+
+/// The tags of a value whose tag word is a variable, where this may be a tag.
+pub(crate) fn tags_at(alloc: Global, told: &Told, v: &Val) -> Result<Option<Seq<TagId>>, AllocError>
+    ensures { IfOk result (λ left. numbers_left left ≡ tags_at told.now.count
+        (found told.now.flow.now) (tag_variable v.now)) }
+{
+    match tag_variable(v) {
+        Some(x) => {
+            let tags = Tags {
+                count: told.count,
+                flow: told.flow,
+            };
+            let left = tags.tags_of(alloc, x)?;
+            if left.is_empty() {
+                return Ok(None);
+            }
+            Ok(Some(left))
+        }
+        None => Ok(None),
+    }
+}
+
+/// Whether an alternative may be taken.
+pub(crate) fn is_needed(left: &Option<Seq<TagId>>, pattern: &Shape) -> bool
+    ensures { result ≡ needs (numbers_left left.now) pattern.now }
+{
+    match left {
+        Some(tags) => may_fit(tags.as_slice(), pattern),
+        None => true,
+    }
+}
+
+/// The tags that are left to the alternatives behind it.
+pub(crate) fn left_after(
+    alloc: Global,
+    left: &Option<Seq<TagId>>,
+    pattern: &Shape,
+) -> Result<Option<Seq<TagId>>, AllocError>
+    ensures { IfOk result (λ l. numbers_left l ≡ leaves (numbers_left left.now) pattern.now) }
+{
+    match left {
+        Some(tags) => Ok(Some(left_by(alloc, tags.as_slice(), pattern)?)),
+        None => Ok(None),
+    }
+}
+
+// Whether a pattern fits a value with one of these tags.
+fn may_fit(tags: &[TagId], pattern: &Shape) -> bool
+    ensures { result ≡ may_fit (map (λ t. t.0) tags.now) pattern.now }
+{
+    match pattern {
+        Shape::Node(tag, _) => is_among(tags, *tag),
+        Shape::Int(_) => is_among(tags, TagId(0)),
+        Shape::Else => !tags.is_empty(),
+    }
+}
+
+fn is_among(tags: &[TagId], tag: TagId) -> bool
+    ensures { result ≡ is_among tag.0 (map (λ t. t.0) tags.now) }
+{
+    'tags: for other in tags {
+        if other.0 == tag.0 {
+            return true;
+        }
+    }
+    false
+}
+
+// The tags of the values that a pattern leaves to the alternatives behind it.
+fn left_by(alloc: Global, tags: &[TagId], pattern: &Shape) -> Result<Seq<TagId>, AllocError>
+    ensures { IfOk result (λ ts. map (λ t. t.0) ts
+        ≡ left_by (map (λ t. t.0) tags.now) pattern.now) }
+{
+    match pattern {
+        Shape::Node(tag, _) => without(alloc, tags, *tag),
+        Shape::Int(_) => Seq::from_slice(alloc, tags),
+        Shape::Else => Ok(Seq::new(alloc)),
+    }
+}
+
+fn without(alloc: Global, tags: &[TagId], tag: TagId) -> Result<Seq<TagId>, AllocError>
+    ensures { IfOk result (λ ts. map (λ t. t.0) ts ≡ without tag.0 (map (λ t. t.0) tags.now)) }
+{
+    let mut made = Seq::new(alloc);
+    'tags: for other in tags {
+        if other.0 != tag.0 {
+            made.push(*other)?;
+        }
+    }
+    Ok(made)
+}

@@ -1,0 +1,61 @@
+// The pass.
+#![tactic(auto)]
+
+ghost use Rattle.std.specs.Prelude.{◌≡◌, IfOk};
+ghost use Rattle.grin_syntax.specs.Tree.{program_of};
+ghost use Rattle.points_to.specs.Found.{found};
+ghost use Rattle.pass_ground.specs.Vectors.{OfVectors};
+ghost use Rattle.known_words.specs.Known.{known};
+ghost use Rattle.known_words.specs.KnownWords.{ByLeast, KnownWords};
+
+use crate::blocks::known_block;
+use crate::told::Told;
+use case_simplify::FactTable;
+use grin_meaning::Pass;
+use grin_syntax::{Grin, Proc};
+use least_flow::least;
+use points_to::Flow;
+use seq::Seq;
+use std::alloc::{AllocError, Global};
+
+/// A literal stands for each variable that an alternative around it tells the tag or the number of,
+/// and for each one whose set in the least solution of the program's own flow system is one tag.
+/// An alternative goes whose tag isn't in that of the tag word of its case, and an else that no tag
+/// is left to. It takes programs of vectors.
+pub struct KnownWords;
+
+impl Pass for KnownWords {
+    ghost takes = { λ g. OfVectors (program_of g) };
+
+    ghost gives = { λ g h. KnownWords (program_of g) (program_of h) };
+
+    fn apply(&self, alloc: Global, g: Grin) -> Result<Grin, AllocError> {
+        let h = with_known_words(alloc, g)?;
+        Ok(h)
+    }
+}
+
+/// What the pass makes of any program, whatever its runs do.
+pub fn with_known_words(alloc: Global, g: Grin) -> Result<Grin, AllocError>
+    ensures { IfOk result (λ h. ByLeast (program_of g) (program_of h)) }
+{
+    let flow = least(alloc, &g)?;
+    let h = with_literals(alloc, g, &flow)?;
+    Ok(h)
+}
+
+fn with_literals(alloc: Global, g: Grin, flow: &Flow) -> Result<Grin, AllocError>
+    ensures { IfOk result (λ h. program_of h ≡ known (found flow.now) (program_of g)) }
+{
+    let told = Told {
+        count: g.tags.len(),
+        flow,
+    };
+    let mut facts = FactTable::new(alloc);
+    let mut procs = Seq::new(alloc);
+    for proc in g.procs.into_vec() {
+        let body = known_block(alloc, &told, &mut facts, proc.body)?;
+        procs.push(Proc { body, ..proc })?;
+    }
+    Ok(Grin { procs, ..g })
+}

@@ -1,0 +1,15 @@
+-- Names that no rule reserves, and how many new ones there may be. A device of the proofs.
+use Rattle.std.specs.Prelude.{◌≢◌, ℕ, ◌<◌, ◌^◌, List, ◌++◌, codes, length}
+use Rattle.match_compile.specs.Source.{Source}
+use Rattle.match_compile.specs.Decisions.{decisions}
+use Rattle.match_compile.specs.Translated.{most_params, most_fields_of}
+
+-- the name does not begin with `match'`
+abbrev pub IsFree : List ℕ → Type 0
+IsFree w = (rest : List ℕ) → w ≢ codes "match'" ++ rest
+
+-- the new names have numbers of 32 bits
+pub record AreFew (c : Source) : Type 0 where
+  pub equations : length c.equations < 2 ^ 32
+  pub params : most_params c.equations < 2 ^ 32
+  pub fields : most_fields_of (decisions c) < 2 ^ 32

@@ -1,0 +1,318 @@
+//! The trees of tests that equations become.
+#![tactic(auto, using(crate::proofs::TreesOf::trees))]
+
+ghost use Rattle.std.specs.Prelude.{◌≡◌, ◌<◌, None, IfOk, MatchOption, IfSome, length};
+ghost use Rattle.core_reader.specs.Tree.{expr};
+ghost use Rattle.match_compile.specs.Trees as trees;
+ghost use Rattle.match_compile.specs.RowOf.{rows_of};
+ghost use Rattle.match_compile.specs.TreeOf.{tree_of, branches_of, planted_of, grown_of, put_of, outcome, in_branches, with_new, after_branches, branch_for};
+
+use crate::head::Head;
+use crate::row::{Test, Way, numbers_from};
+use core_reader::Expr;
+use seq::Seq;
+use std::alloc::{AllocError, Global};
+
+/// The most cases that stand one in the default of the other.
+pub const MOST_CHAINED: u32 = 8;
+
+/// A tree of tests.
+#[derive(Drop)]
+#[cycle(tree)]
+pub enum Tree<'a> {
+    /// The body of an equation.
+    Body(Expr, Way<'a>),
+    /// A test at a place, which only the values of its branches pass.
+    Tests(u32, Seq<Branch<'a>>),
+    /// A test at a place, and the tree for all other values.
+    Otherwise(u32, Seq<Branch<'a>>, Box<Tree<'a>>),
+}
+
+/// What follows where a test accepts a value.
+#[derive(Drop)]
+#[cycle(tree)]
+pub struct Branch<'a> {
+    /// What is accepted.
+    pub head: Head,
+    /// The places of the fields.
+    pub places: Seq<u32>,
+    /// The tree behind it.
+    pub tree: Tree<'a>,
+}
+
+/// A tree and the first place that is free, after an equation came to it. A body is left where the
+/// tree does not take the equation.
+#[derive(Drop)]
+pub struct Grown<'a> {
+    pub tree: Tree<'a>,
+    pub free: u32,
+    pub left: Option<Expr>,
+}
+
+/// The same for the branches of a test.
+#[derive(Drop)]
+pub struct Put<'a> {
+    pub branches: Seq<Branch<'a>>,
+    pub free: u32,
+    pub left: Option<Expr>,
+}
+
+/// Whether values may come that no equation in the tree accepts.
+#[cycle(fails)]
+pub fn can_fail(tree: &Tree) -> bool
+    ensures { result ≡ trees.can_fail (tree_of tree.now) }
+{
+    match tree {
+        Tree::Body(_, _) => false,
+        Tree::Tests(_, _) => true,
+        Tree::Otherwise(_, branches, other) => can_fail(other)
+            || branches_fail(branches.as_slice()),
+    }
+}
+
+#[cycle(fails)]
+fn branches_fail(branches: &[Branch]) -> bool
+    ensures { result ≡ trees.branches_fail (branches_of branches.now) }
+{
+    for branch in branches {
+        if can_fail(&branch.tree) {
+            return true;
+        }
+    }
+    false
+}
+
+/// The number of the branch that accepts this, if there is one.
+fn branch_for(branches: &[Branch], head: Head) -> Option<usize>
+    ensures number { MatchOption result (branch_for head branches.now ≡ length branches.now) (λ k.
+        branch_for head branches.now ≡ k) }
+    ensures within { IfSome result (λ k. k < length branches.now) }
+{
+    'branches: for (k, branch) in branches.iter().enumerate() {
+        if branch.head.is_same(head) {
+            return Some(k);
+        }
+    }
+    None
+}
+
+/// Whether the branches are of the kind of a test.
+fn fits(branches: &[Branch], head: Head) -> bool
+    ensures { result ≡ trees.fits head (branches_of branches.now) }
+{
+    match branches.get(0) {
+        None => true,
+        Some(branch) => branch.head.is_like(head),
+    }
+}
+
+/// Behind a test one branch alone.
+fn one_branch<'a>(
+    alloc: Global,
+    test: Test,
+    places: Seq<u32>,
+    tree: Tree<'a>,
+) -> Result<Seq<Branch<'a>>, AllocError>
+    ensures { IfOk result (λ made. branches_of made
+        ≡ trees.AndBranch test.head places (tree_of tree.entry) trees.NoBranch) }
+{
+    let mut branches = Seq::new(alloc);
+    branches.push(Branch {
+        head: test.head,
+        places,
+        tree,
+    })?;
+    Ok(branches)
+}
+
+/// The tree of one equation, and the first place that is free then. Past the depth memory is
+/// wanting.
+pub fn alone<'a>(
+    alloc: Global,
+    depth: u32,
+    free: u32,
+    body: Expr,
+    way: Way<'a>,
+) -> Result<(Tree<'a>, u32), AllocError>
+    ensures { IfOk result (λ made. planted_of made
+        ≡ trees.alone_from free (rows_of way.entry (expr body))) }
+{
+    let Some(test) = way.first() else {
+        return Ok((Tree::Body(body, way), free));
+    };
+    let depth = depth.checked_sub(1).ok_or(AllocError)?;
+    let (places, next) = numbers_from(alloc, free, test.fields)?;
+    let opened = way.opened(alloc, places.as_slice())?;
+    let (tree, free) = alone(alloc, depth, next, body, opened)?;
+    let branches = one_branch(alloc, test, places, tree)?;
+    Ok((Tree::Tests(test.place, branches), free))
+}
+
+/// An equation goes into a tree, or its body is left. Past the depth memory is wanting.
+#[cycle(insert)]
+pub fn insert<'a>(
+    alloc: Global,
+    depth: u32,
+    room: u32,
+    tree: Tree<'a>,
+    free: u32,
+    body: Expr,
+    way: &Way<'a>,
+) -> Result<Grown<'a>, AllocError>
+    ensures { IfOk result (λ grown. grown_of grown ≡ outcome (tree_of tree.entry, free) (expr body)
+        (trees.insert room (tree_of tree.entry) free (rows_of way.now (expr body)))) }
+{
+    let depth = depth.checked_sub(1).ok_or(AllocError)?;
+    match tree {
+        Tree::Body(old, taken) => Ok(Grown {
+            tree: Tree::Body(old, taken),
+            free,
+            left: Some(body),
+        }),
+        Tree::Tests(place, branches) => {
+            let put = insert_branch(alloc, depth, place, branches, free, body, way)?;
+            or_default(alloc, depth, room.saturating_sub(1), place, put, way)
+        }
+        Tree::Otherwise(place, branches, other) => {
+            let room = room.saturating_sub(1);
+            let grown = insert(alloc, depth, room, Box::into_inner(other), free, body, way)?;
+            Ok(Grown {
+                tree: Tree::Otherwise(place, branches, Box::new(alloc, grown.tree)?),
+                free: grown.free,
+                left: grown.left,
+            })
+        }
+    }
+}
+
+/// An equation goes into the branches of a test, or its body is left.
+#[cycle(insert)]
+fn insert_branch<'a>(
+    alloc: Global,
+    depth: u32,
+    place: u32,
+    branches: Seq<Branch<'a>>,
+    free: u32,
+    body: Expr,
+    way: &Way<'a>,
+) -> Result<Put<'a>, AllocError>
+    ensures { IfOk result (λ put. put_of put
+        ≡ outcome (branches_of branches.entry, free) (expr body)
+        (in_branches place (branches_of branches.entry) free
+        (rows_of way.now (expr body)))) }
+{
+    let Some(test) = way.first() else {
+        return Ok(not_put(branches, free, body));
+    };
+    if test.place != place {
+        return Ok(not_put(branches, free, body));
+    }
+    if !fits(branches.as_slice(), test.head) {
+        return Ok(not_put(branches, free, body));
+    }
+    match branch_for(branches.as_slice(), test.head) {
+        None => new_branch(alloc, depth, test, branches, free, body, way),
+        Some(k) => {
+            let mut branches = branches.into_vec();
+            let branch = branches.remove(k);
+            let opened = way.opened(alloc, branch.places.as_slice())?;
+            let grown = insert(alloc, depth, MOST_CHAINED, branch.tree, free, body, &opened)?;
+            branches.insert(
+                k,
+                Branch {
+                    head: branch.head,
+                    places: branch.places,
+                    tree: grown.tree,
+                },
+            )?;
+            Ok(Put {
+                branches: Seq::from_vec(branches),
+                free: grown.free,
+                left: grown.left,
+            })
+        }
+    }
+}
+
+/// The branches as they were, with a body that is left.
+fn not_put<'a>(branches: Seq<Branch<'a>>, free: u32, body: Expr) -> Put<'a>
+    ensures { put_of result
+        ≡ outcome (branches_of branches.entry, free) (expr body) None }
+{
+    Put {
+        branches,
+        free,
+        left: Some(body),
+    }
+}
+
+/// A branch of its own behind those that are there.
+fn new_branch<'a>(
+    alloc: Global,
+    depth: u32,
+    test: Test,
+    branches: Seq<Branch<'a>>,
+    free: u32,
+    body: Expr,
+    way: &Way<'a>,
+) -> Result<Put<'a>, AllocError>
+    ensures { IfOk result (λ put. put_of put
+        ≡ with_new test (branches_of branches.entry) free (rows_of way.now (expr body))) }
+{
+    let mut branches = branches;
+    let (places, next) = numbers_from(alloc, free, test.fields)?;
+    let opened = way.opened(alloc, places.as_slice())?;
+    let (tree, free) = alone(alloc, depth, next, body, opened)?;
+    branches.push(Branch {
+        head: test.head,
+        places,
+        tree,
+    })?;
+    Ok(Put {
+        branches,
+        free,
+        left: None,
+    })
+}
+
+/// An equation that no branch takes becomes the tree for all other values, where no branch can fail
+/// and there is room.
+fn or_default<'a>(
+    alloc: Global,
+    depth: u32,
+    room: u32,
+    place: u32,
+    put: Put<'a>,
+    way: &Way<'a>,
+) -> Result<Grown<'a>, AllocError>
+    ensures { IfOk result (λ grown. grown_of grown
+        ≡ after_branches room place (put_of put.entry) (rows_of way.now)) }
+{
+    let Put {
+        branches,
+        free,
+        left,
+    } = put;
+    match left {
+        None => Ok(Grown {
+            tree: Tree::Tests(place, branches),
+            free,
+            left: None,
+        }),
+        Some(body) => {
+            if room == 0 || branches_fail(branches.as_slice()) {
+                return Ok(Grown {
+                    tree: Tree::Tests(place, branches),
+                    free,
+                    left: Some(body),
+                });
+            }
+            let (tree, free) = alone(alloc, depth, free, body, way.copied(alloc)?)?;
+            Ok(Grown {
+                tree: Tree::Otherwise(place, branches, Box::new(alloc, tree)?),
+                free,
+                left: None,
+            })
+        }
+    }
+}

@@ -1,0 +1,12 @@
+pub mod Invariant
+pub mod Frames
+pub mod Own
+pub mod Stores
+pub mod Same
+pub mod Text
+pub mod Well
+pub mod PassContract
+pub mod Collected
+pub mod Rewriting
+pub mod Listed
+pub mod Having

@@ -1,0 +1,5 @@
+pub mod Shown
+pub mod Memory
+pub mod Remembered
+pub mod Unknown
+pub mod Entries

@@ -1,0 +1,52 @@
+//! A text with types, checked and written as Core.
+
+ghost use Rattle.std.specs.Prelude.{ℕ, List};
+ghost use Rattle.core_types.specs.Refused.{IsCause, IsFirstBrokenText};
+ghost use Rattle.text_commands.specs.Typing.{IsTypedText};
+ghost use Rattle.text_commands.specs.Writing.{IsUnwritten};
+
+use crate::status::Status;
+use crate::writing::Maker;
+use core_print::print;
+use core_types::{TypeFault, typed_or_place};
+use std::alloc::Global;
+use type_meaning::typed_are_never_stuck;
+
+/// What makes the canonical text of the program that a text stands for without its types, which
+/// fit.
+pub struct Types;
+
+impl Maker for Types {
+    ghost made = { λ _ text bytes. IsTypedText text bytes };
+
+    ghost refused = { λ _ text rule number. IsFirstBrokenText text rule number };
+
+    fn make(&self, alloc: Global, text: &[u8]) -> Result<Vec<u8>, Status> {
+        typed_are_never_stuck();
+        let typed = match typed_or_place(alloc, text) {
+            Ok(typed) => typed,
+            Err(fault) => return Err(untyped(&fault)),
+        };
+        match print(alloc, &typed.core) {
+            Ok(bytes) => Ok(bytes),
+            Err(_) => Err(Status::OutOfMemory),
+        }
+    }
+
+    fn refuses_long(&self) {}
+}
+
+/// The status for a text whose types don't fit, or that breaks another rule.
+fn untyped(fault: &TypeFault) -> Status
+    ensures { (text : List ℕ) → IsCause text fault.now
+        → IsUnwritten IsFirstBrokenText text result }
+{
+    let rule = fault.rule();
+    if rule == 0 {
+        return Status::OutOfMemory;
+    }
+    Status::Refused {
+        rule,
+        number: fault.number(),
+    }
+}
