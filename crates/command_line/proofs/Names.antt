@@ -12,8 +12,8 @@ differs name word other = go (bytes_eq name word) refl where
 
 -- a name that none of the forms has
 pub other_name : (ask : Form → Option CommandLine) (name : List ℕ) → name ≢ codes "run" → name ≢ codes "check" → name ≢ codes "list"
-    → name ≢ codes "build" → name ≢ codes "exec" → name ≢ codes "gen" → name ≢ codes "lift" → name ≢ codes "match" → name ≢ codes "types" → None ≡ by_name ask name
-other_name ask name run check list build exec gen lift equations types =
+    → name ≢ codes "build" → name ≢ codes "exec" → name ≢ codes "gen" → name ≢ codes "lift" → name ≢ codes "match" → name ≢ codes "types" → name ≢ codes "sides" → None ≡ by_name ask name
+other_name ask name run check list build exec gen lift equations types sides =
     rw (
       differs name (codes "run") run,
       differs name (codes "check") check,
@@ -24,4 +24,5 @@ other_name ask name run check list build exec gen lift equations types =
       differs name (codes "lift") lift,
       differs name (codes "match") equations,
       differs name (codes "types") types,
+      differs name (codes "sides") sides,
     ) refl

@@ -9,7 +9,7 @@ use Rattle.command_line.specs.declared.command.Listing.{Listing}
 use Rattle.command_line.specs.declared.command.Listing.TheVariants.{Read, Translate, Eval, Apply, Vectorise, Simplify, Fetch, Copy, Update, Unbox, Raise, Flat, Known, Cells, Dead, Code}
 use Rattle.command_line.specs.declared.files.Files.{Files}
 use Rattle.command_line.specs.declared.command.Command.{Command}
-use Rattle.command_line.specs.declared.command.Command.TheVariants.{Run, Check, List as Listed, Build, Exec, Gen, Link, Lift, Match, Types}
+use Rattle.command_line.specs.declared.command.Command.TheVariants.{Run, Check, List as Listed, Build, Exec, Gen, Link, Lift, Match, Types, Sides}
 
 -- what a command line asks for
 pub data CommandLine : Type 0 where
@@ -23,6 +23,7 @@ pub data CommandLine : Type 0 where
   LiftFile : (file : List ℕ) → CommandLine
   MatchFile : (file : List ℕ) → CommandLine
   TypesFile : (file : List ℕ) → CommandLine
+  SidesFile : (file : List ℕ) → CommandLine
 
 -- the names of files, in their order
 abbrev pub names_of : Files → List (List ℕ)
@@ -40,6 +41,7 @@ asked_by (Link files) = LinkFiles (names_of files)
 asked_by (Lift file) = LiftFile file.now
 asked_by (Match file) = MatchFile file.now
 asked_by (Types file) = TypesFile file.now
+asked_by (Sides file) = SidesFile file.now
 
 -- the passes that a listing can follow
 abbrev pub listing_of : List ℕ → Option Listing
@@ -199,6 +201,10 @@ match_form = file_form MatchFile
 abbrev pub types_form : Form
 types_form = file_form TypesFile
 
+-- `sides FILE`
+abbrev pub sides_form : Form
+sides_form = file_form SidesFile
+
 -- `link FILE..`, with 1 to 64 files
 abbrev pub link_form : Form
 link_form = record {
@@ -221,7 +227,8 @@ by_name ask name =
     else (if bytes_eq name (codes "lift") then ask lift_form
     else (if bytes_eq name (codes "match") then ask match_form
     else (if bytes_eq name (codes "types") then ask types_form
-    else None))))))))
+    else (if bytes_eq name (codes "sides") then ask sides_form
+    else None)))))))))
 
 -- what parts with options of the form alone ask for
 abbrev pub asked : List Part → Form → Option CommandLine

@@ -2,7 +2,7 @@
 
 ghost use Rattle.std.specs.Prelude.{◌≡◌, ℕ, List, map, string_bytes};
 ghost use Rattle.std.specs.Option.{option_map, option_and_then};
-ghost use Rattle.command_line.specs.Commands.{asked_by, asked, command_from, listing_of, run_form, check_form, list_form, build_form, exec_form, gen_form, file_form, lift_form, match_form, types_form, link_form, CommandLine};
+ghost use Rattle.command_line.specs.Commands.{asked_by, asked, command_from, listing_of, run_form, check_form, list_form, build_form, exec_form, gen_form, file_form, lift_form, match_form, types_form, sides_form, link_form, CommandLine};
 ghost use Rattle.command_line.specs.Parts.{parts_of};
 ghost use Rattle.command_line.specs.Walk.{said, asked_said, chosen};
 
@@ -102,6 +102,10 @@ pub enum Command<'a> {
     Types {
         file: &'a str,
     },
+    /// `sides FILE`: write the two sides of the types that do not fit in a text with types.
+    Sides {
+        file: &'a str,
+    },
 }
 
 /// The most files that are linked.
@@ -161,6 +165,7 @@ impl<'a> Command<'a> {
             "lift" => Command::lift(arguments),
             "match" => Command::equations(arguments),
             "types" => Command::types(arguments),
+            "sides" => Command::sides(arguments),
             _ => None,
         }
     }
@@ -239,6 +244,14 @@ impl<'a> Command<'a> {
     {
         let file = Command::file_alone(arguments)?;
         Some(Command::Types { file })
+    }
+
+    /// `sides` with its arguments.
+    fn sides(arguments: Arguments<'a>) -> Option<Command<'a>>
+        ensures { option_map asked_by result ≡ asked_said (said arguments.entry) sides_form }
+    {
+        let file = Command::file_alone(arguments)?;
+        Some(Command::Sides { file })
     }
 
     /// `list` with its arguments.

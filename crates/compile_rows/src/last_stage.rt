@@ -7,9 +7,9 @@ ghost use Rattle.grin_syntax.specs.Tree.{program_of};
 ghost use Rattle.grin_meaning.specs.Slim.{Slim};
 ghost use Rattle.grin_compile.specs.Lowerable.{IsLowerable};
 
-use crate::tests::checked;
+use crate::tests::{CELLS, STACK, checked, compiled};
 use arity_check::normal::Checked;
-use grin_compile::{Options, compile, layers_below};
+use grin_compile::layers_below;
 use grin_measure::{Sizes, is_slim, sizes_of};
 use grin_opt::PassName;
 use grin_stages::stage;
@@ -61,20 +61,22 @@ fn last_stage(alloc: Global, p: &Checked) -> Result<Grin, Fail>
 const HEAD: &str =
     "data Nil 0; data Cons 2; hd c = case c of { Cons h t -> h }; main = case hd (Cons 65 Nil) of { x -> Cons x Nil };";
 
+/// The words that are made of the last stage of a text.
+fn code_of_last_stage(alloc: Global, text: &str) -> Result<Vec<u32>, Fail> {
+    let p = checked(alloc, text)?;
+    let last = last_stage(alloc, &p)?;
+    let layers = layers_below(alloc, &last, CELLS, STACK)?;
+    Ok(layers.code)
+}
+
 #[test]
 fn code_is_that_of_the_last_stage(rt: HostRuntime) -> Result<(), Fail> {
     let alloc = rt.alloc();
-    let p = checked(alloc, HEAD)?;
-    let options = Options {
-        cells: 1000,
-        stack: 4096,
-    };
-    let last = last_stage(alloc, &p)?;
-    let layers = layers_below(alloc, &last, options.cells, options.stack)?;
-    let made = compile(alloc, &p, options)?;
-    assert_eq!(rt; made.code(), layers.code.as_slice());
+    let code = code_of_last_stage(alloc, HEAD)?;
+    let made = compiled(alloc, HEAD)?;
+    assert_eq!(rt; made.code.as_slice(), code.as_slice());
     // The stage before has one parameter here.
-    let first = made.low().procs.get(0).ok_or("no procedure")?;
+    let first = made.low.procs.get(0).ok_or("no procedure")?;
     assert_eq!(rt; first.params.len(), 2);
     Ok(())
 }

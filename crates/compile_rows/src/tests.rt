@@ -51,8 +51,6 @@ const TAKES: &str =
 //           store
 //             v13 = (Ftake v4)
 //           unit (CCons v3 v13)
-//         else ->
-//           fail
 //
 //     main =
 //       store
@@ -103,8 +101,6 @@ const TAKES: &str =
 //               call @print v4
 //             else ->
 //               fail
-//         else ->
-//           fail
 //
 // Its tags are Int, Nil, Cons, the delayed calls of take and of main, and take without its
 // argument, from 0 on. The last alternative of each case is not tested. All three procedures give
@@ -140,16 +136,13 @@ give v10 v11 v12
 joined
 when v2 = 1
 give 1 0 0
-when v2 = 2
+else
 take v13
 save v13 0 3
 save v13 1 v4
 give 2 v3 v13
-else
-fail
 proc gives 3
 take v0 v1 v2 v3
-save v0 0 0
 save v0 1 65
 save v1 0 1
 save v2 0 2
@@ -203,15 +196,13 @@ give v13 v14 v15
 joined
 when v2 = 1
 give 1 0 0
-when v2 = 2
+else
 load v16 v3 0
 load v17 v3 1
 load v18 v3 2
 when v16 = 0
 put v17
 tail 2 at s4 with v4
-else
-fail
 else
 fail
 ";
@@ -224,29 +215,49 @@ pub(crate) fn checked(alloc: Global, text: &str) -> Result<Checked, Fail>
     Ok(check(alloc, core)?)
 }
 
-/// What is made of a text, with a thousand cells and a stack of 4,096 bytes.
-fn compiled(alloc: Global, text: &str) -> Result<Compiled, Fail> {
-    let p = checked(alloc, text)?;
-    let options = Options {
-        cells: 1000,
-        stack: 4096,
-    };
-    Ok(compile(alloc, &p, options)?)
+/// The cells of the heap that the rows compile for.
+pub(crate) const CELLS: u32 = 1000;
+
+/// The bytes of the stack that they compile for.
+pub(crate) const STACK: u32 = 4096;
+
+/// What the rows look at of a compiled program.
+#[derive(Drop)]
+pub(crate) struct Made {
+    /// The low code of its last stage.
+    pub(crate) low: Low,
+    /// The words of its code.
+    pub(crate) code: Vec<u32>,
 }
 
-/// The low code of a text.
-fn low_code_of(alloc: Global, text: &str) -> Result<Low, Fail> {
-    let made = compiled(alloc, text)?;
-    Ok(made.low)
+/// Keeps the low code and the words of a compiled program. All its stages are dropped here and
+/// nowhere else, since a proof goes over each of them at each end of a function that drops them.
+fn kept(compiled: Compiled) -> Made {
+    Made {
+        low: compiled.low,
+        code: compiled.code,
+    }
+}
+
+/// What is made of a text.
+pub(crate) fn compiled(alloc: Global, text: &str) -> Result<Made, Fail> {
+    let p = checked(alloc, text)?;
+    let options = Options {
+        cells: CELLS,
+        stack: STACK,
+    };
+    match compile(alloc, &p, options) {
+        Ok(compiled) => Ok(kept(compiled)),
+        Err(refusal) => Err(refusal.into()),
+    }
 }
 
 #[test]
 fn cells_are_as_wide_as_the_largest_node(rt: HostRuntime) -> Result<(), Fail> {
     let alloc = rt.alloc();
     let text = format!(in alloc; "{LISTS}main = Nil;")?;
-    let low = low_code_of(alloc, text.as_str())?;
-    assert_eq!(rt; low.width, 3);
-    assert_eq!(rt; low.globals.len(), 1);
+    let made = compiled(alloc, text.as_str())?;
+    assert_eq!(rt; (made.low.width, made.low.globals.len()), (3, 1));
     Ok(())
 }
 
@@ -254,8 +265,9 @@ fn cells_are_as_wide_as_the_largest_node(rt: HostRuntime) -> Result<(), Fail> {
 fn low_code_by_hand(rt: HostRuntime) -> Result<(), Fail> {
     let alloc = rt.alloc();
     let text = format!(in alloc; "{LISTS}{TAKES}")?;
-    let low = low_code_of(alloc, text.as_str())?;
-    let listing = listed(alloc, &low)?;
+    let made = compiled(alloc, text.as_str())?;
+    let low = &made.low;
+    let listing = listed(alloc, low)?;
     assert_eq!(rt; listing.as_str(), TAKES_IN_WORDS);
     assert_eq!(rt; low.globals.as_slice(), [4].as_slice());
     assert_eq!(rt; (low.start, low.argument, low.width), (2, Some(0), 3));

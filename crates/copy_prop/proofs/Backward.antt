@@ -54,7 +54,7 @@ abbrev pub stacked : List Stmt → Code → Code
 stacked [] c = c
 stacked (s ∷ ss) c = stacked ss (before_of s c)
 
-stacked_push : (ss : List Stmt) (s : Stmt) (c : Code) → stacked (ss ++ s ∷ []) c ≡ before_of s (stacked ss c)
+pub stacked_push : (ss : List Stmt) (s : Stmt) (c : Code) → stacked (ss ++ s ∷ []) c ≡ before_of s (stacked ss c)
 stacked_push [] s c = refl
 stacked_push (t ∷ ss) s c = stacked_push ss s (before_of t c)
 
@@ -91,12 +91,12 @@ pub leans_go : (m seen seen' : List ℕ) (old : Code) (walked made : List Stmt) 
 leans_go m seen seen' old walked made last s o from many w tree uses q =
     leans_next m seen seen' old walked made last s o from many w tree uses made (ap (λ p. kept p (stacked made (end last))) (sym q))
 
-stacked_reversed : (ss ts : List Stmt) (c : Code) → all_before (map before_of (reverse_aux ss ts)) c ≡ stacked ss (all_before (map before_of ts) c)
+pub stacked_reversed : (ss ts : List Stmt) (c : Code) → all_before (map before_of (reverse_aux ss ts)) c ≡ stacked ss (all_before (map before_of ts) c)
 stacked_reversed [] ts c = refl
 stacked_reversed (s ∷ ss) ts c = stacked_reversed ss (s ∷ ts) c
 
 -- the whole block, from its end
-whole : (a : Block) (walked : List Stmt) → walked ≡ reverse a.stmts → code_of a ≡ stacked walked (end (act_of a.last.value))
+pub whole : (a : Block) (walked : List Stmt) → walked ≡ reverse a.stmts → code_of a ≡ stacked walked (end (act_of a.last.value))
 whole a walked e =
     code_of-parts a ∙ ap (λ l. all_before (map before_of l) (end (act_of a.last.value))) (sym (reverse-reverse a.stmts) ∙ ap reverse (sym e)) ∙ stacked_reversed walked [] (end (act_of a.last.value))
 

@@ -388,10 +388,10 @@ lean_outside g = record { same_tags = refl; same_globals = refl; same_start = re
 -- ---- scopes
 
 -- of the variables in scope in the first, those that are used are in scope in the second
-abbrev Carried : Scope → List ℕ → ℕ → Type 0
+abbrev pub Carried : Scope → List ℕ → ℕ → Type 0
 Carried scope scope' x = InScope scope.words x → InScope scope' x
 
-carried_more : (ts : List ℕ) (scope : Scope) (scope' : List ℕ) (x : ℕ) → Carried scope scope' x → Carried (with_words ts scope) (ts ++ scope') x
+pub carried_more : (ts : List ℕ) (scope : Scope) (scope' : List ℕ) (x : ℕ) → Carried scope scope' x → Carried (with_words ts scope) (ts ++ scope') x
 carried_more ts scope scope' x c i = go (times x ts) refl
   where
     go : (n : ℕ) → times x ts ≡ n → InScope (ts ++ scope') x
@@ -411,30 +411,30 @@ carried_past ts used scope scope' none cov x h i = go (times x ts) refl
     go (suc n) e = absurd (not_both (is_among x used) h (none_absent x ts used none (among_in x ts (omega (arith, e)))))
 
 module _ (g : Program) (procs : List Procedure) (same_count : length procs ≡ length g.procs) where
-  abbrev there : Program
+  abbrev pub there : Program
   there = with_procs g procs same_count
 
   module _ (scope : Scope) (scope' : List ℕ) where
-    abbrev Carries : List ℕ → Type 0
+    abbrev pub Carries : List ℕ → Type 0
     Carries = Covers (Carried scope scope')
 
-    word_formed : (a : W.Word) → Carries (used_in_word a) → WordFormed g scope a → WordFormed there (as_scope scope') a
+    pub word_formed : (a : W.Word) → Carries (used_in_word a) → WordFormed g scope a → WordFormed there (as_scope scope') a
     word_formed (Var x) c f = c x.0 (among_first x.0 []) f
     word_formed (Lit k) c f = f
     word_formed (Global i) c f = f
     word_formed (TagWord t) c f = f
 
-    words_formed : (ws : List W.Word) → Carries (used_in_words ws) → AllOf (WordFormed g scope) ws → AllOf (WordFormed there (as_scope scope')) ws
+    pub words_formed : (ws : List W.Word) → Carries (used_in_words ws) → AllOf (WordFormed g scope) ws → AllOf (WordFormed there (as_scope scope')) ws
     words_formed [] c f = tt
     words_formed (a ∷ ws) c f = (word_formed a (covers_left (Carried scope scope') (used_in_word a) (used_in_words ws) c) f.0, words_formed ws (covers_right (Carried scope scope') (used_in_word a) (used_in_words ws) c) f.1)
 
-    val_formed : (v : V.Val) → NoNodeVar v → Carries (used_in_val v) → ValFormed g scope v → ValFormed there (as_scope scope') v
+    pub val_formed : (v : V.Val) → NoNodeVar v → Carries (used_in_val v) → ValFormed g scope v → ValFormed there (as_scope scope') v
     val_formed (NodeVar x) n c f = absurd n
     val_formed (Node t ws) n c f = (f.0, words_formed ws c f.1)
     val_formed (Vector ws) n c f = words_formed ws c f
     val_formed (One a) n c f = word_formed a c f
 
-    cells_formed : (cs : List Cell) → AllOf (λ c. NoNodeVar c.val) cs → Carries (used_in_cells cs) → AllOf (CellFormed g scope) cs → AllOf (CellFormed there (as_scope scope')) cs
+    pub cells_formed : (cs : List Cell) → AllOf (λ c. NoNodeVar c.val) cs → Carries (used_in_cells cs) → AllOf (CellFormed g scope) cs → AllOf (CellFormed there (as_scope scope')) cs
     cells_formed [] n c f = tt
     cells_formed (x ∷ cs) n c f = (val_formed x.val n.0 (covers_left (Carried scope scope') (used_in_val x.val) (used_in_cells cs) c) f.0, cells_formed cs n.1 (covers_right (Carried scope scope') (used_in_val x.val) (used_in_cells cs) c) f.1)
 

@@ -9,3 +9,4 @@ mod resolve;
 mod uses;
 
 pub use pass::{Copies, without_copies, without_idle};
+pub use uses::Uses;

@@ -14,7 +14,7 @@ use std::marker::Model;
 /// The variables that were used so far, in the order of their uses. Whether one was used after a
 /// place is known at once.
 #[derive(Drop)]
-pub(crate) struct Uses {
+pub struct Uses {
     seen: Vec<u32>,
     // by the number of a variable: how many were used up to its latest use, and 0 where it was not
     latest: Vec<u64>,
@@ -33,7 +33,7 @@ impl Model for Uses {
 
 impl Uses {
     /// Nothing was used yet.
-    pub(crate) fn new(alloc: Global) -> Uses
+    pub fn new(alloc: Global) -> Uses
         ensures { result ≡ [] }
     {
         Uses {
@@ -43,7 +43,7 @@ impl Uses {
     }
 
     /// How many uses there were.
-    pub(crate) fn count(&self) -> u64
+    pub fn count(&self) -> u64
         ensures { result ≡ length self.now }
     {
         self.seen.len() as u64
@@ -62,7 +62,7 @@ impl Uses {
     }
 
     /// Whether a variable was used after the first so many uses.
-    fn used_after(&self, from: u64, x: VarId) -> bool
+    pub fn used_after(&self, from: u64, x: VarId) -> bool
         ensures { result ≡ stands x.0 (drop from self.now) }
     {
         match self.latest.get(x.0 as usize) {
@@ -72,7 +72,7 @@ impl Uses {
     }
 
     /// Whether none of a target's variables was used after the first so many uses.
-    pub(crate) fn spare(&self, from: u64, target: &Target) -> bool
+    pub fn spare(&self, from: u64, target: &Target) -> bool
         ensures { result ≡ none_stands (target_vars target.now) (drop from self.now) }
     {
         match target {
@@ -94,7 +94,7 @@ impl Uses {
     }
 
     /// A word is used.
-    pub(crate) fn note_word(&mut self, word: Word) -> Result<(), AllocError>
+    pub fn note_word(&mut self, word: Word) -> Result<(), AllocError>
         ensures { OnOk result (self.new ≡ self.old ++ used_in_word word) }
     {
         match word {
@@ -106,7 +106,7 @@ impl Uses {
     }
 
     /// Words are used.
-    pub(crate) fn note_words(&mut self, words: &[Word]) -> Result<(), AllocError>
+    pub fn note_words(&mut self, words: &[Word]) -> Result<(), AllocError>
         ensures { OnOk result (self.new ≡ self.old ++ used_in_words words.now) }
     {
         for word in words {
@@ -116,7 +116,7 @@ impl Uses {
     }
 
     /// A value is used.
-    pub(crate) fn note_val(&mut self, v: &Val) -> Result<(), AllocError>
+    pub fn note_val(&mut self, v: &Val) -> Result<(), AllocError>
         ensures { OnOk result (self.new ≡ self.old ++ used_in_val v.now) }
     {
         match v {
@@ -129,7 +129,7 @@ impl Uses {
 
     /// What an operation uses, without the blocks inside it.
     #[tactic(auto, using(grin_syntax::proofs::TreeOf::tree_of, seq::proofs::Lists::append_again, seq::proofs::Lists::append_nil))]
-    pub(crate) fn note_op(&mut self, op: &Op) -> Result<(), AllocError>
+    pub fn note_op(&mut self, op: &Op) -> Result<(), AllocError>
         ensures { OnOk result (self.new ≡ self.old ++ used_beside_blocks (act_of op.now)) }
     {
         match op {
@@ -159,7 +159,7 @@ impl Uses {
     }
 
     /// What goes into cells is used.
-    pub(crate) fn note_cells(&mut self, cells: &[Cell]) -> Result<(), AllocError>
+    pub fn note_cells(&mut self, cells: &[Cell]) -> Result<(), AllocError>
         ensures { OnOk result (self.new ≡ self.old ++ used_in_cells cells.now) }
     {
         for cell in cells {

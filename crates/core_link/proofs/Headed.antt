@@ -1,29 +1,27 @@
 -- Behind the header of a text of a module stands the text of a program, which breaks no rule on reading.
-use Rattle.std.proofs.Common.{◌≡◌, ℕ, ◌≤◌, List, [], ◌∷◌, ◌++◌, length, map, take, Result, Ok, Err, refl, sym, ap, subst, ◌∙◌, arith, inl, append_assoc}
+use Rattle.std.proofs.Common.{◌≡◌, ℕ, ◌≤◌, List, [], ◌∷◌, ◌++◌, length, map, Ok, Err, refl, sym, ap, subst, ◌∙◌, arith, inl, append_assoc}
 use Rattle.std.specs.List.{AllZip}
 use Rattle.core_reader.specs.declared.dialect.Dialect.TheVariants.{Core, Modules}
 use Rattle.core_reader.specs.declared.token.Token.TheVariants as word
 use Rattle.core_reader.specs.declared.token.Lexeme.{Lexeme}
 use Rattle.core_reader.specs.declared.refusal.ReadRefusal.{ReadRefusal}
 use Rattle.core_reader.specs.declared.refusal.ReadRefusal.TheVariants as refusal
-use Rattle.core_reader.specs.Grammar.{Room, anywhere, at_most_200, lexeme, Decl, SpellsDecls, constructors_of, functions_of}
-use Rattle.core_reader.specs.TokensOf.{Piece, Reads, Stops, Passes, Takes, IsTokens, kind_of}
+use Rattle.core_reader.specs.Grammar.{anywhere, at_most_200, lexeme, Decl, SpellsDecls, constructors_of, functions_of}
+use Rattle.core_reader.specs.TokensOf.{Piece, Reads, IsTokens, kind_of}
 use Rattle.core_reader.specs.WordsOf.{said, written_number, IsInRange}
 use Rattle.core_reader.specs.NamesOf.{names_of}
 use Rattle.core_reader.specs.LexedOf.{AtEnd, AreInRange, IsLexed}
 use Rattle.core_reader.specs.ProgramsOf.{Language}
 use Rattle.core_reader.specs.Programs.{IsText, IsProgram}
-use Rattle.core_reader.specs.ReadingOf.{Step, go, done, stop, follow, Reading, run_of}
 use Rattle.core_reader.specs.Machine.{Fails}
 use Rattle.core_reader.specs.Declaring as core
 use Rattle.core_reader.specs.Readable.{IsReadable}
 use Rattle.core_reader.specs.Tree.{Program}
-use Rattle.core_reader.proofs.ReadingOf.{Good, ReadsLanguage}
+use Rattle.core_reader.proofs.ReadingOf.{ReadsLanguage}
 use Rattle.core_reader.proofs.CoreReading.{core_laws_in, core_reads}
-use Rattle.core_reader.proofs.Explains.{AreTokens, Led, Explained, explains, last_same}
+use Rattle.core_reader.proofs.Explains.{Explained, explains}
 use Rattle.core_reader.proofs.FirstBroken.{end_place}
-use Rattle.core_reader.proofs.Proper.{no_bad}
-use Rattle.core_reader.proofs.NamingOf.{Texts, EachHeld, each_held}
+use Rattle.core_reader.proofs.NamingOf.{EachHeld, each_held}
 use Rattle.core_reader.proofs.OnlyOne.{one_tokens}
 use Rattle.core_reader.proofs.Unique.{goes_on, join, split, ends_at}
 use Rattle.core_reader.proofs.Answers.{few, found_by, refused_by}
@@ -31,6 +29,7 @@ use Rattle.core_reader.proofs.Readability.{readable}
 use Rattle.core_link.specs.Laws.{IsHeaded, HasProgram, EachHasProgram}
 use Rattle.core_link.specs.Module.{Module, IsModuleText, IsNamedPlainly, IsRead, IsReadCause, SpellsHead, head_of}
 use Rattle.core_link.specs.Heading.{Start, run}
+use Rattle.core_link.proofs.LittleRoom.{are_tokens, in_little}
 use Rattle.core_link.proofs.Reading.{module_laws, with_head, header_runs, begins_declaring}
 use Rattle.core_link.proofs.Plainly.{IsPlain, named_cause}
 use Rattle.core_link.proofs.OfModules.{all_in_range, short}
@@ -55,29 +54,6 @@ parted f (x ∷ xs) (u ∷ us) vs e =
     let w = parted f xs us vs tail in
     record { front = x ∷ w.front; behind = w.behind; whole = ap (λ v. x ∷ v) w.whole; first = λ i. head i ∷ w.first i; second = w.second }
 
--- ---- what is read with little room is spelled in it
-
-module _ {P : Type 0} {r : Reading} {Derives : Language P} (w : ReadsLanguage Modules r Derives) (l : Room) where
-  ends_so : (ts : List Lexeme) (end : ℕ) (a : r.Tree) (st : Step r.State r.Tree) → Good w.laws.Consumed r.Spells l st (ts ++ lexeme end word.End ∷ []) → follow st (λ s. run_of r.step l s []) ≡ Ok a → r.Spells l a ts
-  unfolding run_of
-  ends_so ts end a (go next) good e = absurd cc
-  ends_so ts end a (done b) good e =
-      let same : ts ≡ good.0 = (last_same ts good.0 (lexeme end word.End) (lexeme good.1 word.End) good.3).0 in
-      let which : b ≡ a = cc in
-      subst (λ v. r.Spells l v ts) which (subst (r.Spells l b) (sym same) good.2)
-  ends_so ts end a (stop er) good e = absurd cc
-
-  spelled_so : (names : Texts) (ps : List Piece) (s : r.State) (end : ℕ) (a : r.Tree) → Led w l names ps s → run_of r.step l r.start (map (said Modules names) ps ++ lexeme end word.End ∷ []) ≡ Ok a → r.Spells l a (map (said Modules names) ps)
-  unfolding run_of
-  spelled_so names ps s end a led e =
-      let ts = map (said Modules names) ps in
-      ends_so ts end a (r.step l s end word.End) (w.laws.sound l s ts end word.End led.consumed) (sym (led.reach (lexeme end word.End ∷ [])) ∙ e)
-
-are_tokens : {at end : ℕ} {bytes rest : List ℕ} {pieces : List Piece} (names : Texts) → Reads Modules at bytes pieces end rest → AreTokens Modules names pieces
-are_tokens names (Stops at rest) = tt
-are_tokens names (Passes at n bytes pieces end rest h r) = are_tokens names r
-are_tokens names (Takes at n bytes k pieces end rest h r) = (no_bad Modules names (take n bytes) k h.is_token, are_tokens names r)
-
 -- ---- declarations of Core with the words of modules
 
 abbrev Declared : Language (List Decl)
@@ -91,23 +67,6 @@ declared_read = record {
   made = λ l ds ps h. (ds, h);
   same = λ l p q ps h g e. e;
 }
-
-one_list : (a b : List Decl) (x : Result (List Decl) ReadRefusal) → x ≡ Ok a → x ≡ Ok b → a ≡ b
-one_list a b x e f = cc
-
--- Declarations that are read with little room are spelled in it.
-in_little : {at end : ℕ} {bytes rest : List ℕ} (names : Texts) (place : ℕ) (ps : List Piece) (ds : List Decl) → Reads Modules at bytes ps end rest → SpellsDecls anywhere ds (map (said Modules names) ps)
-    → (x : Result (List Decl) ReadRefusal) → core.run at_most_200 (core.top []) (map (said Modules names) ps ++ lexeme place word.End ∷ []) ≡ x → ((e : ReadRefusal) → x ≡ Err e → ⊥)
-    → SpellsDecls at_most_200 ds (map (said Modules names) ps)
-in_little names place ps ds reads spelled (Err e) ran well = absurd (well e refl)
-in_little names place ps ds reads spelled (Ok es) ran well =
-    let ts = map (said Modules names) ps in
-    let end = lexeme place word.End in
-    let x : Explained declared_read names ps end (Ok es) = subst (Explained declared_read names ps end) ran (explains declared_read names ps end (are_tokens names reads) tt) in
-    let tight : SpellsDecls at_most_200 es ts = spelled_so declared_read at_most_200 names ps x.2 place es x.3.b ran in
-    let open_run = core.run anywhere (core.top []) (ts ++ end ∷ []) in
-    let same : es ≡ ds = one_list es ds open_run ((core_laws_in Modules).whole anywhere es ts place [] x.1) ((core_laws_in Modules).whole anywhere ds ts place [] spelled) in
-    subst (λ v. SpellsDecls at_most_200 v ts) same tight
 
 -- ---- numbers stay in the range
 
@@ -205,7 +164,7 @@ module _ (text : List ℕ) (m : Module) (read : IsRead text) where
             head = subst (SpellsHead (head_of m)) (sym w.first) s.2;
             spelled = spelled;
           };
-          shallow = in_little m.names (length text) w.behind decls cut.after spelled (core.run at_most_200 (core.top []) tail) refl (λ e f. goes_well {A = ⊥} e (runs ∙ ap (with_head (head_of m)) f));
+          shallow = in_little declared_read m.names (length text) w.behind decls cut.after spelled (core.run at_most_200 (core.top []) tail) refl (λ e f. goes_well {A = ⊥} e (runs ∙ ap (with_head (head_of m)) f));
         }
 
     -- ---- the program

@@ -46,6 +46,7 @@ pub mod Alone
 pub mod Same
 pub mod Again
 pub mod Behind
+pub mod LittleRoom
 pub mod Headed
 pub mod Kept
 pub mod Homes

@@ -1,5 +1,5 @@
 -- The first rule that a program with types breaks.
-use Rattle.std.proofs.Common.{◌≡◌, ℕ, ◌<◌, ◌≤◌, Bool, true, false, refl, sym, ap, subst, ◌∙◌, arith, Option, Some, None, ◌⊎◌, inl, inr}
+use Rattle.std.proofs.Common.{◌≡◌, ℕ, ◌<◌, ◌≤◌, Bool, true, false, List, refl, sym, ap, subst, ◌∙◌, arith, Option, Some, None, ◌⊎◌, inl, inr}
 use Rattle.std.specs.Prelude.{slice_get, if◌then◌else◌, nat_lt}
 use Rattle.std.specs.List.{find}
 use Rattle.seq.proofs.Order.{compared}
@@ -13,6 +13,7 @@ use Rattle.arity_check.specs.Order.{ranked, IsBefore}
 use Rattle.arity_check.specs.Order as core-order
 use Rattle.arity_check.specs.Broken as core
 use Rattle.arity_check.specs.First.{IsFirstRefusal}
+use Rattle.arity_check.specs.Known.{Known}
 use Rattle.arity_check.specs.Whole.{known_of}
 use Rattle.arity_check.proofs.Names.{nil_named, cons_named}
 use Rattle.core_types.specs.declared.refusal.TypeFault.TheVariants as fault
@@ -114,6 +115,19 @@ module _ (s : Source) where
   found k at (rules.ListType h) = Rule86 refl refl h
   found k at (rules.Mismatch {c = c} i h) = Rule83 refl (i, c, h, refl)
   found k at (rules.NotExhaustive {f = f} {alts = alts} {p = p} i e q first none h) = Rule84 refl (partial.not_exhaustive s i f alts p e q first none h)
+
+  mismatch_in : (k at : ℕ) → k ≡ 83 → Found k at → IsFirstMismatch s (Some at)
+  mismatch_in k at e (InCore b) =
+      let l : 5 ≤ 2 = subst (λ (n : ℕ). (rank n at).0 ≤ 2) e (core_early (erased s) k at b) in absurd (omega (arith, l))
+  mismatch_in k at e (Rule81 f r) = absurd (omega (arith, e, f))
+  mismatch_in k at e (Rule82 f r) = absurd (omega (arith, e, f))
+  mismatch_in k at e (Rule85 f r) = absurd (omega (arith, e, f))
+  mismatch_in k at e (Rule86 f z r) = absurd (omega (arith, e, f))
+  mismatch_in k at e (Rule83 f r) = r
+  mismatch_in k at e (Rule84 f r) = absurd (omega (arith, e, f))
+
+  pub broken_mismatch : (at : ℕ) → Broken s 83 at → IsFirstMismatch s (Some at)
+  broken_mismatch at b = mismatch_in 83 at refl (found 83 at b)
 
   abbrev NoCore : Type 0
   NoCore = (k at : ℕ) → core.Broken (erased s) k at → ⊥
@@ -411,3 +425,10 @@ module _ (s : Source) where
 
   pub none_broken : (n : NameId) → IsFirstRefusal (ranked Check) (erased s) None → first_declared ≡ None → list_name ≡ Some n → IsFirstMismatch s None → first_partial ≡ None → IsJudged s None
   none_broken n h d l fits e = (λ k at b. never (none_in_core h) (none_by first_declared three_first d) (some_lists n l) fits (no_case first_partial (partial.partial_first s) e) k at (found k at b), fits)
+
+-- the name of the type of lists, by any table that knows the names of the program
+abbrev pub list_in : Source → Option NameId
+list_in s = name_of (find (is_list_by (nil_in (known_of (erased s))) (cons_in (known_of (erased s)))) s.types)
+
+pub list_is : (s : Source) (k : Known) (types : List TypeDecl) (o o' : Option NameId) → k ≡ known_of (erased s) → types ≡ s.types → o ≡ name_of (find (is_list_by (nil_in k) (cons_in k)) types) → o ≡ o' → list_in s ≡ o'
+list_is s k types o o' e f g h = (λ i. name_of (find (is_list_by (nil_in (sym e i)) (cons_in (sym e i))) (sym f i))) ∙ sym g ∙ h

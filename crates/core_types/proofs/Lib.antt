@@ -15,6 +15,7 @@ pub mod Judged
 pub mod Checked
 pub mod Denoting
 pub mod Solving
+pub mod Sided
 pub mod Instancing
 pub mod Heads
 pub mod Meant
@@ -23,5 +24,8 @@ pub mod Adding
 pub mod Applied
 pub mod Grouped
 pub mod Unsolved
+pub mod BothSides
+pub mod TextSides
+pub mod Showing
 pub mod Branched
 pub mod Gathered

@@ -2,6 +2,7 @@
 -- sides.
 use Rattle.std.proofs.Common.{◌≡◌, ℕ, zero, suc, Bool, true, false, List, [], ◌∷◌, refl, sym, ap, subst, ◌∙◌, arith, Option, Some, None}
 use Rattle.std.specs.Prelude.{slice_get, take, nat_lt, if◌then◌else◌}
+use Rattle.seq.proofs.Lists.{some_is}
 use Rattle.unification.specs.declared.term.Symbol.{Symbol}
 use Rattle.unification.specs.declared.term.Symbol.TheVariants as symbol
 use Rattle.unification.specs.declared.term.Term.{Term}
@@ -14,6 +15,7 @@ use Rattle.unification.proofs.Pairing.{arguments_same, head_same, rest_same}
 use Rattle.core_types.specs.declared.nodes.Nodes.{Nodes}
 use Rattle.core_types.proofs.Firsts.{lt_true}
 use Rattle.core_types.specs.Typing.{Key, AtBinder, AtResult, AtBracket, AtScrutinee, AtUse, Typed, Types, Int, Open, Rigid, Named, Arrow, NoTypeds, AndTyped, Constraint, Substitution, under, under_all, Solves, IsMostGeneral, IsFirstUnsolved}
+use Rattle.core_types.specs.Sides.{variable, back, back_all, typed_of, AreSides}
 use Rattle.core_types.specs.Nodes.{IsInRange, found_of, named_by, IsVariable, IsSound, IsMade, Denotes, DenoteAll, Stand}
 
 -- ---- types as trees and back
@@ -25,16 +27,6 @@ marked (AtResult at) = Made symbol.Integer (AndTree (Made (symbol.Named at) (And
 marked (AtBracket at) = Made symbol.Integer (AndTree (Made (symbol.Named at) (AndTree (trees.Open 0) (AndTree (trees.Open 0) NoTrees))) NoTrees)
 marked (AtScrutinee at) = Made symbol.Integer (AndTree (Made (symbol.Named at) (AndTree (trees.Open 0) (AndTree (trees.Open 0) (AndTree (trees.Open 0) NoTrees)))) NoTrees)
 marked (AtUse at v) = Made symbol.Integer (AndTree (Made (symbol.Rigid at v) NoTrees) NoTrees)
-
-abbrev mark_of : Tree → Key
-mark_of (trees.Open y) = AtBinder y
-mark_of (Made symbol.Integer ts) = AtBinder 0
-mark_of (Made symbol.Arrow ts) = AtBinder 0
-mark_of (Made (symbol.Rigid at v) ts) = AtUse at v
-mark_of (Made (symbol.Named at) NoTrees) = AtBinder at
-mark_of (Made (symbol.Named at) (AndTree t NoTrees)) = AtResult at
-mark_of (Made (symbol.Named at) (AndTree t (AndTree u NoTrees))) = AtBracket at
-mark_of (Made (symbol.Named at) (AndTree t (AndTree u (AndTree v ts)))) = AtScrutinee at
 
 -- a variable as the integers
 abbrev ground : Key → Tree
@@ -51,21 +43,6 @@ abbrev mutual
   trees_with : (Key → Tree) → Types → Trees
   trees_with o NoTypeds = NoTrees
   trees_with o (AndTyped t ts) = AndTree (tree_with o t) (trees_with o ts)
-
-abbrev mutual
-  back : (ℕ → Typed) → Tree → Typed
-  back f (trees.Open y) = f y
-  back f (Made symbol.Integer NoTrees) = Int
-  back f (Made symbol.Integer (AndTree t ts)) = Open (mark_of t)
-  back f (Made (symbol.Rigid g v) ts) = Rigid g v
-  back f (Made (symbol.Named c) ts) = Named c (back_all f ts)
-  back f (Made symbol.Arrow NoTrees) = Int
-  back f (Made symbol.Arrow (AndTree t NoTrees)) = Int
-  back f (Made symbol.Arrow (AndTree t (AndTree u ts))) = Arrow (back f t) (back f u)
-
-  back_all : (ℕ → Typed) → Trees → Types
-  back_all f NoTrees = NoTypeds
-  back_all f (AndTree t ts) = AndTyped (back f t) (back_all f ts)
 
 mutual
   back_with : (f : ℕ → Typed) (t : Typed) → back f (tree_with marked t) ≡ t
@@ -250,10 +227,7 @@ abbrev key_or : Option Key → Key
 key_or None = AtBinder 0
 key_or (Some q) = q
 
--- variables of trees as variables of types, and those that no term stands for aside
-abbrev free : ℕ → Typed
-free y = Open (AtUse y zero)
-
+-- variables that no term stands for, aside from those of trees
 abbrev aside : Key → Key
 aside (AtBinder at) = AtBinder at
 aside (AtResult at) = AtResult at
@@ -266,7 +240,7 @@ moved ρ τ (AtBinder at) = τ (AtBinder at)
 moved ρ τ (AtResult at) = τ (AtResult at)
 moved ρ τ (AtBracket at) = τ (AtBracket at)
 moved ρ τ (AtScrutinee at) = τ (AtScrutinee at)
-moved ρ τ (AtUse at zero) = back free (ρ at)
+moved ρ τ (AtUse at zero) = back variable (ρ at)
 moved ρ τ (AtUse at (suc v)) = τ (AtUse at v)
 
 aside_moved : (ρ : ℕ → Tree) (τ : Substitution) (q : Key) → τ q ≡ moved ρ τ (aside q)
@@ -277,7 +251,7 @@ aside_moved ρ τ (AtScrutinee at) = refl
 aside_moved ρ τ (AtUse at v) = refl
 
 abbrev or_aside : (ℕ → Tree) → Key → Option ℕ → Typed
-or_aside σ q (Some x) = back free (σ x)
+or_aside σ q (Some x) = back variable (σ x)
 or_aside σ q None = Open (aside q)
 
 module _ (n : Nodes) (h : IsSound n) where
@@ -301,7 +275,7 @@ module _ (n : Nodes) (h : IsSound n) where
   abbrev from_trees : (ℕ → Tree) → Substitution
   from_trees σ q = or_aside σ q (place_of q)
 
-  from_fits : (σ : ℕ → Tree) (q : Key) (x : ℕ) → IsVariable n q x → from_trees σ q ≡ back free (σ x)
+  from_fits : (σ : ℕ → Tree) (q : Key) (x : ℕ) → IsVariable n q x → from_trees σ q ≡ back variable (σ x)
   from_fits σ q x e = ap (or_aside σ q) (place_is q x e)
 
   abbrev to_trees : (Key → Tree) → Substitution → ℕ → Tree
@@ -312,7 +286,7 @@ module _ (n : Nodes) (h : IsSound n) where
 
   module _ (cs : List Constraint) (ps : List (ℕ × ℕ)) (s : Stand n cs ps) where
     pub types_solve : (σ : ℕ → Tree) → equal.Solves σ (equations n.terms.items ps) → Solves (from_trees σ) cs
-    types_solve σ e = solves_shown n h σ free (from_trees σ) (from_fits σ) cs ps s e
+    types_solve σ e = solves_shown n h σ variable (from_trees σ) (from_fits σ) cs ps s e
 
     pub trees_solve : (o : Key → Tree) (τ : Substitution) → Solves τ cs → equal.Solves (to_trees o τ) (equations n.terms.items ps)
     trees_solve o τ e = solves_made n h o τ (to_trees o τ) (to_fits o τ) cs ps s e
@@ -334,9 +308,9 @@ module _ (n : Nodes) (h : IsSound n) where
             go (Some x) p =
                 let v = place_has q x p in
                 ap (λ k. τ (key_or k)) (sym v.1)
-                ∙ sym (back_with free (τ (key_at x)))
-                ∙ ap (back free) (m.1 x)
-                ∙ under_back m.0 free free (moved m.0 τ) (λ y. refl) (σ x) (formed_by l.0 (σ x) (τ (key_at x)) (sym (l.1 x)))
+                ∙ sym (back_with variable (τ (key_at x)))
+                ∙ ap (back variable) (m.1 x)
+                ∙ under_back m.0 variable variable (moved m.0 τ) (λ y. refl) (σ x) (formed_by l.0 (σ x) (τ (key_at x)) (sym (l.1 x)))
 
   module _ (cs : List Constraint) (ps : List (ℕ × ℕ)) (s : Stand n cs ps) where
     first_solves : (k : ℕ) (σ : ℕ → Tree) → equal.Solves σ (take k (equations n.terms.items ps)) → Solves (from_trees σ) (take k cs)
@@ -350,3 +324,24 @@ module _ (n : Nodes) (h : IsSound n) where
 
     pub first_there : (i : ℕ) → slice_get cs i ≡ None → equal.IsFirstUnsolved (equations n.terms.items ps) i → ⊥
     first_there i e u = none_solves (suc i) u.none (from_trees u.before) (subst (Solves (from_trees u.before)) (sym (take_past i cs e)) (first_solves i u.before u.solves))
+
+-- ---- the sides of a constraint
+
+stand_at : (n : Nodes) (k : ℕ) (cs : List Constraint) (ps : List (ℕ × ℕ)) → Stand n cs ps → (c : Constraint) (p : ℕ × ℕ) → slice_get cs k ≡ Some c → slice_get ps k ≡ Some p → Denotes n c.left p.0 × Denotes n c.right p.1
+stand_at n k [] ps s c p e f = absurd cc
+stand_at n zero (d ∷ cs) ps s c p e f =
+    let same : d ≡ c = cc in
+    let there : s.0 ≡ p = some_is (ap (λ ps. slice_get ps zero) (sym s.2) ∙ f) in
+    subst (λ (q : ℕ × ℕ). Denotes n c.left q.0 × Denotes n c.right q.1) there (subst (λ (d : Constraint). Denotes n d.left s.0.0 × Denotes n d.right s.0.1) same (s.3, s.4))
+stand_at n (suc k) (d ∷ cs) ps s c p e f = stand_at n k cs s.1 s.5 c p e (ap (λ ps. slice_get ps (suc k)) (sym s.2) ∙ f)
+
+pub sides_shown : (n : Nodes) (h : IsSound n) (cs : List Constraint) (ps : List (ℕ × ℕ)) → Stand n cs ps → (k : ℕ) (c : Constraint) (p : ℕ × ℕ) → slice_get cs k ≡ Some c → slice_get ps k ≡ Some p
+    → (σ : ℕ → Tree) → equal.IsMostGeneral σ (equations n.terms.items (take k ps)) → AreSides (take k cs) c (typed_of (trees.under σ (tree n.terms.items p.0))) (typed_of (trees.under σ (tree n.terms.items p.1)))
+sides_shown n h cs ps s k c p e f σ g =
+    let d = stand_at n k cs ps s c p e f in
+    record {
+      solution = from_trees n h σ;
+      general = types_general n h (take k cs) (take k ps) (stand_take n h k cs ps s) σ g;
+      is_left = sym (shown n h σ variable (from_trees n h σ) (from_fits n h σ) c.left p.0 d.0);
+      is_right = sym (shown n h σ variable (from_trees n h σ) (from_fits n h σ) c.right p.1 d.1);
+    }

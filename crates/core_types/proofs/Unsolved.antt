@@ -1,6 +1,6 @@
 -- What the equations between terms say of the constraints that they stand for.
 use Rattle.std.proofs.Common.{◌≡◌, ℕ, zero, suc, ◌<◌, List, [], ◌∷◌, length, refl, sym, ap, subst, ◌∙◌, Option, Some, None}
-use Rattle.std.specs.Prelude.{slice_get}
+use Rattle.std.specs.Prelude.{MatchOption, slice_get}
 use Rattle.seq.specs.Lists.{here, there}
 use Rattle.unification.specs.Terms.{AreEarlier, AreBelow, equations}
 use Rattle.unification.specs.Solutions as equal
@@ -8,7 +8,7 @@ use Rattle.core_types.specs.declared.nodes.Nodes.{Nodes}
 use Rattle.core_types.specs.declared.building.Builder.{Builder}
 use Rattle.core_types.specs.Typing.{Constraint, Substitution, Solves, IsFirstUnsolved}
 use Rattle.core_types.specs.Nodes.{IsSound, Stand}
-use Rattle.core_types.specs.Building.{Stands, places_of}
+use Rattle.core_types.specs.Building.{Stands, IsFirstIn, places_of}
 use Rattle.core_types.proofs.Denoting.{denotes_below}
 use Rattle.core_types.proofs.Solving.{types_solve, first_is, first_there}
 
@@ -39,14 +39,20 @@ pairs_below b cs s = all_below b.nodes cs b.pairs.items s.pairs
 
 -- ---- what it answers
 
-pub all_solved : (b : Builder) (cs : List Constraint) → IsSound b.nodes → Stands b cs
+all_solved : (b : Builder) (cs : List Constraint) → IsSound b.nodes → Stands b cs
     → (σ : equal.Substitution) × equal.Solves σ (equations b.nodes.terms.items b.pairs.items) → (σ : Substitution) × Solves σ cs
 all_solved b cs h s u = (_, types_solve b.nodes h cs b.pairs.items s.pairs u.0 u.1)
 
-pub one_unsolved : (b : Builder) (cs : List Constraint) → IsSound b.nodes → Stands b cs → (i : ℕ) → equal.IsFirstUnsolved (equations b.nodes.terms.items b.pairs.items) i
+one_unsolved : (b : Builder) (cs : List Constraint) → IsSound b.nodes → Stands b cs → (i : ℕ) → equal.IsFirstUnsolved (equations b.nodes.terms.items b.pairs.items) i
     → (c : Constraint) × IsFirstUnsolved cs i c × (slice_get b.places.items i ≡ Some c.at)
 one_unsolved b cs h s i u = go (slice_get cs i) refl
   where
     go : (o : Option Constraint) → slice_get cs i ≡ o → (c : Constraint) × IsFirstUnsolved cs i c × (slice_get b.places.items i ≡ Some c.at)
     go None e = absurd (first_there b.nodes h cs b.pairs.items s.pairs i e u)
     go (Some c) e = (c, first_is b.nodes h cs b.pairs.items s.pairs i c e u, ap (λ ps. slice_get ps i) (sym s.places) ∙ place_at cs i c e)
+
+pub first_in : (b : Builder) (cs : List Constraint) → IsSound b.nodes → Stands b cs → (o : Option ℕ)
+    → MatchOption o ((σ : equal.Substitution) × equal.Solves σ (equations b.nodes.terms.items b.pairs.items)) (equal.IsFirstUnsolved (equations b.nodes.terms.items b.pairs.items))
+    → IsFirstIn b cs o
+first_in b cs h s None u = all_solved b cs h s u
+first_in b cs h s (Some i) u = one_unsolved b cs h s i u

@@ -7,9 +7,10 @@ use Rattle.arity_check.specs.Tables.{known, first_of, or_else}
 use Rattle.arity_check.specs.Whole.{known_of}
 use Rattle.core_types.specs.declared.context.Context.{Context}
 use Rattle.core_types.specs.declared.building.Builder.{Builder}
+use Rattle.core_types.specs.declared.mismatch.Unsolved.{Unsolved}
 use Rattle.core_types.specs.Source.{Constructor, TypeDecl, Signature, Source, erased}
 use Rattle.core_types.specs.SourceOf.{source_of}
-use Rattle.core_types.specs.Typing.{Typed, Int, Named, AndTyped, NoTypeds, Constraint, Locals, declared_by, function_of, integers, arrows, constraint, head_place, term_type, terms_types}
+use Rattle.core_types.specs.Typing.{Typed, Int, Named, AndTyped, NoTypeds, Constraint, Substitution, Solves, IsFirstUnsolved, Locals, constraints, declared_by, function_of, integers, arrows, constraint, head_place, term_type, terms_types}
 use Rattle.core_types.specs.Typing as typing
 use Rattle.core_types.specs.Nodes.{IsSound, Denotes, Grows, Stand}
 use Rattle.core_types.specs.declared.nodes.Nodes.{Nodes}
@@ -72,6 +73,20 @@ places_of cs = map (λ c. c.at) cs
 pub record Stands (b : Builder) (cs : List Constraint) : Type 0 where
   pub pairs : Stand b.nodes cs b.pairs.items
   pub places : places_of cs ≡ b.places.items
+
+-- this is the number of the first constraint that has no solution with those before it, where there
+-- is one
+abbrev pub IsFirstIn : Builder → List Constraint → Option ℕ → Type 0
+IsFirstIn b cs None = (σ : Substitution) × Solves σ cs
+IsFirstIn b cs (Some i) =
+    (c : Constraint) × IsFirstUnsolved cs i c × (slice_get b.places.items i ≡ Some c.at)
+
+-- The builder holds the constraints of a program, and this is the number of the first that has no
+-- solution with those before it.
+pub record IsUnsolvedOf (s : Source) (u : Unsolved) : Type 0 where
+  pub sound : IsSound u.builder.nodes
+  pub stands : Stands u.builder (constraints s)
+  pub first : IsFirstIn u.builder (constraints s) u.number
 
 -- Pairs were added for these constraints.
 pub record Adds (b b' : Builder) (cs : List Constraint) : Type 0 where

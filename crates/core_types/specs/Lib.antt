@@ -10,6 +10,8 @@ pub mod Typing
 pub mod Nodes
 pub mod Instances
 pub mod Bare
+pub mod Sides
+pub mod Shown
 pub mod Building
 -- what the code keeps, and devices of the proofs
 pub mod SourceOf

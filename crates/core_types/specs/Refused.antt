@@ -9,11 +9,15 @@ use Rattle.arity_check.specs.Program.{program as normal_form}
 use Rattle.arity_check.specs.Refusal as core
 use Rattle.core_types.specs.declared.refusal.TypeFault.{TypeFault}
 use Rattle.core_types.specs.declared.refusal.TypeFault.TheVariants as fault
-use Rattle.core_types.specs.declared.typed.Typed.{Typed}
+use Rattle.core_types.specs.declared.refusal.TypeRefusal.{TypeRefusal}
+use Rattle.core_types.specs.declared.refusal.TypeRefusal.TheVariants as refusal
+use Rattle.core_types.specs.declared.sides.Ty.{Ty}
+use Rattle.core_types.specs.declared.accepted.Typed.{Typed}
 use Rattle.core_types.specs.Source.{Source, erased}
 use Rattle.core_types.specs.Text.{IsText, IsRead, IsFirstUnread}
 use Rattle.core_types.specs.Typing.{Substitution, Solves, constraints}
 use Rattle.core_types.specs.Rules.{IsFirstBroken, IsUnbroken}
+use Rattle.core_types.specs.Sides.{type_of, IsMismatch}
 
 abbrev pub unread_rule : ReadRefusal → ℕ
 unread_rule (unread.BadByte at) = 1
@@ -83,6 +87,29 @@ IsCause text f = IsFirstBrokenText text (rule f) (number f)
 -- The text breaks no rule.
 abbrev pub IsUnbrokenText : List ℕ → Type 0
 IsUnbrokenText text = IsRead text × ((s : Source) → IsText text s → IsUnbroken s)
+
+-- the place at which types do not fit, where that is the fault
+abbrev pub mismatch_in : TypeFault → Option ℕ
+mismatch_in (fault.Unread e) = None
+mismatch_in (fault.Unchecked r) = None
+mismatch_in (fault.DuplicateType at) = None
+mismatch_in (fault.UnknownType at) = None
+mismatch_in (fault.Mismatch at) = Some at
+mismatch_in (fault.NotExhaustive at) = None
+mismatch_in (fault.BadSignature at) = None
+mismatch_in fault.ListType = None
+mismatch_in (fault.Memory e) = None
+
+-- At this place of the text the types of a constraint do not fit, and these are its two sides.
+abbrev pub AreSidesAt : List ℕ → ℕ → Ty → Ty → Type 0
+AreSidesAt text at left right =
+    (s : Source) × IsText text s × IsMismatch s at (type_of left) (type_of right)
+
+-- The refusal names the first rule that the text breaks; where types do not fit, with the sides.
+abbrev pub IsRefusal : List ℕ → TypeRefusal → Type 0
+IsRefusal text (refusal.Mismatch at left right) =
+    IsFirstBrokenText text 83 at × AreSidesAt text at left right
+IsRefusal text (refusal.Fault f) = IsCause text f × (mismatch_in f ≡ None)
 
 -- What was found of a text that stands for a program whose types fit: the program without its types
 -- and its normal form.

@@ -2,8 +2,10 @@
 
 ghost use Rattle.std.specs.Prelude.{◌≡◌, alloc_error};
 ghost use Rattle.core_types.specs.declared.refusal.TypeFault.TheVariants.{Memory};
-ghost use Rattle.core_types.specs.Refused.{rule, number, unread_rule, unread_place, unread_fault};
+ghost use Rattle.core_types.specs.declared.refusal.TypeRefusal.TheVariants.{Fault};
+ghost use Rattle.core_types.specs.Refused.{rule, number, unread_rule, unread_place, unread_fault, mismatch_in};
 
+use crate::sides::Ty;
 use arity_check::refusal::CheckRefusal;
 use core_reader::ReadRefusal;
 use std::alloc::AllocError;
@@ -129,5 +131,39 @@ impl TypeFault {
             | TypeFault::BadSignature(at) => u64::from(*at),
             TypeFault::ListType | TypeFault::Memory(_) => 0,
         }
+    }
+}
+
+/// Why a program with types is refused, with the types of the two sides where they do not fit.
+#[derive(Drop)]
+pub enum TypeRefusal {
+    /// Rule 83: its place, and the types of the two sides as the constraints before leave them.
+    Mismatch(u32, Ty, Ty),
+    /// Another rule, or want of memory.
+    Fault(TypeFault),
+}
+
+impl From<AllocError> for TypeRefusal {
+    ghost from_gives = { λ _ e. e ≡ Fault (Memory alloc_error) };
+
+    fn from(error: AllocError) -> TypeRefusal {
+        TypeRefusal::Fault(TypeFault::Memory(error))
+    }
+}
+
+/// The place at which types do not fit, where that is the fault.
+pub fn mismatch_in(fault: &TypeFault) -> Option<u32>
+    ensures { result ≡ mismatch_in fault.now }
+{
+    match fault {
+        TypeFault::Mismatch(at) => Some(*at),
+        TypeFault::Unread(_)
+        | TypeFault::Unchecked(_)
+        | TypeFault::DuplicateType(_)
+        | TypeFault::UnknownType(_)
+        | TypeFault::NotExhaustive(_)
+        | TypeFault::BadSignature(_)
+        | TypeFault::ListType
+        | TypeFault::Memory(_) => None,
     }
 }

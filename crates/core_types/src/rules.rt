@@ -1,31 +1,26 @@
 //! The rules that a program with types has to keep.
 
-ghost use Rattle.std.specs.Prelude.{◌≡◌, slice_get, IfOk};
+ghost use Rattle.std.specs.Prelude.{◌≡◌, IfOk};
 ghost use Rattle.core_reader.specs.Tree.{program as program_of};
 ghost use Rattle.core_reader.specs.Readable.{IsReadable};
 ghost use Rattle.arity_check.specs.Tables.{known};
 ghost use Rattle.arity_check.specs.Whole.{known_of};
 ghost use Rattle.core_types.specs.Source.{erased};
 ghost use Rattle.core_types.specs.SourceOf.{source_of};
-ghost use Rattle.core_types.specs.Typing.{Int, Named, AndTyped, NoTypeds, integers};
 ghost use Rattle.core_types.specs.Refused.{IsJudged};
-ghost use Rattle.core_types.specs.Found.{declared_first, declared_fault, IsFirstMismatch};
+ghost use Rattle.core_types.specs.Found.{declared_first, declared_fault};
 
-use crate::building::Builder;
-use crate::context::Context;
 use crate::declared::{signatures_again, types_again, unknown_types};
 use crate::exhaustive::partial_cases;
-use crate::functions::constrained;
 use crate::lists::list_type;
+use crate::mismatch::mismatch;
 use crate::places::sooner;
 use crate::refusal::TypeFault;
 use crate::source::Source;
 use arity_check::globals::Globals;
 use arity_check::order::Order;
 use arity_check::program::first_refusal;
-use core_reader::NameId;
 use std::alloc::{AllocError, Global};
-use unification::first_unsolved;
 
 /// The first of the rules 81, 82 and 85 that a program breaks, by place.
 fn declared(
@@ -55,35 +50,6 @@ fn fault(rule: u8, at: u32) -> TypeFault
         return TypeFault::UnknownType(at);
     }
     TypeFault::BadSignature(at)
-}
-
-/// The place of the constraint of this number.
-fn place_of(builder: &Builder, number: usize) -> Option<u32>
-    ensures { result ≡ slice_get builder.now.places.items number }
-{
-    builder.places.as_slice().get(number).copied()
-}
-
-/// The place of the first constraint of a program that has no solution with those before it. Lists
-/// are of the type of this name.
-fn mismatch(
-    alloc: Global,
-    globals: &Globals,
-    source: &Source,
-    lists: NameId,
-) -> Result<Option<u32>, AllocError>
-    requires tables { known globals.now ≡ known_of (erased (source_of source.now)) }
-    requires lists { integers (source_of source.now) ≡ Named lists.0 (AndTyped Int NoTypeds) }
-    ensures { IfOk result (IsFirstMismatch (source_of source.now)) }
-{
-    let context = Context::new(alloc, source, globals, lists)?;
-    let builder = constrained(alloc, &context)?;
-    let pairs = builder.pairs.as_slice();
-    let unsolved = first_unsolved(alloc, builder.nodes.terms.as_slice(), pairs)?;
-    match unsolved {
-        Some(number) => Ok(place_of(&builder, number)),
-        None => Ok(None),
-    }
 }
 
 /// The first rule that a program breaks.

@@ -1,7 +1,7 @@
 -- What the shelf in memory permits.
 use Rattle.std.proofs.Common.{ℕ, List, Option, Some, None}
 use Rattle.std.specs.Prelude.{IfSome}
-use Rattle.command_line.specs.Commands.{CommandLine, RunFile, CheckFile, ListFile, BuildFile, ExecImage, GenRun, LinkFiles, LiftFile, MatchFile, TypesFile}
+use Rattle.command_line.specs.Commands.{CommandLine, RunFile, CheckFile, ListFile, BuildFile, ExecImage, GenRun, LinkFiles, LiftFile, MatchFile, TypesFile, SidesFile}
 use Rattle.grin_driver.specs.Answer.{OfNamed}
 
 -- it permits every name, so that of every command
@@ -17,3 +17,4 @@ any_command (Some (LinkFiles files)) = λ file h. tt
 any_command (Some (LiftFile file)) = tt
 any_command (Some (MatchFile file)) = tt
 any_command (Some (TypesFile file)) = tt
+any_command (Some (SidesFile file)) = tt

@@ -1,7 +1,8 @@
-//! Texts with types: the text of Core that is written, what a run of it puts out, and the refusals of
-//! the others.
+//! Texts with types: the text of Core that is written, what a run of it puts out, the refusals of
+//! the others, and the two sides where types do not fit.
 
 use crate::outside::{Object, Outside, written_and_run};
+use std::alloc::{AllocError, Global};
 use std::test::Fail;
 
 /// The type of lists, 37 bytes.
@@ -89,6 +90,111 @@ fn failures_while_typing(rt: HostRuntime) -> Result<(), Fail> {
         };
         let shown = outside.run(rt.alloc(), &["grinc", "types", "a"])?;
         assert!(rt; shown.is(code, "", err), "{call}");
+    }
+    Ok(())
+}
+
+#[test]
+fn two_sides(rt: HostRuntime) -> Result<(), Fail> {
+    let rows = [
+        ("main = Cons 72 Nil;", ""),
+        (
+            "id x = x; main = Cons (id 65) (id Nil);",
+            "Int -> Int and List v0 -> List Int\n",
+        ),
+        ("f x = x x; main = Nil;", "v0 and v0 -> v1\n"),
+        ("sig f : a -> b; f x = x; main = Nil;", "v0 and v1\n"),
+        (
+            "main = Cons (Cons 1 Nil) Nil;",
+            "v0 -> List v0 -> List v0 and Int -> List v1 -> Int\n",
+        ),
+        ("sig main : a; main = Nil;", "v0 and List Int\n"),
+        (
+            "sig f : (Int -> Int) -> Int; f g = 1; main = Cons (f Nil) Nil;",
+            "(Int -> Int) -> Int and List v0 -> Int\n",
+        ),
+        (
+            "sig f : (List (List Int)) -> Int; f x = x; main = Nil;",
+            "List (List Int) and Int\n",
+        ),
+    ];
+    for (text, wanted) in rows {
+        let whole = format!(in rt.alloc(); "{LIST}{text}")?;
+        let shown = Outside::of(whole.as_bytes()).run(rt.alloc(), &["grinc", "sides", "a"])?;
+        assert!(rt; shown.is(0, wanted, ""), "{text}");
+    }
+    Ok(())
+}
+
+#[test]
+fn sides_under_another_rule(rt: HostRuntime) -> Result<(), Fail> {
+    let rows = [
+        ("data T 0; main = Nil;", "2 at 37"),
+        ("main = foo;", "14 at 44"),
+        ("type T a a = T a; main = Nil;", "81 at 46"),
+        ("main = case Nil of { Nil -> Nil };", "84 at 58"),
+    ];
+    for (text, rule) in rows {
+        let whole = format!(in rt.alloc(); "{LIST}{text}")?;
+        let err = format!(in rt.alloc(); "grinc: refused {rule}\n")?;
+        let shown = Outside::of(whole.as_bytes()).run(rt.alloc(), &["grinc", "sides", "a"])?;
+        assert!(rt; shown.is(1, "", err.as_str()), "{rule}");
+    }
+    Ok(())
+}
+
+/// Pairs of which each holds the one before it twice, before what `main` gives: the type of the last
+/// one, `x60`, is written with 2^60 names.
+fn pairs(alloc: Global) -> Result<String, AllocError> {
+    let mut text = format!(in alloc; "{LIST}type Pair a b = Pair a b; main = let x0 = 1")?;
+    for k in 0..60u32 {
+        let next = k + 1;
+        write!(text, "; x{next} = Pair x{k} x{k}")?;
+    }
+    text.push_str(" in ")?;
+    Ok(text)
+}
+
+#[test]
+fn large_sides(rt: HostRuntime) -> Result<(), Fail> {
+    let mut text = pairs(rt.alloc())?;
+    let place = text.len();
+    text.push_str("x60;")?;
+    let outside = Outside::of(text.as_bytes());
+    let err = format!(in rt.alloc(); "grinc: refused 83 at {place}\n")?;
+    let refused = outside.run(rt.alloc(), &["grinc", "types", "a"])?;
+    assert!(rt; refused.is(1, "", err.as_str()), "the place");
+    let shown = outside.run(rt.alloc(), &["grinc", "sides", "a"])?;
+    assert!(rt; shown.is(8, "", "grinc: out of memory\n"), "the sides");
+    Ok(())
+}
+
+/// A side that is nested so deep: each of the members of a group is in 64 more lists.
+fn nested(alloc: Global, members: u32) -> Result<String, AllocError> {
+    let mut text = format!(in alloc; "{LIST}sig f : a -> ")?;
+    for _ in 0..64 {
+        text.push_str("(List ")?;
+    }
+    text.push_str("a")?;
+    for _ in 0..64 {
+        text.push_str(")")?;
+    }
+    text.push_str("; f x = f x; main = let x0 = 1")?;
+    for k in 0..members {
+        let next = k + 1;
+        write!(text, "; x{next} = f x{k}")?;
+    }
+    write!(text, " in Cons x{members} Nil;")?;
+    Ok(text)
+}
+
+#[test]
+fn deep_sides(rt: HostRuntime) -> Result<(), Fail> {
+    let rows = [(63, 0, ""), (64, 8, "grinc: out of memory\n")];
+    for (members, code, err) in rows {
+        let text = nested(rt.alloc(), members)?;
+        let shown = Outside::of(text.as_bytes()).run(rt.alloc(), &["grinc", "sides", "a"])?;
+        assert!(rt; shown.ends(code, err), "{members}");
     }
     Ok(())
 }

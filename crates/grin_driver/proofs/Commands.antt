@@ -1,7 +1,7 @@
 -- What a command line gives where nothing failed, and what it leaves where memory is wanting.
 use Rattle.std.proofs.Common.{◌≡◌, ℕ, List, Option, Some, None, refl}
 use mathlib.Core.Logic.{◌⊎◌, inl, inr}
-use Rattle.command_line.specs.Commands.{CommandLine, RunFile, CheckFile, ListFile, BuildFile, ExecImage, GenRun, LinkFiles, LiftFile, MatchFile, TypesFile}
+use Rattle.command_line.specs.Commands.{CommandLine, RunFile, CheckFile, ListFile, BuildFile, ExecImage, GenRun, LinkFiles, LiftFile, MatchFile, TypesFile, SidesFile}
 use Rattle.command_line.specs.declared.command.Listing.{Listing}
 use Rattle.command_line.specs.declared.command.Listing.TheVariants as listing
 use Rattle.generator.specs.Generated.{generated}
@@ -16,13 +16,13 @@ use Rattle.grin_driver.specs.Building.{Builds}
 use Rattle.text_commands.specs.Linking.{Links}
 use Rattle.text_commands.specs.Lifting.{Lifts}
 use Rattle.text_commands.specs.Matching.{Matches}
-use Rattle.text_commands.specs.Typing.{Types}
+use Rattle.text_commands.specs.Typing.{Types, Sides}
 use Rattle.text_commands.specs.Checking.{Checks}
 use Rattle.grin_driver.specs.Execution.{IsUntouched, Execution}
 use Rattle.grin_driver.specs.Outcome.{Outcome}
 use Rattle.text_commands.specs.Text.{OneAccepted}
 use Rattle.grin_driver.specs.Completeness.{Or, NothingFailed, Gives}
-use Rattle.text_commands.proofs.Gives.{check_gives, link_gives, lift_gives, match_gives, types_gives}
+use Rattle.text_commands.proofs.Gives.{check_gives, link_gives, lift_gives, match_gives, types_gives, sides_gives}
 use Rattle.grin_driver.proofs.Complete.{list_gives, build_gives, generation_gives, exec_gives, run_gives}
 
 module _ {F I K : Type 0} (f : ShelfChange F) (i : SourceChange I) (o : SinkChange K) where
@@ -73,6 +73,8 @@ module _ {F I K : Type 0} (f : ShelfChange F) (i : SourceChange I) (o : SinkChan
         of_bytes most_of_text (o.new ≡ o.old) file (λ text status. Matches o text status) status _ (λ text. match_gives o n.out text status) h.0
     command_gives one (Some (TypesFile file)) status h =
         of_bytes most_of_text (o.new ≡ o.old) file (λ text status. Types o text status) status _ (λ text. types_gives o n.out text status) h.0
+    command_gives one (Some (SidesFile file)) status h =
+        of_bytes most_of_text (o.new ≡ o.old) file (λ text status. Sides o text status) status _ (λ text. sides_gives o n.out text status) h.0
 
   -- ---- want of memory
 
@@ -115,3 +117,5 @@ module _ {F I K : Type 0} (f : ShelfChange F) (i : SourceChange I) (o : SinkChan
   memory_untouched (Some (MatchFile file)) (inr h, same) = h.2
   memory_untouched (Some (TypesFile file)) (inl h, same) = h.1
   memory_untouched (Some (TypesFile file)) (inr h, same) = h.2
+  memory_untouched (Some (SidesFile file)) (inl h, same) = h.1
+  memory_untouched (Some (SidesFile file)) (inr h, same) = h.2

@@ -7,7 +7,7 @@ use Rattle.std.specs.Str.Parse.{digits_value}
 use Rattle.std.proofs.lemmas.Bool.Decides.{nat_tests}
 use Rattle.command_line.specs.Numbers.{is_number}
 use Rattle.command_line.specs.Parts.{Part, parts_of}
-use Rattle.command_line.specs.Commands.{CommandLine, RunFile, CheckFile, ListFile, BuildFile, ExecImage, GenRun, LinkFiles, LiftFile, MatchFile, TypesFile, Form, Given, option_number, cells_of, stack_of, steps_of, run_form, file_form, check_form, list_form, build_form, exec_form, gen_form, lift_form, match_form, types_form, link_form, of_operand, without_operand, asked, command_from, command_of, operands, values, takes_only, only, is_empty, seed_of, size_of}
+use Rattle.command_line.specs.Commands.{CommandLine, RunFile, CheckFile, ListFile, BuildFile, ExecImage, GenRun, LinkFiles, LiftFile, MatchFile, TypesFile, SidesFile, Form, Given, option_number, cells_of, stack_of, steps_of, run_form, file_form, check_form, list_form, build_form, exec_form, gen_form, lift_form, match_form, types_form, sides_form, link_form, of_operand, without_operand, asked, command_from, command_of, operands, values, takes_only, only, is_empty, seed_of, size_of}
 use Rattle.grin_driver.specs.Answer.{IsWithin}
 
 -- ---- of what may be none
@@ -102,7 +102,8 @@ from_within name parts =
     (some_either IsWithin (bytes_eq name (codes "gen")) _ _ (asked_within parts gen_form gens_within)
     (some_either IsWithin (bytes_eq name (codes "lift")) _ _ (asked_within parts lift_form (files_within LiftFile (λ file. tt)))
     (some_either IsWithin (bytes_eq name (codes "match")) _ _ (asked_within parts match_form (files_within MatchFile (λ file. tt)))
-    (some_either IsWithin (bytes_eq name (codes "types")) _ None (asked_within parts types_form (files_within TypesFile (λ file. tt))) tt)))))))))
+    (some_either IsWithin (bytes_eq name (codes "types")) _ _ (asked_within parts types_form (files_within TypesFile (λ file. tt)))
+    (some_either IsWithin (bytes_eq name (codes "sides")) _ None (asked_within parts sides_form (files_within SidesFile (λ file. tt))) tt))))))))))
 
 commands_within : (words : List (List ℕ)) → IfSome (command_of words) IsWithin
 commands_within [] = tt

@@ -7,7 +7,6 @@ use Rattle.core_reader.specs.Tree as tree
 use Rattle.core_reader.specs.RulesOf as reading
 use Rattle.core_reader.proofs.Unbroken.{unbroken_is_readable}
 use Rattle.core_print.specs.Canonical.{canonical}
-use Rattle.core_print.specs.Depth.{program_depth}
 use Rattle.core_print.specs.Same.{SameProgram}
 use Rattle.core_print.specs.Laws.{CanonicalStands}
 use Rattle.core_types.specs.Source.{erased}
@@ -21,6 +20,7 @@ use Rattle.headline.specs.Carries.{no_alternative, Told, Machine, IsBytes, Finis
 use Rattle.type_meaning.specs.Laws.{NeverStuck}
 use Rattle.text_commands.specs.Text.{IsAccepted}
 use Rattle.text_commands.specs.Typing.{IsTypedText}
+use Rattle.text_commands.proofs.Shallow.{shallow}
 use Rattle.grin_driver.specs.Outcome.{IsImageOf}
 use Rattle.grin_driver.specs.TypedRuns.{TypedNeverExits}
 use Rattle.grin_driver.proofs.Outcomes.{carried}
@@ -50,17 +50,17 @@ accepted_is_short text read = elim (le_or_lt (length text) 1048576) [
 ]
 
 -- the written text stands for a program that puts out what the one with types does
-written_is_never_stuck : OneNormalForm → CanonicalStands → (text written : List ℕ) (typed : IsTypedText text written) → program_depth (erased typed.source) ≤ 200
+written_is_never_stuck : OneNormalForm → CanonicalStands → (text written : List ℕ) (typed : IsTypedText text written)
     → (source : tree.Program) (p : Program) → IsAccepted written source p → NeverStuck p
-written_is_never_stuck one stands text written typed shallow source p accepted i n stuck =
+written_is_never_stuck one stands text written typed source p accepted i n stuck =
     let erased_program = erased typed.source in
     let canonical_text : IsText (canonical erased_program) source = subst (λ w. IsText w source) typed.is_canonical accepted.stands in
     let short : length (canonical erased_program) ≤ 1048576 = subst (λ w. length w ≤ 1048576) typed.is_canonical (accepted_is_short written accepted.read) in
-    let same : SameProgram erased_program source = (stands erased_program typed.readable short shallow).no_other source canonical_text in
+    let same : SameProgram erased_program source = (stands erased_program typed.readable short (shallow text typed.source typed.unbroken.0 typed.stands)).no_other source canonical_text in
     let readable = unbroken_is_readable written source accepted.read accepted.stands in
     let alike = same_programs_print_the_same one erased_program source same typed.readable readable typed.program p typed.normal accepted.normal i n in
     typed.never_stuck i n (ap (λ t. t.end) alike ∙ stuck)
 
 pub typed_never_exits : OneNormalForm → CanonicalStands → TypedNeverExits
-typed_never_exits one stands text written typed shallow cells stack file from image loads =
-    never_exits_with_3 _ _ from.program _ (written_is_never_stuck one stands text written typed shallow from.source from.program from.accepted) (carried written cells stack file from image loads)
+typed_never_exits one stands text written typed cells stack file from image loads =
+    never_exits_with_3 _ _ from.program _ (written_is_never_stuck one stands text written typed from.source from.program from.accepted) (carried written cells stack file from image loads)

@@ -1,6 +1,6 @@
 -- What each status says of the words of a command line.
 use Rattle.std.specs.Prelude.{◌≡◌, ℕ, List, Option, Some, None}
-use Rattle.command_line.specs.Commands.{CommandLine, RunFile, CheckFile, ListFile, BuildFile, ExecImage, GenRun, LinkFiles, LiftFile, MatchFile, TypesFile}
+use Rattle.command_line.specs.Commands.{CommandLine, RunFile, CheckFile, ListFile, BuildFile, ExecImage, GenRun, LinkFiles, LiftFile, MatchFile, TypesFile, SidesFile}
 use Rattle.grin_io.specs.Changes.{ShelfChange, SourceChange, SinkChange}
 use Rattle.text_commands.specs.declared.status.Status.{Status}
 use Rattle.text_commands.specs.declared.status.Status.TheVariants.{Usage}
@@ -15,7 +15,7 @@ use Rattle.grin_driver.specs.Execution.{IsUntouched, Execution}
 use Rattle.text_commands.specs.Linking.{Links}
 use Rattle.text_commands.specs.Lifting.{Lifts}
 use Rattle.text_commands.specs.Matching.{Matches}
-use Rattle.text_commands.specs.Typing.{Types}
+use Rattle.text_commands.specs.Typing.{Types, Sides}
 use Rattle.generator.specs.Generated.{generated}
 use Rattle.grin_driver.specs.Generating.{Generates}
 
@@ -35,6 +35,7 @@ OfNamed Holds (LinkFiles files) = OfEach Holds files
 OfNamed Holds (LiftFile file) = Holds file
 OfNamed Holds (MatchFile file) = Holds file
 OfNamed Holds (TypesFile file) = Holds file
+OfNamed Holds (SidesFile file) = Holds file
 
 -- what `run` and `build` ask of an image is within the limits
 abbrev pub IsWithin : CommandLine → Type 0
@@ -80,3 +81,5 @@ module _ {F I K : Type 0} (f : ShelfChange F) (i : SourceChange I) (o : SinkChan
       FromText file (λ text status. Matches o text status) status
   Answers (Some (TypesFile file)) status =
       FromText file (λ text status. Types o text status) status
+  Answers (Some (SidesFile file)) status =
+      FromText file (λ text status. Sides o text status) status

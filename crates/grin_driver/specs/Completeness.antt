@@ -9,7 +9,7 @@ use Rattle.lambda_lift.specs.Rules as lifting
 use Rattle.match_compile.specs.Rules as matching
 use Rattle.core_types.specs.Refused as typing
 use Rattle.elf32.specs.Rules.{KeepsBelow}
-use Rattle.command_line.specs.Commands.{CommandLine, RunFile, CheckFile, ListFile, BuildFile, ExecImage, GenRun, LinkFiles, LiftFile, MatchFile, TypesFile}
+use Rattle.command_line.specs.Commands.{CommandLine, RunFile, CheckFile, ListFile, BuildFile, ExecImage, GenRun, LinkFiles, LiftFile, MatchFile, TypesFile, SidesFile}
 use Rattle.command_line.specs.declared.command.Listing.{Listing}
 use Rattle.command_line.specs.declared.command.Listing.TheVariants.{Read, Translate}
 use Rattle.generator.specs.Generated.{generated}
@@ -20,6 +20,7 @@ use Rattle.text_commands.specs.declared.status.Status.{Status}
 use Rattle.text_commands.specs.declared.status.Status.TheVariants.{Done, Refused, Usage, NoAlternative, HeapFull, StackFull, StepLimit, Exited, Trapped, OutOfMemory}
 use Rattle.text_commands.specs.Text.{IsAccepted, IsAcceptable}
 use Rattle.text_commands.specs.Operands.{OfFile, OfFiles, most_of_text}
+use Rattle.text_commands.specs.Typing.{HasSides}
 use Rattle.grin_driver.specs.Answer.{most_of_image}
 
 -- ---- texts
@@ -102,3 +103,5 @@ module _ {F : Type 0} (f : ShelfChange F) where
       Or f most_of_text file status (λ text. matching.IsUnbroken text → status ≡ Done)
   Gives (Some (TypesFile file)) status =
       Or f most_of_text file status (λ text. typing.IsUnbrokenText text → status ≡ Done)
+  Gives (Some (SidesFile file)) status =
+      Or f most_of_text file status (λ text. HasSides text → status ≡ Done)

@@ -1,7 +1,5 @@
 -- No image of a text that `types` wrote ends for want of an alternative.
-use Rattle.std.specs.Prelude.{◌≢◌, ℕ, ◌≤◌, List}
-use Rattle.core_print.specs.Depth.{program_depth}
-use Rattle.core_types.specs.Source.{erased}
+use Rattle.std.specs.Prelude.{◌≢◌, ℕ, List}
 use Rattle.elf32.specs.Image.{Image}
 use Rattle.elf32.specs.Rules.{Loads}
 use Rattle.headline.specs.Carries.{IsBytes, exits}
@@ -9,13 +7,11 @@ use Rattle.rv32_steps.specs.Seen.{seen}
 use Rattle.text_commands.specs.Typing.{IsTypedText}
 use Rattle.grin_driver.specs.Outcome.{IsImageOf}
 
--- Let an image be made of the text that was written for one with types, of which no more than 200
--- constructs are open at one place. Whatever it loads as never exits with 3: on no input, and after
--- no number of steps.
+-- Let an image be made of the text that was written for one with types. Whatever it loads as never
+-- exits with 3: on no input, and after no number of steps.
 abbrev pub TypedNeverExits : Type 0
 TypedNeverExits =
-    (text written : List ℕ) (typed : IsTypedText text written)
-    → program_depth (erased typed.source) ≤ 200
+    (text written : List ℕ) → IsTypedText text written
     → (cells stack : ℕ) (file : List ℕ) → IsImageOf written cells stack file
     → (image : Image) → Loads file image
     → (i : List ℕ) → IsBytes i → (m : ℕ) → (seen image i m).finish ≢ exits 3

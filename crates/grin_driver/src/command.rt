@@ -36,6 +36,7 @@ use text_commands::laws::one_accepted_program;
 use text_commands::lift::Lift;
 use text_commands::operands::{check_file, link_files};
 use text_commands::reading::{MOST_OF_TEXT, read_file};
+use text_commands::sides::Sides;
 use text_commands::status::Status;
 use text_commands::types::Types;
 use text_commands::writing::write_file;
@@ -188,6 +189,7 @@ fn run_command<F: Shelf, I: Source, K: Sink>(
         Command::Lift { file } => write_file(alloc, &Lift, file, shelf, out),
         Command::Match { file } => write_file(alloc, &Equations, file, shelf, out),
         Command::Types { file } => write_file(alloc, &Types, file, shelf, out),
+        Command::Sides { file } => write_file(alloc, &Sides, file, shelf, out),
     }
 }
 
@@ -218,9 +220,9 @@ fn run_line<F: Shelf, I: Source, K: Sink>(
 /// `list FILE` lists it, `build FILE` puts its image, and `exec IMAGE` runs an executable on the
 /// input; `gen` runs a generated text and puts its summary, `link FILE..` puts the text that
 /// modules are together, `lift FILE` the text of Core that a text with lambdas and local functions
-/// stands for, `match FILE` that of a text of equations, and `types FILE` that of a text with types,
-/// which fit. A file is read to its end, or up to the first byte past the longest one. A fault of
-/// `err` changes no status.
+/// stands for, `match FILE` that of a text of equations, `types FILE` that of a text with types,
+/// which fit, and `sides FILE` the two sides where they do not. A file is read to its end, or up to
+/// the first byte past the longest one. A fault of `err` changes no status.
 pub fn grinc_main<F: Shelf, I: Source, K: Sink, E: Sink>(
     alloc: Global,
     line: &Line,

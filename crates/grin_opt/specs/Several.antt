@@ -7,6 +7,7 @@ use Rattle.case_simplify.specs.Simplified.{Simplified}
 use Rattle.copy_prop.specs.Copied.{Copied}
 use Rattle.flat_blocks.specs.Flattened.{Flattened}
 use Rattle.known_words.specs.KnownWords.{KnownWords}
+use Rattle.narrow_vectors.specs.NarrowVectors.{NarrowVectors}
 use Rattle.own_cells.specs.Unknown.{FetchesAnew}
 
 -- what two passes make, one after the other, by what each of them makes
@@ -26,10 +27,19 @@ pub record MadeBy (Passes : Program → Program → Type 0) (g h : Program) : Ty
 abbrev pub Tidied : Program → Program → Type 0
 Tidied = Then Simplified (Then Flattened Copied)
 
--- literals stand for the words that are known; and then the program is tidied
-abbrev pub OfKnownWords : Program → Program → Type 0
-OfKnownWords = MadeBy (Then KnownWords Tidied)
+-- the same, and before the copies go, no word of a vector stays that nobody reads
+abbrev pub Narrowed : Program → Program → Type 0
+Narrowed = Then Simplified (Then Flattened (Then NarrowVectors Copied))
 
--- no word is fetched from a cell of the procedure's own that is known to hold it; and then likewise
+-- literals stand for the words that are known; and then the program is tidied
+abbrev pub Settled : Program → Program → Type 0
+Settled = Then KnownWords Tidied
+
+-- twice: more is known of what alternatives give once the literals stand there
+abbrev pub OfKnownWords : Program → Program → Type 0
+OfKnownWords = MadeBy (Then Settled Settled)
+
+-- no word is fetched from a cell of the procedure's own that is known to hold it; and then the
+-- program is tidied, without the words of vectors that nobody reads
 abbrev pub OfOwnCells : Program → Program → Type 0
-OfOwnCells = MadeBy (Then FetchesAnew Tidied)
+OfOwnCells = MadeBy (Then FetchesAnew Narrowed)

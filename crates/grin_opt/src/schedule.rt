@@ -6,7 +6,7 @@ ghost use Rattle.grin_meaning.specs.Keeps.{Keeps};
 ghost use Rattle.pass_ground.specs.Vectors.{OfVectors};
 ghost use Rattle.case_simplify.specs.Simplified.{Simplified};
 ghost use Rattle.copy_prop.specs.Copied.{Copied};
-ghost use Rattle.grin_opt.specs.Several.{MadeBy, Tidied, OfKnownWords, OfOwnCells};
+ghost use Rattle.grin_opt.specs.Several.{MadeBy, Tidied, Narrowed, Settled, OfKnownWords, OfOwnCells};
 ghost use Rattle.grin_opt.specs.Schedule.{IsAfterInlining, IsTaken, IsOfStage, Takes, before, IsPassedBy, IsOptimised};
 
 use crate::pass::PassName;
@@ -19,6 +19,7 @@ use flat_blocks::Flatten;
 use grin_meaning::Pass;
 use grin_syntax::Grin;
 use known_words::KnownWords;
+use narrow_vectors::NarrowVectors;
 use own_cells::Remember;
 use std::alloc::{AllocError, Global};
 use unbox::Unbox;
@@ -58,14 +59,38 @@ fn tidied(alloc: Global, g: Grin) -> Result<Grin, AllocError>
     Ok(made)
 }
 
+// The same, and words of vectors that nobody reads go before the copies do.
+fn narrowed(alloc: Global, g: Grin) -> Result<Grin, AllocError>
+    requires { OfVectors (program_of g) }
+    ensures shape { IfOk result (λ h. MadeBy Narrowed (program_of g) (program_of h)) }
+    ensures meaning { IfOk result (λ h. Keeps (program_of g) (program_of h)) }
+{
+    let simple = simplified(alloc, g)?;
+    let flat = Flatten.apply(alloc, simple)?;
+    let narrow = NarrowVectors.apply(alloc, flat)?;
+    let made = copied(alloc, narrow)?;
+    Ok(made)
+}
+
 // Literals for the words that are known, and then what they settle.
+fn settled(alloc: Global, g: Grin) -> Result<Grin, AllocError>
+    requires { OfVectors (program_of g) }
+    ensures shape { IfOk result (λ h. MadeBy Settled (program_of g) (program_of h)) }
+    ensures meaning { IfOk result (λ h. Keeps (program_of g) (program_of h)) }
+{
+    let known = KnownWords.apply(alloc, g)?;
+    let made = tidied(alloc, known)?;
+    Ok(made)
+}
+
+// The same twice: more is known of what alternatives give once the literals stand there.
 fn with_literals(alloc: Global, g: Grin) -> Result<Grin, AllocError>
     requires { OfVectors (program_of g) }
     ensures shape { IfOk result (λ h. OfKnownWords (program_of g) (program_of h)) }
     ensures meaning { IfOk result (λ h. Keeps (program_of g) (program_of h)) }
 {
-    let known = KnownWords.apply(alloc, g)?;
-    let made = tidied(alloc, known)?;
+    let once = settled(alloc, g)?;
+    let made = settled(alloc, once)?;
     Ok(made)
 }
 
@@ -76,7 +101,7 @@ fn without_own_fetches(alloc: Global, g: Grin) -> Result<Grin, AllocError>
     ensures meaning { IfOk result (λ h. Keeps (program_of g) (program_of h)) }
 {
     let remembered = Remember.apply(alloc, g)?;
-    let made = tidied(alloc, remembered)?;
+    let made = narrowed(alloc, remembered)?;
     Ok(made)
 }
 

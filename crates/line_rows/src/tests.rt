@@ -250,6 +250,13 @@ fn other_lines(rt: HostRuntime) -> Result<(), Fail> {
         ),
         ("grinc types --after read a", None),
         ("grinc types a b", None),
+        ("grinc sides a", Some(Command::Sides { file: "a" })),
+        (
+            "grinc sides -- sides",
+            Some(Command::Sides { file: "sides" }),
+        ),
+        ("grinc sides --after read a", None),
+        ("grinc sides a b", None),
         ("grinc type a", None),
         ("grinc check --steps=1 a", None),
         ("grinc check --heap 1 a", None),

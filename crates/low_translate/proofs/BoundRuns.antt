@@ -21,8 +21,9 @@ use Rattle.low_code.specs.Values.{need, with_var}
 use Rattle.low_code.specs.Run as low_run
 use Rattle.low_code.specs.Run.{Calls, code}
 use Rattle.low_translate.specs.Translation.{taken, stores}
+use Rattle.low_translate.specs.Writes.{cells_write, procs_write, reach}
 use Rattle.low_translate.specs.Lowered.{ValRanged}
-use Rattle.low_translate.proofs.Images.{images, words_of_value, fit, length_fit, cell_image, world_image, zeros, SoundNode, SoundValue, SoundWorld}
+use Rattle.low_translate.proofs.Images.{images, words_of_value, fit, length_fit, cell_image, world_image, zeros, SoundCell, SoundValue, SoundWorld}
 use Rattle.low_translate.proofs.Operands.{bound, with_vars_bound, Agrees, agrees_alike, agrees_more, agrees_var}
 use Rattle.low_translate.proofs.Stored.{Placed, placed, stores_run, taken_run}
 use Rattle.low_translate.proofs.Bindings.{bindings_are, target_many, agrees_target}
@@ -114,7 +115,7 @@ module _ (g : grin_tree.Program) (p : low_tree.Program) (fw : ℕ → ℕ) (most
   -- ---- new cells
 
   module _ (same_width : p.width ≡ width) (P : Value → Type 0) (k : ℕ) (cs : List C.Cell) (d : ℕ) (b : Code) (c : low_tree.Code) where
-    module _ (scope : List ℕ) (env : grin.Env) (e : low.Env) (w : grin.World) (frames : ℕ) (h : At scope env e w frames) (once : (x : ℕ) → times x (cell_vars cs) ≤ 1) (lts : AllOf (λ x. x < first) (cell_vars cs)) (nn : AllOf (λ c. NoNodeVar c.val) cs) (r : AllOf (λ c. ValRanged c.val) cs) where
+    module _ (scope : List ℕ) (env : grin.Env) (e : low.Env) (w : grin.World) (frames : ℕ) (h : At scope env e w frames) (once : (x : ℕ) → times x (cell_vars cs) ≤ 1) (lts : AllOf (λ x. x < first) (cell_vars cs)) (nn : AllOf (λ c. NoNodeVar c.val) cs) (r : AllOf (λ c. ValRanged c.val) cs) (few : cells_write cs ≤ procs_write g.procs) where
       abbrev pub env' : grin.Env
       env' = with_vars (grin_run.places (length w.cells) cs) env
 
@@ -131,36 +132,36 @@ module _ (g : grin_tree.Program) (p : low_tree.Program) (fw : ℕ → ℕ) (most
       many = length-map w.cells (λ c. cell_image width c.node)
 
       -- the variables are set, and the cells are empty
-      taken_step : does e (taken (cell_vars cs) (stores width cs c)) (world_image width frames w) ≡ does e' (stores width cs c) (record (world_image width frames w) { cells = old ++ replicate (length cs) (zeros width) })
+      taken_step : does e (taken (cell_vars cs) (stores (reach g) cs c)) (world_image width frames w) ≡ does e' (stores (reach g) cs c) (record (world_image width frames w) { cells = old ++ replicate (length cs) (zeros width) })
       taken_step =
-          taken_run g p fw same_globals width wide free lcalls top under (cell_vars cs) e (stores width cs c) (world_image width frames w) refl
-          ∙ (λ i. does (bound (cell_vars cs) (low_run.places (many i) (cell_vars cs)) e) (stores width cs c) (record (world_image width frames w) { cells = old ++ replicate (length-map cs (λ c. c.var.0) i) (replicate (same_width i) (low.number 0)) }))
+          taken_run g p fw same_globals width wide free lcalls top under (cell_vars cs) e (stores (reach g) cs c) (world_image width frames w) refl
+          ∙ (λ i. does (bound (cell_vars cs) (low_run.places (many i) (cell_vars cs)) e) (stores (reach g) cs c) (record (world_image width frames w) { cells = old ++ replicate (length-map cs (λ c. c.var.0) i) (replicate (same_width i) (low.number 0)) }))
 
       pub stores_go : (hs : List HeapCell) → cells_of g env' cs ≡ Some hs → all_fill g env' cs ≡ true
           → ((w' : grin.World) → At (cell_vars cs ++ scope) env' e' w' frames → Matches P k (code_by g gcalls true env' d b w') (does e' c (world_image width frames w')))
-          → Matches P k (code_by g gcalls true env' d b (passing env' (grin_run.with_cells hs w))) (does e (taken (cell_vars cs) (stores width cs c)) (world_image width frames w))
+          → Matches P k (code_by g gcalls true env' d b (passing env' (grin_run.with_cells hs w))) (does e (taken (cell_vars cs) (stores (reach g) cs c)) (world_image width frames w))
       stores_go hs q f rest =
           let next : grin.World = passing env' (grin_run.with_cells hs w) in
           let run = stores_run g p fw same_globals width wide free lcalls top under first (cell_vars cs ++ scope) env' e' agrees' cs hs old c (world_image width frames w) q f nn r
-          (subst (λ a. Placed e' a cs) (sym many) (placed cs (length w.cells) e once)) in
-          let path : does e (taken (cell_vars cs) (stores width cs c)) (world_image width frames w) ≡ does e' c (world_image width frames next) =
+          (subst (λ a. Placed e' a cs) (sym many) (placed cs (length w.cells) e once)) few in
+          let path : does e (taken (cell_vars cs) (stores (reach g) cs c)) (world_image width frames w) ≡ does e' c (world_image width frames next) =
           taken_step ∙ run.0 ∙ (λ i. does e' c (record (world_image width frames w) { cells = sym (map_append (λ c. cell_image width c.node) w.cells hs) i })) in
           subst (Matches P k (code_by g gcalls true env' d b next)) (sym path) (rest next (record {
             agrees = agrees';
-            sound = record { cells = all_append (λ c. SoundNode g c.node) w.cells hs h.sound.cells run.1; bytes = h.sound.bytes };
+            sound = record { cells = all_append (λ c. SoundCell g c.node) w.cells hs h.sound.cells run.1; bytes = h.sound.bytes };
             within = h.within;
           }))
 
       pub store_runs : ((env' : grin.Env) (e' : low.Env) (w' : grin.World) → At (cell_vars cs ++ scope) env' e' w' frames → Matches P k (code_by g gcalls true env' d b w') (does e' c (world_image width frames w')))
-          → Matches P k (code_by g gcalls true env d (store cs b) w) (does e (taken (cell_vars cs) (stores width cs c)) (world_image width frames w))
+          → Matches P k (code_by g gcalls true env d (store cs b) w) (does e (taken (cell_vars cs) (stores (reach g) cs c)) (world_image width frames w))
       unfolding code_by
       store_runs rest = by (cells_of g env' cs) refl
         where
           by : (o : Option (List HeapCell)) → cells_of g env' cs ≡ o
-              → Matches P k (grin.need o w (λ hs. looking true (all_fill g env' cs) w (code_by g gcalls true env' d b (passing env' (grin_run.with_cells hs w))))) (does e (taken (cell_vars cs) (stores width cs c)) (world_image width frames w))
+              → Matches P k (grin.need o w (λ hs. looking true (all_fill g env' cs) w (code_by g gcalls true env' d b (passing env' (grin_run.with_cells hs w))))) (does e (taken (cell_vars cs) (stores (reach g) cs c)) (world_image width frames w))
           by None q = missed
           by (Some hs) q = looks (all_fill g env' cs) refl
             where
-              looks : (b' : Bool) → all_fill g env' cs ≡ b' → Matches P k (cond b' (code_by g gcalls true env' d b (passing env' (grin_run.with_cells hs w))) (grin.stops grin.missing w)) (does e (taken (cell_vars cs) (stores width cs c)) (world_image width frames w))
+              looks : (b' : Bool) → all_fill g env' cs ≡ b' → Matches P k (cond b' (code_by g gcalls true env' d b (passing env' (grin_run.with_cells hs w))) (grin.stops grin.missing w)) (does e (taken (cell_vars cs) (stores (reach g) cs c)) (world_image width frames w))
               looks false f = missed
               looks true f = stores_go hs q f (λ w' at. rest env' e' w' at)

@@ -5,7 +5,7 @@ use Rattle.low_code.specs.declared.program.Operand.{Operand}
 use Rattle.low_code.specs.declared.program.Operand.TheVariants.{Num}
 use Rattle.std.proofs.lemmas.List.{drop_more}
 use Rattle.low_code.specs.Tree.{Code, set, save}
-use Rattle.low_translate.specs.Translation.{results_of, nth_operand, fitted, sets, load_word, loads, saves}
+use Rattle.low_translate.specs.Translation.{results_of, nth_operand, fitted, sets, load_word, loads, saves, fill_word, fills}
 use Rattle.seq.specs.Lists.{numbers_from}
 
 pub results_of-get : (rs : List ℕ) (f : ℕ) → results_of rs f ≡ get_or rs f 0
@@ -61,3 +61,6 @@ loads_step width xs a i lt c = ap (λ l. loads width l a i c) (drop_more xs i 0 
 
 pub saves_step : (a : Operand) (as' : List Operand) (i : ℕ) (d : Operand) → i < length as' → (c : Code) → saves a i (drop i as') c ≡ save a i (get_or as' i d) (saves a (i + 1) (drop (i + 1) as') c)
 saves_step a as' i d lt c = ap (λ l. saves a i l c) (drop_more as' i d lt) ∙ ap (λ k. save a i (get_or as' i d) (saves a k (drop (i + 1) as') c)) (omega arith)
+
+pub fills_step : (a : Operand) (as' : List Operand) (i : ℕ) (d : Operand) → i < length as' → (c : Code) → fills a i (drop i as') c ≡ fill_word a i (get_or as' i d) (fills a (i + 1) (drop (i + 1) as') c)
+fills_step a as' i d lt c = ap (λ l. fills a i l c) (drop_more as' i d lt) ∙ ap (λ k. fill_word a i (get_or as' i d) (fills a k (drop (i + 1) as') c)) (omega arith)

@@ -10,6 +10,8 @@ pub mod Images
 pub mod Operands
 pub mod Pieces
 pub mod Deciding
+pub mod Fills
+pub mod Written
 pub mod Stored
 pub mod Figures
 pub mod Bindings

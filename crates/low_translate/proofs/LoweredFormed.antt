@@ -17,6 +17,7 @@ use Rattle.low_code.specs.Tree as low
 use Rattle.low_code.specs.Formed.{Formed, all_variables, all_sites, variables, AllScoped, AllCallsInRange, Starts}
 use Rattle.low_code.specs.Literals.{TagsSmall}
 use Rattle.low_translate.specs.Translation.{results_of, procedures_code, procedure_code, procedure_numbers, program_code}
+use Rattle.low_translate.specs.Writes.{reach}
 use Rattle.low_translate.specs.Lowered.{CodeRanged, EachGives, IsLowered}
 use Rattle.low_translate.specs.Lowers.{EachPair, IsNarrow, LowersSmall}
 use Rattle.low_translate.proofs.Numbered.{taken_below, taken_once, distinct, procs_numbers}
@@ -58,13 +59,13 @@ tags_small g (c ∷ cs) few h = (let k = slice_get_within g.tags c.tag.0 h.0.0 h
 
 module _ (g : grin.Program) (formed : grin_formed.Formed g) (ready : Ready g) (vectorised : IsVectorised g) (rs : List ℕ) (gives : EachGives (1 + most_value_fields g.tags) rs rs g.procs) (few : AllOf (λ r. r ≤ 13) rs) (few_tags : length g.tags ≤ 2 ^ 32) where
   abbrev width : ℕ
-  width = 1 + most_fields g.tags
+  width = reach g
 
   abbrev first : ℕ
   first = past_procs g.procs
 
   abbrev made : low.Program
-  made = program_code width rs first g
+  made = program_code (1 + most_fields g.tags) width rs first g
 
   as_many : length rs ≡ length g.procs
   as_many = each_many (1 + most_value_fields g.tags) rs rs g.procs gives

@@ -23,9 +23,10 @@ use Rattle.low_code.specs.Values as low
 use Rattle.low_code.specs.Run as low_run
 use Rattle.low_code.specs.Told as low_told
 use Rattle.low_translate.specs.Translation.{results_of, procedures_code, procedure_numbers, program_code}
+use Rattle.low_translate.specs.Writes.{reach}
 use Rattle.low_translate.specs.Lowered.{EachGives, IsLowered}
 use Rattle.low_translate.specs.Lowers.{Lowers}
-use Rattle.low_translate.proofs.Images.{images, cell_image, world_image, fit_none, InRange, SoundNode}
+use Rattle.low_translate.proofs.Images.{images, cell_image, world_image, fit_none, InRange, SoundCell}
 use Rattle.low_translate.proofs.Matches.{free, Match, missed, fails, ran_out, given}
 use Rattle.low_translate.proofs.ProcedureRuns as calls
 
@@ -73,9 +74,9 @@ unfolding GlobalImages
 global_images m [] = refl
 global_images m (c ∷ cs) = λ i. (low.number c.tag.0 ∷ sym (fit_none m) i) ∷ global_images m cs i
 
-globals_sound : (g : grin_tree.Program) (cs : List GlobalCell) → AllOf (GlobalFormed g) cs → AllOf (λ (h : HeapCell). SoundNode g h.node) (map (λ c. record { site = c.site.0; node = record { tag = c.tag.0; fields = [] } }) cs)
+globals_sound : (g : grin_tree.Program) (cs : List GlobalCell) → AllOf (GlobalFormed g) cs → AllOf (λ (h : HeapCell). SoundCell g h.node) (map (λ c. record { site = c.site.0; node = record { tag = c.tag.0; fields = [] } }) cs)
 globals_sound g [] h = tt
-globals_sound g (c ∷ cs) h = (record { count = h.0.0.fields; has = ap (λ o. grin.and_then o (λ i. Some i.fields)) h.0.1; few = omega arith; ranged = tt }, globals_sound g cs h.1)
+globals_sound g (c ∷ cs) h = (record { sound = record { count = h.0.0.fields; has = ap (λ o. grin.and_then o (λ i. Some i.fields)) h.0.1; few = omega arith; ranged = tt }; narrow = omega arith }, globals_sound g cs h.1)
 
 argument_images : (o : Option ℕ) → low_run.start_words o ≡ images (grin_run.start_words o)
 argument_images None = refl
@@ -112,7 +113,7 @@ module _ (g : grin_tree.Program) (l : low_tree.Program) (formed : Formed g) (rea
   width = 1 + most_fields g.tags
 
   p : low_tree.Program
-  p = program_code (1 + most_fields g.tags) h.results (past_procs g.procs) g
+  p = program_code (1 + most_fields g.tags) (reach g) h.results (past_procs g.procs) g
 
   looks : LooksWell g
   looks = looking_law g ready.inlined

@@ -18,8 +18,9 @@ use Rattle.low_code.specs.Values as low
 use Rattle.low_code.specs.Values.{Word, Room, need, and_then}
 use Rattle.low_code.specs.Run.{Calls, code, written}
 use Rattle.low_translate.specs.Translation.{operand_of, operands_of, fitted, sets, loads, saves, results_of, end_words}
+use Rattle.low_translate.specs.Writes.{fields_in, procs_write, reach}
 use Rattle.low_translate.specs.Lowered.{WordRanged, ValRanged}
-use Rattle.low_translate.proofs.Images.{word_image, images, words_of_value, fit, nth_word, cell_image, world_image, length_fit, InRange, SoundNode, SoundValue, SoundWorld, node_fits, none_some, some_same}
+use Rattle.low_translate.proofs.Images.{word_image, images, words_of_value, fit, nth_word, cell_image, world_image, InRange, SoundCell, SoundValue, SoundWorld, cell_narrow, none_some, some_same}
 use Rattle.low_translate.proofs.Operands.{bound, Agrees, Word', operand_is, value_is}
 use Rattle.low_translate.proofs.Pieces.{sets_run, loads_run, map_set}
 use Rattle.low_translate.proofs.Stored.{update_run}
@@ -83,8 +84,8 @@ module _ (g : grin_tree.Program) (p : low_tree.Program) (fw : ℕ → ℕ) (most
     -- what is known of a value by the operation without blocks that gives it: a fetch gives a node, and others few words
     abbrev pub Wide : Act → Value → Type 0
     Wide (unit x) v = Unit {0}
-    Wide (fetch a) v = (m : Node) × (v ≡ node m)
-    Wide o v = length (words_of_value v) ≤ end_words width rs 0 o
+    Wide (fetch a) v = (m : Node) × (v ≡ node m) × (1 + length m.fields ≤ reach g)
+    Wide o v = length (words_of_value v) ≤ end_words (reach g) rs 0 o
 
     -- where a value has more words than there are variables
     abbrev pub Skips : (P : Value → Type 0) → (k : ℕ) → (xs : List ℕ) → Act → (Value → grin.World → grin.Answer) → Type 0
@@ -130,22 +131,21 @@ module _ (g : grin_tree.Program) (p : low_tree.Program) (fw : ℕ → ℕ) (most
             by (Some (tag t)) z m = absurd (none_some m)
             by (Some (cell j)) z m = operand_is g p fw same_globals first scope env e h.agrees a (cell i) (z ∙ ap (λ k. Some (cell k)) (some_same m)) r
 
-        pub fetch_runs : (a : W.Word) → WordRanged a → Goes P k n xs e c goes → Skips P k xs (fetch a) goes → Match P k (grin.then_do (act_by g gcalls true env d (fetch a) w) goes) (does e (loads width xs (operand_of a) 0 c) (world_image width frames w))
+        pub fetch_runs : (a : W.Word) → WordRanged a → Goes P k n xs e c goes → Skips P k xs (fetch a) goes → Match P k (grin.then_do (act_by g gcalls true env d (fetch a) w) goes) (does e (loads (reach g) xs (operand_of a) 0 c) (world_image width frames w))
         unfolding act_by
         fetch_runs a r go skip = by (grin.and_then (word_of g env a) place_of) refl
           where
-            by : (o : Option ℕ) → grin.and_then (word_of g env a) place_of ≡ o → Match P k (grin.then_do (grin.need o w (λ i. grin.need (slice_get w.cells i) w (λ u. grin.gives (node u.node) w))) goes) (does e (loads width xs (operand_of a) 0 c) (world_image width frames w))
+            by : (o : Option ℕ) → grin.and_then (word_of g env a) place_of ≡ o → Match P k (grin.then_do (grin.need o w (λ i. grin.need (slice_get w.cells i) w (λ u. grin.gives (node u.node) w))) goes) (does e (loads (reach g) xs (operand_of a) 0 c) (world_image width frames w))
             by None q = missed
             by (Some i) q = inner (slice_get w.cells i) refl
               where
-                inner : (o : Option HeapCell) → slice_get w.cells i ≡ o → Match P k (grin.then_do (grin.need o w (λ u. grin.gives (node u.node) w)) goes) (does e (loads width xs (operand_of a) 0 c) (world_image width frames w))
+                inner : (o : Option HeapCell) → slice_get w.cells i ≡ o → Match P k (grin.then_do (grin.need o w (λ u. grin.gives (node u.node) w)) goes) (does e (loads (reach g) xs (operand_of a) 0 c) (world_image width frames w))
                 inner None z = missed
                 inner (Some u) z =
                     let o = place_is a i q r in
-                    let s : SoundNode g u.node = all_get (λ x. SoundNode g x.node) w.cells i u h.sound.cells z in
-                    let le : length (images (tag u.node.tag ∷ u.node.fields)) ≤ width = (let m = node_fits g u.node s in omega (arith, m, wide)) in
-                    subst (Match P k (goes (node u.node) w)) (sym (loads_run p fw free lcalls top under width xs (operand_of a) 0 i (images (tag u.node.tag ∷ u.node.fields)) e c (world_image width frames w) o.is (o.avoids xs apart) (map_get (λ x. cell_image width x.node) w.cells i u z) le))
-                    (finish (fetch a) go skip (node u.node) w frames s h.sound (u.node, refl) h.within)
+                    let s : SoundCell g u.node = all_get (λ x. SoundCell g x.node) w.cells i u h.sound.cells z in
+                    subst (Match P k (goes (node u.node) w)) (sym (loads_run p fw free lcalls top under (reach g) width (omega (arith, wide)) xs (operand_of a) 0 i (images (tag u.node.tag ∷ u.node.fields)) e c (world_image width frames w) o.is (o.avoids xs apart) (map_get (λ x. cell_image width x.node) w.cells i u z) (cell_narrow g u.node s)))
+                    (finish (fetch a) go skip (node u.node) w frames s.sound h.sound (u.node, refl, s.narrow) h.within)
 
         pub write_runs : (a : W.Word) → WordRanged a → Goes P k n xs e c goes → Skips P k xs (write a) goes → Match P k (grin.then_do (act_by g gcalls true env d (write a) w) goes) (does e (low_tree.put (operand_of a) (sets xs [] c)) (world_image width frames w))
         unfolding act_by code
@@ -168,38 +168,38 @@ module _ (g : grin_tree.Program) (p : low_tree.Program) (fw : ℕ → ℕ) (most
                     subst (Match P k (goes (words []) (grin_run.written j w))) (sym path)
                     (finish (write a) go skip (words []) (grin_run.written j w) frames tt (record { cells = h.sound.cells; bytes = h.sound.bytes }) (omega arith) h.within)
 
-        pub update_runs : (a : W.Word) (v : V.Val) → WordRanged a → NoNodeVar v → ValRanged v → Goes P k n xs e c goes → Skips P k xs (update a v) goes
-            → Match P k (grin.then_do (act_by g gcalls true env d (update a v) w) goes) (does e (saves (operand_of a) 0 (fitted width (operands_of v)) (sets xs [] c)) (world_image width frames w))
+        pub update_runs : (a : W.Word) (v : V.Val) → WordRanged a → NoNodeVar v → ValRanged v → fields_in v ≤ procs_write g.procs → Goes P k n xs e c goes → Skips P k xs (update a v) goes
+            → Match P k (grin.then_do (act_by g gcalls true env d (update a v) w) goes) (does e (saves (operand_of a) 0 (fitted (reach g) (operands_of v)) (sets xs [] c)) (world_image width frames w))
         unfolding act_by
-        update_runs a v ra nn r go skip = by (grin.and_then (word_of g env a) place_of) refl
+        update_runs a v ra nn r few go skip = by (grin.and_then (word_of g env a) place_of) refl
           where
             low_code : low_tree.Code
-            low_code = saves (operand_of a) 0 (fitted width (operands_of v)) (sets xs [] c)
+            low_code = saves (operand_of a) 0 (fitted (reach g) (operands_of v)) (sets xs [] c)
 
             by : (o : Option ℕ) → grin.and_then (word_of g env a) place_of ≡ o
-                → Match P k (grin.then_do (grin.need o w (λ i. grin.need (slice_get w.cells i) w (λ u. grin.need (node_of g env v) w (λ m. looking true (fills g env v) w (grin.gives (words []) (grin_run.with_node i m u w)))))) goes) (does e (saves (operand_of a) 0 (fitted width (operands_of v)) (sets xs [] c)) (world_image width frames w))
+                → Match P k (grin.then_do (grin.need o w (λ i. grin.need (slice_get w.cells i) w (λ u. grin.need (node_of g env v) w (λ m. looking true (fills g env v) w (grin.gives (words []) (grin_run.with_node i m u w)))))) goes) (does e (saves (operand_of a) 0 (fitted (reach g) (operands_of v)) (sets xs [] c)) (world_image width frames w))
             by None q = missed
             by (Some i) q = at_cell (slice_get w.cells i) refl
               where
                 at_cell : (o : Option HeapCell) → slice_get w.cells i ≡ o
-                    → Match P k (grin.then_do (grin.need o w (λ u. grin.need (node_of g env v) w (λ m. looking true (fills g env v) w (grin.gives (words []) (grin_run.with_node i m u w))))) goes) (does e (saves (operand_of a) 0 (fitted width (operands_of v)) (sets xs [] c)) (world_image width frames w))
+                    → Match P k (grin.then_do (grin.need o w (λ u. grin.need (node_of g env v) w (λ m. looking true (fills g env v) w (grin.gives (words []) (grin_run.with_node i m u w))))) goes) (does e (saves (operand_of a) 0 (fitted (reach g) (operands_of v)) (sets xs [] c)) (world_image width frames w))
                 at_cell None z = missed
                 at_cell (Some u) z = with_node (node_of g env v) refl
                   where
                     with_node : (o : Option Node) → node_of g env v ≡ o
-                        → Match P k (grin.then_do (grin.need o w (λ m. looking true (fills g env v) w (grin.gives (words []) (grin_run.with_node i m u w)))) goes) (does e (saves (operand_of a) 0 (fitted width (operands_of v)) (sets xs [] c)) (world_image width frames w))
+                        → Match P k (grin.then_do (grin.need o w (λ m. looking true (fills g env v) w (grin.gives (words []) (grin_run.with_node i m u w)))) goes) (does e (saves (operand_of a) 0 (fitted (reach g) (operands_of v)) (sets xs [] c)) (world_image width frames w))
                     with_node None y = missed
                     with_node (Some m) y = looks (fills g env v) refl
                       where
-                        looks : (b : Bool) → fills g env v ≡ b → Match P k (grin.then_do (cond b (grin.gives (words []) (grin_run.with_node i m u w)) (grin.stops grin.missing w)) goes) (does e (saves (operand_of a) 0 (fitted width (operands_of v)) (sets xs [] c)) (world_image width frames w))
+                        looks : (b : Bool) → fills g env v ≡ b → Match P k (grin.then_do (cond b (grin.gives (words []) (grin_run.with_node i m u w)) (grin.stops grin.missing w)) goes) (does e (saves (operand_of a) 0 (fitted (reach g) (operands_of v)) (sets xs [] c)) (world_image width frames w))
                         looks false f = missed
                         looks true f =
                             let o = place_is a i q ra in
                             let next : grin.World = grin_run.with_node i m u w in
-                            let run = update_run g p fw same_globals width wide free lcalls top under first scope env e h.agrees (operand_of a) v i m (cell_image width u.node) (sets xs [] c) (world_image width frames w) o.is (map_get (λ x. cell_image width x.node) w.cells i u z) (length_fit width _) y f nn r in
-                            let path : does e (saves (operand_of a) 0 (fitted width (operands_of v)) (sets xs [] c)) (world_image width frames w) ≡ does (bound xs (fit (length xs) []) e) c (world_image width frames next) =
+                            let run = update_run g p fw same_globals width wide free lcalls top under first scope env e h.agrees (operand_of a) v i m (images (tag u.node.tag ∷ u.node.fields)) (sets xs [] c) (world_image width frames w) o.is (map_get (λ x. cell_image width x.node) w.cells i u z) (cell_narrow g u.node (all_get (λ x. SoundCell g x.node) w.cells i u h.sound.cells z)) y f nn r few in
+                            let path : does e (saves (operand_of a) 0 (fitted (reach g) (operands_of v)) (sets xs [] c)) (world_image width frames w) ≡ does (bound xs (fit (length xs) []) e) c (world_image width frames next) =
                             run.0
                             ∙ (λ t. does e (sets xs [] c) (record (world_image width frames w) { cells = sym (map_set (λ x. cell_image width x.node) w.cells i (record { site = u.site; node = m })) t }))
                             ∙ sets_run p fw free lcalls top under xs [] [] e c (world_image width frames next) refl tt in
                             subst (Match P k (goes (words []) next)) (sym path)
-                            (finish (update a v) go skip (words []) next frames tt (record { cells = all_set (λ x. SoundNode g x.node) w.cells i _ h.sound.cells run.1; bytes = h.sound.bytes }) (omega arith) h.within)
+                            (finish (update a v) go skip (words []) next frames tt (record { cells = all_set (λ x. SoundCell g x.node) w.cells i _ h.sound.cells run.1; bytes = h.sound.bytes }) (omega arith) h.within)

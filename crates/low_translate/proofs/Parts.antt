@@ -8,10 +8,10 @@ use Rattle.grin_syntax.specs.declared.program.Val.TheVariants as val
 use Rattle.grin_meaning.specs.Slim.{val_weight, cells_weight}
 use Rattle.low_code.specs.declared.program.Operand.{Operand}
 use Rattle.low_code.specs.declared.program.Operand.TheVariants.{Var, Num}
-use Rattle.low_code.specs.Tree.{Code, set, load}
+use Rattle.low_code.specs.Tree.{Code, set, load, save}
 use Rattle.low_code.specs.Formed.{binds, calls_in}
 use Rattle.low_code.specs.Size.{code_size}
-use Rattle.low_translate.specs.Translation.{operands_of, operands_of_words, sets, to_first, load_word, loads, saves, taken, stores}
+use Rattle.low_translate.specs.Translation.{operands_of, operands_of_words, sets, to_first, load_word, loads, saves, is_number, fill_word, fills, taken, stores}
 
 -- ---- the variables that they bind
 
@@ -35,6 +35,17 @@ pub first_binds : (xs : List ℕ) (e : ℕ → Code → Code) (c : Code) → ((x
 first_binds [] e c h = refl
 first_binds (x ∷ xs) e c h = h x (sets xs [] c) ∙ ap (λ l. x ∷ l) (sets_binds xs [] c)
 
+fill_binds : (a : Operand) (i : ℕ) (b : Operand) (c : Code) → binds (fill_word a i b c) ≡ binds c
+fill_binds a i b c = by (is_number b 0)
+  where
+    by : (t : Bool) → binds (elim t [ true ↦ c | false ↦ save a i b c ]) ≡ binds c
+    by true = refl
+    by false = refl
+
+fills_binds : (a : Operand) (i : ℕ) (bs : List Operand) (c : Code) → binds (fills a i bs c) ≡ binds c
+fills_binds a i [] c = refl
+fills_binds a i (b ∷ bs) c = fill_binds a i b (fills a (suc i) bs c) ∙ fills_binds a (suc i) bs c
+
 pub saves_binds : (a : Operand) (i : ℕ) (bs : List Operand) (c : Code) → binds (saves a i bs c) ≡ binds c
 saves_binds a i [] c = refl
 saves_binds a i (b ∷ bs) c = saves_binds a (suc i) bs c
@@ -45,7 +56,7 @@ taken_binds (x ∷ xs) c = refl
 
 pub stores_binds : (width : ℕ) (cs : List C.Cell) (c : Code) → binds (stores width cs c) ≡ binds c
 stores_binds width [] c = refl
-stores_binds width (x ∷ cs) c = saves_binds (Var x.var.0) 0 (take width (operands_of x.val)) (stores width cs c) ∙ stores_binds width cs c
+stores_binds width (x ∷ cs) c = fills_binds (Var x.var.0) 0 (take width (operands_of x.val)) (stores width cs c) ∙ stores_binds width cs c
 
 -- ---- no calls
 
@@ -69,6 +80,17 @@ pub first_calls : (xs : List ℕ) (e : ℕ → Code → Code) (c : Code) → ((x
 first_calls [] e c h = refl
 first_calls (x ∷ xs) e c h = h x (sets xs [] c) ∙ sets_calls xs [] c
 
+fill_calls : (a : Operand) (i : ℕ) (b : Operand) (c : Code) → calls_in (fill_word a i b c) ≡ calls_in c
+fill_calls a i b c = by (is_number b 0)
+  where
+    by : (t : Bool) → calls_in (elim t [ true ↦ c | false ↦ save a i b c ]) ≡ calls_in c
+    by true = refl
+    by false = refl
+
+fills_calls : (a : Operand) (i : ℕ) (bs : List Operand) (c : Code) → calls_in (fills a i bs c) ≡ calls_in c
+fills_calls a i [] c = refl
+fills_calls a i (b ∷ bs) c = fill_calls a i b (fills a (suc i) bs c) ∙ fills_calls a (suc i) bs c
+
 pub saves_calls : (a : Operand) (i : ℕ) (bs : List Operand) (c : Code) → calls_in (saves a i bs c) ≡ calls_in c
 saves_calls a i [] c = refl
 saves_calls a i (b ∷ bs) c = saves_calls a (suc i) bs c
@@ -79,7 +101,7 @@ taken_calls (x ∷ xs) c = refl
 
 pub stores_calls : (width : ℕ) (cs : List C.Cell) (c : Code) → calls_in (stores width cs c) ≡ calls_in c
 stores_calls width [] c = refl
-stores_calls width (x ∷ cs) c = saves_calls (Var x.var.0) 0 (take width (operands_of x.val)) (stores width cs c) ∙ stores_calls width cs c
+stores_calls width (x ∷ cs) c = fills_calls (Var x.var.0) 0 (take width (operands_of x.val)) (stores width cs c) ∙ stores_calls width cs c
 
 -- ---- their size
 
@@ -106,6 +128,17 @@ first_size k (x ∷ xs) e c h = let a = h x (sets xs [] c) in let b = sets_size 
 pub saves_size : (a : Operand) (i : ℕ) (bs : List Operand) (c : Code) → code_size (saves a i bs c) ≡ 3 * length bs + code_size c
 saves_size a i [] c = omega arith
 saves_size a i (b ∷ bs) c = let h = saves_size a (suc i) bs c in omega (arith, h)
+
+fill_size : (a : Operand) (i : ℕ) (b : Operand) (c : Code) → code_size (fill_word a i b c) ≤ 3 + code_size c
+fill_size a i b c = by (is_number b 0)
+  where
+    by : (t : Bool) → code_size (elim t [ true ↦ c | false ↦ save a i b c ]) ≤ 3 + code_size c
+    by true = omega arith
+    by false = omega arith
+
+fills_size : (a : Operand) (i : ℕ) (bs : List Operand) (c : Code) → code_size (fills a i bs c) ≤ 3 * length bs + code_size c
+fills_size a i [] c = omega arith
+fills_size a i (b ∷ bs) c = let h = fills_size a (suc i) bs c in let k = fill_size a i b (fills a (suc i) bs c) in omega (arith, h, k)
 
 pub taken_size : (xs : List ℕ) (c : Code) → code_size (taken xs c) ≤ 2 * length xs + code_size c
 taken_size [] c = omega arith
@@ -138,6 +171,6 @@ pub stores_size : (width : ℕ) (cs : List C.Cell) (c : Code) → width ≤ 14 �
 stores_size width [] c le = omega arith
 stores_size width (x ∷ cs) c le =
     let h = stores_size width cs c le in
-    let k = saves_size (Var x.var.0) 0 (take width (operands_of x.val)) (stores width cs c) in
+    let k = fills_size (Var x.var.0) 0 (take width (operands_of x.val)) (stores width cs c) in
     let m = written_few width x.val le in
     omega (arith, h, k, m)

@@ -1,6 +1,6 @@
 -- What runs of words between variables and cells do.
-use Rattle.std.proofs.Common.{◌≡◌, ◌≤◌, ◌<◌, ℕ, zero, suc, ◌+◌, ◌-◌, Bool, true, false, cond, List, [], ◌∷◌, ◌++◌, map, length, take, drop, Option, Some, None, slice_get, refl, sym, ap, ◌∙◌, arith, append-nil}
-use Rattle.std.specs.Prelude.{nat_eq, nat_lt, slice_set}
+use Rattle.std.proofs.Common.{◌≡◌, ◌≤◌, ◌<◌, ℕ, zero, suc, ◌+◌, ◌-◌, Bool, true, false, cond, List, [], ◌∷◌, ◌++◌, map, length, take, drop, Option, Some, None, slice_get, refl, sym, ap, ◌∙◌, arith}
+use Rattle.std.specs.Prelude.{nat_eq, nat_lt, min, slice_set}
 use Rattle.std.proofs.lemmas.Bool.{ltb-true, ltb-false}
 use Rattle.std.proofs.lemmas.List.{length-take, length-replicate}
 use Rattle.seq.proofs.Lists.{get_set, length_set, some_at, get_within}
@@ -13,7 +13,7 @@ use Rattle.low_code.specs.Values as low
 use Rattle.low_code.specs.Values.{Word, Env, World, Room, Answer, need, with_var, and_then}
 use Rattle.low_code.specs.Run.{Calls, operand, operands, cell_in, code, with_word}
 use Rattle.low_translate.specs.Translation.{sets, loads, saves}
-use Rattle.low_translate.proofs.Images.{fit, nth_word, fit_from, get_fit, nth_past, fit_none, zeros, none_some, some_same}
+use Rattle.low_translate.proofs.Images.{fit, length_fit, nth_word, fit_from, get_fit, nth_past, fit_none, zeros, none_some, some_same}
 use Rattle.low_translate.proofs.Operands.{bound, Avoids}
 use Rattle.seq.specs.Lists.{times}
 
@@ -55,25 +55,33 @@ drop_zeros zero (suc w) = let e : suc w ≡ suc w - 0 = omega arith in ap zeros 
 drop_zeros (suc k) zero = let e : 0 ≡ 0 - suc k = omega arith in ap zeros e
 drop_zeros (suc k) (suc w) = let e : w - k ≡ suc w - suc k = omega arith in drop_zeros k w ∙ ap zeros e
 
-fit_front : (w : ℕ) (ws : List Word) → take w ws ++ zeros (w - length (take w ws)) ≡ fit w ws
-fit_front zero [] = refl
-fit_front zero (x ∷ ws) = refl
-fit_front (suc w) [] = let e : suc w - 0 ≡ suc w = omega arith in ap zeros e ∙ sym (fit_none (suc w))
-fit_front (suc w) (x ∷ ws) = let e : suc w - suc (length (take w ws)) ≡ w - length (take w ws) = omega arith in ap (λ l. x ∷ l) (ap (λ k. take w ws ++ zeros k) e ∙ fit_front w ws)
+fit_front : (r w : ℕ) (ws : List Word) → r ≤ w → min w (length ws) ≤ r → take r ws ++ zeros (w - length (take r ws)) ≡ fit w ws
+fit_front zero zero [] le h = refl
+fit_front zero (suc w) [] le h = let e : suc w - 0 ≡ suc w = omega arith in ap zeros e ∙ sym (fit_none (suc w))
+fit_front zero zero (x ∷ ws) le h = refl
+fit_front zero (suc w) (x ∷ ws) le h = absurd (omega (arith, h))
+fit_front (suc r) zero ws le h = absurd (omega (arith, le))
+fit_front (suc r) (suc w) [] le h = let e : suc w - 0 ≡ suc w = omega arith in ap zeros e ∙ sym (fit_none (suc w))
+fit_front (suc r) (suc w) (x ∷ ws) le h = let e : suc w - suc (length (take r ws)) ≡ w - length (take r ws) = omega arith in ap (λ l. x ∷ l) (ap (λ k. take r ws ++ zeros k) e ∙ fit_front r w ws (omega (arith, le)) (omega (arith, h)))
 
--- the first words over a cell of zeros
-pub over_zeros : (w : ℕ) (ws : List Word) → over 0 (take w ws) (zeros w) ≡ fit w ws
-over_zeros w ws = over_first (take w ws) (zeros w) (omega (arith, length-take w ws, length-replicate w (low.number 0))) ∙ ap (λ l. take w ws ++ l) (drop_zeros (length (take w ws)) w) ∙ fit_front w ws
+-- the first words over a cell of zeros, where there are no more
+pub over_zeros : (r w : ℕ) (ws : List Word) → r ≤ w → min w (length ws) ≤ r → over 0 (take r ws) (zeros w) ≡ fit w ws
+over_zeros r w ws le h = over_first (take r ws) (zeros w) (omega (arith, le, length-take r ws, length-replicate w (low.number 0))) ∙ ap (λ l. take r ws ++ l) (drop_zeros (length (take r ws)) w) ∙ fit_front r w ws le h
 
--- as many words over a cell
-pub over_all : (vs cell : List Word) → length vs ≡ length cell → over 0 vs cell ≡ vs
-over_all vs cell e = over_first vs cell (omega (arith, e)) ∙ ap (λ l. vs ++ l) (past (length vs) cell (omega (arith, e))) ∙ append-nil vs
-  where
-    past : (k : ℕ) (xs : List Word) → length xs ≤ k → drop k xs ≡ []
-    past zero [] le = refl
-    past (suc k) [] le = refl
-    past zero (x ∷ xs) le = absurd (omega (arith, le))
-    past (suc k) (x ∷ xs) le = past k xs (omega (arith, le))
+fit_over : (r w : ℕ) (ws us : List Word) → r ≤ w → min w (length ws) ≤ r → length us ≤ r → fit r ws ++ drop r (fit w us) ≡ fit w ws
+fit_over zero zero ws us le h k = refl
+fit_over zero (suc w) [] [] le h k = refl
+fit_over zero (suc w) [] (u ∷ us) le h k = absurd (omega (arith, k))
+fit_over zero (suc w) (x ∷ ws) us le h k = absurd (omega (arith, h))
+fit_over (suc r) zero ws us le h k = absurd (omega (arith, le))
+fit_over (suc r) (suc w) [] [] le h k = ap (λ l. low.number 0 ∷ l) (fit_over r w [] [] (omega (arith, le)) (omega arith) (omega arith))
+fit_over (suc r) (suc w) [] (u ∷ us) le h k = ap (λ l. low.number 0 ∷ l) (fit_over r w [] us (omega (arith, le)) (omega arith) (omega (arith, k)))
+fit_over (suc r) (suc w) (x ∷ ws) [] le h k = ap (λ l. x ∷ l) (fit_over r w ws [] (omega (arith, le)) (omega (arith, h)) (omega arith))
+fit_over (suc r) (suc w) (x ∷ ws) (u ∷ us) le h k = ap (λ l. x ∷ l) (fit_over r w ws us (omega (arith, le)) (omega (arith, h)) (omega (arith, k)))
+
+-- the first words over those of a cell, where neither has more
+pub over_fit : (r w : ℕ) (ws us : List Word) → r ≤ w → min w (length ws) ≤ r → length us ≤ r → over 0 (fit r ws) (fit w us) ≡ fit w ws
+over_fit r w ws us le h k = over_first (fit r ws) (fit w us) (omega (arith, le, length_fit r ws, length_fit w us)) ∙ ap (λ n. fit r ws ++ drop n (fit w us)) (length_fit r ws) ∙ fit_over r w ws us le h k
 
 -- ---- further variables
 
@@ -129,23 +137,23 @@ module _ (p : low_tree.Program) (fw : ℕ → ℕ) where
             ∙ rec v vs (operands_other x v xs env as' a.1 ∙ qs)
             ∙ ap (λ l. does (bound (x ∷ xs) (fit (suc (length xs)) l) env) c w) (some_same k)
 
-    -- the words of cell i from word j on
-    pub loads_run : (width : ℕ) (xs : List ℕ) (a : Operand) (j i : ℕ) (ws : List Word) (env : Env) (c : Code) (w : World) → operand p fw env a ≡ Some (low.cell i) → Avoids xs a → slice_get w.cells i ≡ Some (fit width ws) → length ws ≤ width
-        → does env (loads width xs a j c) w ≡ does (bound xs (fit (length xs) (drop j ws)) env) c w
+    -- the words of cell i from word j on, of which no more than the first r are others than zeros
+    pub loads_run : (r width : ℕ) → r ≤ width → (xs : List ℕ) (a : Operand) (j i : ℕ) (ws : List Word) (env : Env) (c : Code) (w : World) → operand p fw env a ≡ Some (low.cell i) → Avoids xs a → slice_get w.cells i ≡ Some (fit width ws) → length ws ≤ r
+        → does env (loads r xs a j c) w ≡ does (bound xs (fit (length xs) (drop j ws)) env) c w
     unfolding code
-    loads_run width [] a j i ws env c w h v s le = refl
-    loads_run width (x ∷ xs) a j i ws env c w h v s le = word (nat_lt j width) refl
-        ∙ loads_run width xs a (suc j) i ws (with_var x (nth_word ws j) env) c w (operand_other x (nth_word ws j) xs env a v ∙ h) (avoids_rest x xs a v) s le
+    loads_run r width rw [] a j i ws env c w h v s le = refl
+    loads_run r width rw (x ∷ xs) a j i ws env c w h v s le = word (nat_lt j r) refl
+        ∙ loads_run r width rw xs a (suc j) i ws (with_var x (nth_word ws j) env) c w (operand_other x (nth_word ws j) xs env a v ∙ h) (avoids_rest x xs a v) s le
         ∙ ap (λ l. does (bound (x ∷ xs) l env) c w) (sym (fit_from (length xs) j ws))
       where
         in_cell : cell_in p fw env a ≡ Some i
         in_cell = ap (λ o. and_then o low.cell_of) h
 
-        word : (b : Bool) → nat_lt j width ≡ b → does env (elim b [ true ↦ load x a j (loads width xs a (suc j) c) | false ↦ set x (Num 0) (loads width xs a (suc j) c) ]) w ≡ does (with_var x (nth_word ws j) env) (loads width xs a (suc j) c) w
-        word true e = (λ k. need (in_cell k) w (λ i. need (slice_get w.cells i) w (λ l. need (slice_get l j) w (λ u. does (with_var x u env) (loads width xs a (suc j) c) w))))
-            ∙ (λ k. need (s k) w (λ l. need (slice_get l j) w (λ u. does (with_var x u env) (loads width xs a (suc j) c) w)))
-            ∙ (λ k. need (get_fit width j ws (ltb-true j width e) k) w (λ u. does (with_var x u env) (loads width xs a (suc j) c) w))
-        word false e = ap (λ u. does (with_var x u env) (loads width xs a (suc j) c) w) (sym (nth_past ws j (omega (arith, le, ltb-false j width e))))
+        word : (b : Bool) → nat_lt j r ≡ b → does env (elim b [ true ↦ load x a j (loads r xs a (suc j) c) | false ↦ set x (Num 0) (loads r xs a (suc j) c) ]) w ≡ does (with_var x (nth_word ws j) env) (loads r xs a (suc j) c) w
+        word true e = (λ k. need (in_cell k) w (λ i. need (slice_get w.cells i) w (λ l. need (slice_get l j) w (λ u. does (with_var x u env) (loads r xs a (suc j) c) w))))
+            ∙ (λ k. need (s k) w (λ l. need (slice_get l j) w (λ u. does (with_var x u env) (loads r xs a (suc j) c) w)))
+            ∙ (λ k. need (get_fit width j ws (let lt = ltb-true j r e in omega (arith, lt, rw)) k) w (λ u. does (with_var x u env) (loads r xs a (suc j) c) w))
+        word false e = ap (λ u. does (with_var x u env) (loads r xs a (suc j) c) w) (sym (nth_past ws j (omega (arith, le, ltb-false j r e))))
 
     -- words into cell i, from word j on
     pub saves_run : (a : Operand) (j : ℕ) (bs : List Operand) (vs : List Word) (i : ℕ) (cell : List Word) (env : Env) (c : Code) (w : World) → operand p fw env a ≡ Some (low.cell i) → operands p fw env bs ≡ Some vs → slice_get w.cells i ≡ Some cell → j + length vs ≤ length cell

@@ -17,6 +17,7 @@ use Rattle.low_code.specs.Values as low
 use Rattle.low_code.specs.Values.{need}
 use Rattle.low_code.specs.Run.{Calls, code}
 use Rattle.low_translate.specs.Translation.{sets, results_of, plain_code}
+use Rattle.low_translate.specs.Writes.{act_writes, procs_write, reach}
 use Rattle.low_translate.specs.Lowered.{WordRanged, PlainRanged}
 use Rattle.low_translate.proofs.Images.{word_image, images, words_of_value, fit, length_fit, world_image}
 use Rattle.low_translate.proofs.Operands.{bound, with_vars_bound, words_are}
@@ -87,36 +88,36 @@ module _ (g : grin_tree.Program) (p : low_tree.Program) (fw : ℕ → ℕ) (most
 
     module _ (scope : List ℕ) (env : grin.Env) (w : grin.World) (frames d : ℕ) (apart : (x : ℕ) → 0 < times x scope → times x xs ≡ 0) (h : At scope env e w frames) where
       call_runs : (f : ProcId) (ws : List W.Word) → AllOf WordRanged ws → top ≤ d * most → Going P k n xs e c goes → Skipping P k xs (call f ws) goes
-          → Matches P k (grin.then_do (act_by g gcalls true env d (call f ws) w) goes) (does e (plain_code width rs xs n (call f ws) c) (world_image width frames w))
+          → Matches P k (grin.then_do (act_by g gcalls true env d (call f ws) w) goes) (does e (plain_code (reach g) rs xs n (call f ws) c) (world_image width frames w))
       unfolding act_by code
       call_runs f ws r le go skip = by (words_of g env ws) refl
         where
-          by : (o : Option (List Datum)) → words_of g env ws ≡ o → Matches P k (grin.then_do (grin.need o w (λ ds. gcalls f.0 ds d w)) goes) (does e (plain_code width rs xs n (call f ws) c) (world_image width frames w))
+          by : (o : Option (List Datum)) → words_of g env ws ≡ o → Matches P k (grin.then_do (grin.need o w (λ ds. gcalls f.0 ds d w)) goes) (does e (plain_code (reach g) rs xs n (call f ws) c) (world_image width frames w))
           by None q = missed
           by (Some ds) q =
               let u = words_are g p fw same_globals first scope env e h.agrees ws ds q r in
-              let path : does e (plain_code width rs xs n (call f ws) c) (world_image width frames w) ≡ low.then_do (lcalls f.0 (images ds) top (world_image width frames w)) (after_call (results_of rs f.0)) =
+              let path : does e (plain_code (reach g) rs xs n (call f ws) c) (world_image width frames w) ≡ low.then_do (lcalls f.0 (images ds) top (world_image width frames w)) (after_call (results_of rs f.0)) =
               λ t. need (u.are t) (world_image width frames w) (λ vs. low.then_do (lcalls f.0 vs top (world_image width frames w)) (after_call (results_of rs f.0))) in
               subst (Matches P k (grin.then_do (gcalls f.0 ds d w) goes)) (sym path)
               (call_goes f ws go skip _ _ (calls_match f.0 ds d w top frames u.ranged h.sound le h.within))
 
-      fail_runs : Matches P k (grin.then_do (act_by g gcalls true env d fail w) goes) (does e (plain_code width rs xs n fail c) (world_image width frames w))
+      fail_runs : Matches P k (grin.then_do (act_by g gcalls true env d fail w) goes) (does e (plain_code (reach g) rs xs n fail c) (world_image width frames w))
       unfolding act_by code
       fail_runs = fails h.within
 
-      pub plain_runs : (o : Act) → IsLeaf o → EachAct inlined_kind o → EachAct vectorised_kind o → PlainRanged o → Lies o d → Going P k n xs e c goes → Skipping P k xs o goes
-          → Matches P k (grin.then_do (act_by g gcalls true env d o w) goes) (does e (plain_code width rs xs n o c) (world_image width frames w))
-      unfolding EachAct
-      plain_runs (unit v) pl inl' vec r le go skip = m.unit_runs g p fw most rs first same_globals width wide gcalls lcalls top under P k n xs e c goes scope env w frames d apart h v vec.1 r go skip
-      plain_runs (fetch a) pl inl' vec r le go skip = m.fetch_runs g p fw most rs first same_globals width wide gcalls lcalls top under P k n xs e c goes scope env w frames d apart h a r go skip
-      plain_runs (fetch_word a i) pl inl' vec r le go skip = one.fetch_word_runs g p fw most rs first same_globals width wide gcalls lcalls top under P k n e c goes xs scope env w frames d apart h a i r go skip
-      plain_runs (update a v) pl inl' vec r le go skip = m.update_runs g p fw most rs first same_globals width wide gcalls lcalls top under P k n xs e c goes scope env w frames d apart h a v r.0 vec.1 r.1 go skip
-      plain_runs (eval a) pl inl' vec r le go skip = absurd inl'
-      plain_runs (apply v a) pl inl' vec r le go skip = absurd inl'.0
-      plain_runs (call f ws) pl inl' vec r le go skip = call_runs f ws r le go skip
-      plain_runs (prim f a b) pl inl' vec r le go skip = one.prim_runs g p fw most rs first same_globals width wide gcalls lcalls top under P k n e c goes xs scope env w frames d apart h f a b r.0 r.1 go skip
-      plain_runs read pl inl' vec r le go skip = one.read_runs g p fw most rs first same_globals width wide gcalls lcalls top under P k n e c goes xs scope env w frames d apart h go skip
-      plain_runs (write a) pl inl' vec r le go skip = m.write_runs g p fw most rs first same_globals width wide gcalls lcalls top under P k n xs e c goes scope env w frames d apart h a r go skip
-      plain_runs (case v as') pl inl' vec r le go skip = absurd pl
-      plain_runs (nested b) pl inl' vec r le go skip = absurd pl
-      plain_runs fail pl inl' vec r le go skip = fail_runs
+      pub plain_runs : (o : Act) → IsLeaf o → EachAct inlined_kind o → EachAct vectorised_kind o → PlainRanged o → act_writes o ≤ procs_write g.procs → Lies o d → Going P k n xs e c goes → Skipping P k xs o goes
+          → Matches P k (grin.then_do (act_by g gcalls true env d o w) goes) (does e (plain_code (reach g) rs xs n o c) (world_image width frames w))
+      unfolding EachAct act_writes
+      plain_runs (unit v) pl inl' vec r few le go skip = m.unit_runs g p fw most rs first same_globals width wide gcalls lcalls top under P k n xs e c goes scope env w frames d apart h v vec.1 r go skip
+      plain_runs (fetch a) pl inl' vec r few le go skip = m.fetch_runs g p fw most rs first same_globals width wide gcalls lcalls top under P k n xs e c goes scope env w frames d apart h a r go skip
+      plain_runs (fetch_word a i) pl inl' vec r few le go skip = one.fetch_word_runs g p fw most rs first same_globals width wide gcalls lcalls top under P k n e c goes xs scope env w frames d apart h a i r go skip
+      plain_runs (update a v) pl inl' vec r few le go skip = m.update_runs g p fw most rs first same_globals width wide gcalls lcalls top under P k n xs e c goes scope env w frames d apart h a v r.0 vec.1 r.1 few go skip
+      plain_runs (eval a) pl inl' vec r few le go skip = absurd inl'
+      plain_runs (apply v a) pl inl' vec r few le go skip = absurd inl'.0
+      plain_runs (call f ws) pl inl' vec r few le go skip = call_runs f ws r le go skip
+      plain_runs (prim f a b) pl inl' vec r few le go skip = one.prim_runs g p fw most rs first same_globals width wide gcalls lcalls top under P k n e c goes xs scope env w frames d apart h f a b r.0 r.1 go skip
+      plain_runs read pl inl' vec r few le go skip = one.read_runs g p fw most rs first same_globals width wide gcalls lcalls top under P k n e c goes xs scope env w frames d apart h go skip
+      plain_runs (write a) pl inl' vec r few le go skip = m.write_runs g p fw most rs first same_globals width wide gcalls lcalls top under P k n xs e c goes scope env w frames d apart h a r go skip
+      plain_runs (case v as') pl inl' vec r few le go skip = absurd pl
+      plain_runs (nested b) pl inl' vec r few le go skip = absurd pl
+      plain_runs fail pl inl' vec r few le go skip = fail_runs

@@ -24,6 +24,7 @@ use Rattle.low_code.specs.Values.{need, no_vars}
 use Rattle.low_code.specs.Run as low_run
 use Rattle.low_code.specs.Run.{as_many}
 use Rattle.low_translate.specs.Translation.{results_of, procedure_code, procedure_numbers, procedures_code, program_code}
+use Rattle.low_translate.specs.Writes.{code_writes, procs_write, reach}
 use Rattle.low_translate.specs.Lowered.{CodeRanged, CodeGives, EachGives}
 use Rattle.low_translate.proofs.Images.{images, word_image, words_of_value, fit, length_fit, world_image, InRange, SoundWorld, none_some, some_same}
 use Rattle.low_translate.proofs.Operands.{bound, with_vars_bound, agrees_each}
@@ -42,6 +43,12 @@ one_of : (qs : List Procedure) (f : ℕ) (q : Procedure) (x : ℕ) → slice_get
 one_of [] f q x e = absurd (none_some e)
 one_of (r ∷ qs) zero q x e = let s : times x (procedure_vars r) ≡ times x (procedure_vars q) = ap (λ z. times x (procedure_vars z)) (some_same e) in let a = times_append x (procedure_vars r) (procs_vars qs) in omega (arith, s, a)
 one_of (r ∷ qs) (suc f) q x e = let h = one_of qs f q x e in let a = times_append x (procedure_vars r) (procs_vars qs) in omega (arith, h, a)
+
+-- and how many fields it writes
+one_writes : (qs : List Procedure) (f : ℕ) (q : Procedure) → slice_get qs f ≡ Some q → code_writes q.body ≤ procs_write qs
+one_writes [] f q e = absurd (none_some e)
+one_writes (r ∷ qs) zero q e = let s : code_writes r.body ≡ code_writes q.body = ap (λ z. code_writes z.body) (some_same e) in omega (arith, s)
+one_writes (r ∷ qs) (suc f) q e = let h = one_writes qs f q e in omega (arith, h)
 
 scoped_body : (g : grin_tree.Program) → ((x : ℕ) → times x (program_vars g) ≤ 1) → (f : ℕ) (q : Procedure) → slice_get g.procs f ≡ Some q → Scoped (past_procs g.procs) [] (numbers_of q.params ++ code_vars q.body)
 scoped_body g once f q e = record {
@@ -84,7 +91,7 @@ module _ (g : grin_tree.Program) (rs : List ℕ) (fw : ℕ → ℕ) (most : ℕ)
   width = 1 + most_fields g.tags
 
   abbrev p : low_tree.Program
-  p = program_code width rs first g
+  p = program_code width (reach g) rs first g
 
   abbrev Matches : (P : Value → Type 0) → ℕ → grin.Answer → low.Answer → Type 0
   Matches = Match g p fw most rs first (length-map g.globals (λ c. c.tag.0)) width refl
@@ -107,17 +114,18 @@ module _ (g : grin_tree.Program) (rs : List ℕ) (fw : ℕ → ℕ) (most : ℕ)
 
   module _ (inlined : IsInlined g) (vectorised : IsVectorised g) (ranged : AllOf (λ q. CodeRanged q.body) g.procs) (gives : EachGives (1 + most_value_fields g.tags) rs rs g.procs) (once : (x : ℕ) → times x (program_vars g) ≤ 1) (bounded : (f : ℕ) → f < length g.procs → fw f ≤ most) where
     body_piece : (f : ℕ) (q : Procedure) → slice_get g.procs f ≡ Some q → (number : ℕ) → first ≤ number → CodeGives (1 + most_value_fields g.tags) rs (results_of rs f) q.body
-        → blocks.CodePiece g rs width most first (record { words = results_of rs f; leaves = true }) (numbers_of q.params ++ []) number q.body
+        → blocks.CodePiece g rs (reach g) most first (record { words = results_of rs f; leaves = true }) (numbers_of q.params ++ []) number q.body
     body_piece f q e number past gv = record {
       inlined = all_get (λ q. EachCode inlined_kind q.body) g.procs f q inlined e;
       vectorised = all_get (λ q. EachCode vectorised_kind q.body) g.procs f q vectorised e;
       ranged = all_get (λ q. CodeRanged q.body) g.procs f q ranged e;
+      few = one_writes g.procs f q e;
       gives = λ l. gv;
       scoped = scoped_rest first [] (numbers_of q.params) (code_vars q.body) (scoped_body g once f q e);
       past = past;
     }
 
-    leaving : (r d top u : ℕ) → top ≤ suc d * most → u ≤ d * most → Standing g rs width most (λ v. is_given g v ≡ true) (record { words = r; leaves = true }) d top (Some u)
+    leaving : (r d top u : ℕ) → top ≤ suc d * most → u ≤ d * most → Standing g rs (reach g) most (λ v. is_given g v ≡ true) (record { words = r; leaves = true }) d top (Some u)
     leaving r d top u le lu = record {
       narrow = λ e. absurd (let z : true ≡ false = e in cc);
       given = λ e v h. and_left (not_delayed g v) (plain_number v) h;
@@ -131,7 +139,7 @@ module _ (g : grin_tree.Program) (rs : List ℕ) (fw : ℕ → ℕ) (most : ℕ)
       entered : (f : ℕ) (q : Procedure) (xs : List Datum) (bs : List Binding) (d : ℕ) (w : grin.World) (u frames left number : ℕ) → slice_get g.procs f ≡ Some q → one_each q.params xs ≡ Some bs → AllOf InRange xs → SoundWorld g w → u ≤ d * most → frames ≤ (w.depth + 1) * most
           → first ≤ number → CodeGives (1 + most_value_fields g.tags) rs (results_of rs f) q.body
           → Matches (λ v. Unit {0}) (results_of rs f) (looking_at true (is_given g) (code_by g (calls_by g true n) true (with_vars bs (λ y. None)) d q.body (passing (with_vars bs (λ y. None)) (grin_run.spent f d left w))))
-          (low_run.body p fw free (low_run.calls p fw free n) f u left (procedure_code width rs number (results_of rs f) q) (bound (numbers_of q.params) (images xs) no_vars) (world_image width frames w))
+          (low_run.body p fw free (low_run.calls p fw free n) f u left (procedure_code (reach g) rs number (results_of rs f) q) (bound (numbers_of q.params) (images xs) no_vars) (world_image width frames w))
       entered f q xs bs d w u frames left number eq eb ranged' sound lu wi past gv =
           given_match (results_of rs f) _ _ (blocks.code_runs g p fw most rs first (length-map g.globals (λ c. c.tag.0)) width refl refl (calls_by g true n) (low_run.calls p fw free n) calls_match
           (λ v. is_given g v ≡ true) (record { words = results_of rs f; leaves = true }) d (u + fw f) (Some u) (leaving (results_of rs f) d (u + fw f) u deeper lu) number (numbers_of q.params ++ []) q.body (body_piece f q eq number past gv)
@@ -160,10 +168,10 @@ module _ (g : grin_tree.Program) (rs : List ℕ) (fw : ℕ → ℕ) (most : ℕ)
           params : (left : ℕ) (q : Procedure) → slice_get g.procs f ≡ Some q → (o : Option (List Binding)) → one_each q.params xs ≡ o → Wanted (grin.need o w (goes left q)) (lows left (slice_get p.procs f))
           params left q eq None eb = missed
           params left q eq (Some bs) eb =
-              let t = translated width (1 + most_value_fields g.tags) rs first rs g.procs f q gives eq in
+              let t = translated (reach g) (1 + most_value_fields g.tags) rs first rs g.procs f q gives eq in
               let many : length (images xs) ≡ length (numbers_of q.params) = length-map xs word_image ∙ each_many q.params xs bs eb ∙ sym (length-map q.params (λ x. x.0)) in
-              let path : lows left (slice_get p.procs f) ≡ low_run.body p fw free (low_run.calls p fw free n) f u left (procedure_code width rs t.number (results_of rs f) q) (bound (numbers_of q.params) (images xs) no_vars) (world_image width frames w) =
-              ap (lows left) t.there ∙ (λ i. need (with_vars_bound (numbers_of q.params) (images xs) no_vars many i) (world_image width frames w) (λ env. low_run.body p fw free (low_run.calls p fw free n) f u left (procedure_code width rs t.number (results_of rs f) q) env (world_image width frames w))) in
+              let path : lows left (slice_get p.procs f) ≡ low_run.body p fw free (low_run.calls p fw free n) f u left (procedure_code (reach g) rs t.number (results_of rs f) q) (bound (numbers_of q.params) (images xs) no_vars) (world_image width frames w) =
+              ap (lows left) t.there ∙ (λ i. need (with_vars_bound (numbers_of q.params) (images xs) no_vars many i) (world_image width frames w) (λ env. low_run.body p fw free (low_run.calls p fw free n) f u left (procedure_code (reach g) rs t.number (results_of rs f) q) env (world_image width frames w))) in
               subst (Wanted (goes left q bs)) (sym path) (entered f q xs bs d w u frames left t.number eq eb ranged' sound lu wi t.past t.gives)
 
           procs : (left : ℕ) (o : Option Procedure) → slice_get g.procs f ≡ o → Wanted (grin.need o w (λ q. grin.need (one_each q.params xs) w (goes left q))) (lows left (slice_get p.procs f))

@@ -12,6 +12,7 @@ use Rattle.grin_meaning.specs.Ready.{most_fields, most_value_fields}
 use Rattle.low_code.specs.declared.program.LowProc.{LowProc}
 use Rattle.low_code.specs.Tree as low
 use Rattle.low_translate.specs.Translation.{procedures_code, program_code}
+use Rattle.low_translate.specs.Writes.{reach}
 use Rattle.low_translate.specs.Lowered.{CodeRanged, EachGives, IsLowered}
 use Rattle.low_translate.specs.Emitted.{ProcedureDone}
 
@@ -77,21 +78,21 @@ each_many node results (r ∷ rs) [] h = absurd h
 each_many node results (r ∷ rs) (q ∷ qs) h = ap suc (each_many node results rs qs h.1)
 
 -- the code that is made
-pub code_is : (g : Grin) (rs : List ℕ) (w start next f : ℕ) (made : List LowProc) (globals : List ℕ) (procs : List Proc) → length rs ≡ length g.procs
-    → w ≡ most_fields g.tags + 1 → start ≡ past_procs (map procedure_of g.procs) → globals ≡ map (λ c. c.tag.0) g.globals → procs ≡ g.procs → ProcsSoFar w rs start next made procs f → length procs ≤ f
-    → record { procs = map low.procedure_of made; start = g.start.0; argument = g.argument; globals = globals; width = w } ≡ program_code (1 + most_fields g.tags) rs (past_procs (map procedure_of g.procs)) (program_of g)
-code_is g rs w start next f made globals procs many ew es el ep s le =
+pub code_is : (g : Grin) (rs : List ℕ) (wide w start next f : ℕ) (made : List LowProc) (globals : List ℕ) (procs : List Proc) → length rs ≡ length g.procs
+    → wide ≡ most_fields g.tags + 1 → w ≡ reach (program_of g) → start ≡ past_procs (map procedure_of g.procs) → globals ≡ map (λ c. c.tag.0) g.globals → procs ≡ g.procs → ProcsSoFar w rs start next made procs f → length procs ≤ f
+    → record { procs = map low.procedure_of made; start = g.start.0; argument = g.argument; globals = globals; width = wide } ≡ program_code (1 + most_fields g.tags) (reach (program_of g)) rs (past_procs (map procedure_of g.procs)) (program_of g)
+code_is g rs wide w start next f made globals procs many ev ew es el ep s le =
     let kr : length rs ≤ f = (let e = ap length ep in omega (arith, many, le, e)) in
-    let width : w ≡ 1 + most_fields g.tags = omega (arith, ew) in
+    let width : wide ≡ 1 + most_fields g.tags = omega (arith, ev) in
     let is : map low.procedure_of made ≡ procedures_code w rs start rs (map procedure_of procs) = all_made w rs start next made procs f s le kr in
-    (λ i. record { procs = is i; start = g.start.0; argument = g.argument; globals = el i; width = w })
-    ∙ (λ i. record { procs = procedures_code (width i) rs (es i) rs (map procedure_of (ep i)); start = g.start.0; argument = g.argument; globals = map (λ c. c.tag.0) g.globals; width = width i })
+    (λ i. record { procs = is i; start = g.start.0; argument = g.argument; globals = el i; width = wide })
+    ∙ (λ i. record { procs = procedures_code (ew i) rs (es i) rs (map procedure_of (ep i)); start = g.start.0; argument = g.argument; globals = map (λ c. c.tag.0) g.globals; width = width i })
 
 pub code_ranged : (g : Grin) (rs : List ℕ) (w start next f : ℕ) (made : List LowProc) (procs : List Proc) → procs ≡ g.procs → ProcsSoFar w rs start next made procs f → length procs ≤ f → AllOf (λ q. CodeRanged q.body) (map procedure_of g.procs)
 code_ranged g rs w start next f made procs ep s le = subst (λ l. AllOf (λ q. CodeRanged q.body) (map procedure_of l)) ep (all_ranged w rs start next made procs f s le)
 
 pub lowered_is : (g : Grin) (l : low.Program) (rs rs' : List ℕ) (node : ℕ) (ps : List Proc) → node ≡ most_value_fields g.tags + 1 → ps ≡ g.procs → EachGives node rs rs (map procedure_of ps) → AllOf (λ r. r ≤ 13) rs → length g.tags ≤ 2 ^ 32
-    → AllOf (λ q. CodeRanged q.body) (map procedure_of g.procs) → rs' ≡ rs → l ≡ program_code (1 + most_fields g.tags) rs' (past_procs (map procedure_of g.procs)) (program_of g) → IsLowered (program_of g) l
+    → AllOf (λ q. CodeRanged q.body) (map procedure_of g.procs) → rs' ≡ rs → l ≡ program_code (1 + most_fields g.tags) (reach (program_of g)) rs' (past_procs (map procedure_of g.procs)) (program_of g) → IsLowered (program_of g) l
 lowered_is g l rs rs' node ps en eps eg few tags ranged same is =
     let node_width : node ≡ 1 + most_value_fields g.tags = omega (arith, en) in
     record {
@@ -100,5 +101,5 @@ lowered_is g l rs rs' node ps en eps eg few tags ranged same is =
       few = few;
       few_tags = tags;
       ranged = ranged;
-      is = is ∙ ap (λ k. program_code (1 + most_fields g.tags) k (past_procs (map procedure_of g.procs)) (program_of g)) same;
+      is = is ∙ ap (λ k. program_code (1 + most_fields g.tags) (reach (program_of g)) k (past_procs (map procedure_of g.procs)) (program_of g)) same;
     }

@@ -1,5 +1,5 @@
 -- Blocks of low code whose operands are in scope, whose literals are words, and whose arms have few tests.
-use Rattle.std.proofs.Common.{◌≡◌, ◌≤◌, ◌<◌, ◌^◌, inl, inr, ℕ, zero, suc, ◌+◌, Bool, true, false, List, [], ◌∷◌, ◌++◌, length, take, drop, sym, ap, ◌∙◌, arith, lit<}
+use Rattle.std.proofs.Common.{◌≡◌, ◌≤◌, ◌<◌, ◌^◌, inl, inr, ℕ, zero, suc, Bool, true, false, List, [], ◌∷◌, ◌++◌, length, take, drop, sym, ap, ◌∙◌, arith, lit<}
 use Rattle.std.specs.Prelude.{nat_lt, ◌||◌}
 use Rattle.std.proofs.lemmas.Bool.Decides.{eqb_tells}
 use Rattle.grin_syntax.specs.declared.program.Cell as C
@@ -8,11 +8,11 @@ use Rattle.low_code.specs.declared.program.LowTest.{LowTest}
 use Rattle.low_code.specs.declared.program.PrimOp.{PrimOp}
 use Rattle.low_code.specs.declared.program.Operand.{Operand}
 use Rattle.low_code.specs.declared.program.Operand.TheVariants.{Var, Num, Cell}
-use Rattle.low_code.specs.Tree.{Code, set, prim, load, put, get, call, join, give, tail, choose, fail, Arms, otherwise, arm}
+use Rattle.low_code.specs.Tree.{Code, set, prim, load, save, put, get, call, join, give, tail, choose, fail, Arms, otherwise, arm}
 use Rattle.low_code.specs.Formed.{Known, AllKnown, TestsKnown, Scoped, ArmsScoped}
 use Rattle.low_code.specs.Literals.{IsSmall, AreSmall, TestsSmall, Small, ArmsSmall}
 use Rattle.low_code.specs.Size.{FewTests, ArmsFewTests}
-use Rattle.low_translate.specs.Translation.{operands_of, fitted, variables_of, nth_operand, is_number, tested, sets, to_first, load_word, loads, saves, taken, stores}
+use Rattle.low_translate.specs.Translation.{operands_of, fitted, variables_of, nth_operand, is_number, tested, sets, to_first, load_word, loads, saves, fill_word, fills, taken, stores}
 use Rattle.seq.specs.Lists.{is_among}
 use Rattle.seq.proofs.Counted.{among_later, among_first}
 
@@ -215,6 +215,17 @@ module _ (globals : ℕ) where
       let r = saves_fine a (suc i) bs ys c h k.1 f in
       record { scoped = (h.0, k.0.0, r.scoped); small = (h.1, k.0.1, r.small); few = r.few }
 
+  fill_fine : (a : Operand) (i : ℕ) (b : Operand) (ys : List ℕ) (c : Code) → Good ys a → Good ys b → Fine ys c → Fine ys (fill_word a i b c)
+  fill_fine a i b ys c h k f = by (is_number b 0)
+    where
+      by : (t : Bool) → Fine ys (elim t [ true ↦ c | false ↦ save a i b c ])
+      by true = f
+      by false = record { scoped = (h.0, k.0, f.scoped); small = (h.1, k.1, f.small); few = f.few }
+
+  fills_fine : (a : Operand) (i : ℕ) (bs : List Operand) (ys : List ℕ) (c : Code) → Good ys a → AllGood ys bs → Fine ys c → Fine ys (fills a i bs c)
+  fills_fine a i [] ys c h k f = f
+  fills_fine a i (b ∷ bs) ys c h k f = fill_fine a i b ys (fills a (suc i) bs c) h k.0 (fills_fine a (suc i) bs ys c h k.1 f)
+
   pub taken_fine : (xs ys : List ℕ) (c : Code) → Fine (xs ++ ys) c → Fine ys (taken xs c)
   taken_fine [] ys c f = f
   taken_fine (x ∷ xs) ys c f = record { scoped = f.scoped; small = f.small; few = f.few }
@@ -225,4 +236,4 @@ module _ (globals : ℕ) where
 
   pub stores_fine : (width : ℕ) (cs : List C.Cell) (ys : List ℕ) (c : Code) → AllOf (CellGood ys) cs → Fine ys c → Fine ys (stores width cs c)
   stores_fine width [] ys c h f = f
-  stores_fine width (x ∷ cs) ys c h f = saves_fine (Var x.var.0) 0 (take width (operands_of x.val)) ys (stores width cs c) (h.0.0, tt) (goods_take width (operands_of x.val) ys h.0.1) (stores_fine width cs ys c h.1 f)
+  stores_fine width (x ∷ cs) ys c h f = fills_fine (Var x.var.0) 0 (take width (operands_of x.val)) ys (stores width cs c) (h.0.0, tt) (goods_take width (operands_of x.val) ys h.0.1) (stores_fine width cs ys c h.1 f)

@@ -17,8 +17,9 @@ use Rattle.low_code.specs.Values as low
 use Rattle.low_code.specs.Values.{with_var, need, and_then}
 use Rattle.low_code.specs.Run.{Calls, code, next_byte, byte_taken}
 use Rattle.low_translate.specs.Translation.{operand_of, operation_of, sets, to_first, load_word}
+use Rattle.low_translate.specs.Writes.{reach}
 use Rattle.low_translate.specs.Lowered.{Has32Bits, WordRanged}
-use Rattle.low_translate.proofs.Images.{word_image, images, fit, fit_from, cell_image, world_image, InRange, SoundNode, SoundWorld, node_fits}
+use Rattle.low_translate.proofs.Images.{word_image, images, fit, fit_from, cell_image, world_image, InRange, SoundCell, SoundWorld, cell_narrow}
 use Rattle.low_translate.proofs.Operands.{bound, operand_is}
 use Rattle.low_translate.proofs.Pieces.{sets_run, loads_run}
 use Rattle.low_translate.proofs.Figures.{arithmetic_same, arithmetic_has}
@@ -79,23 +80,22 @@ module _ (g : grin_tree.Program) (p : low_tree.Program) (fw : ℕ → ℕ) (most
       first_only x rest y e h = let k : times y (x ∷ rest) ≡ 0 = ap (times y) (sym e) ∙ h in omega (arith, k)
 
       pub fetch_word_runs : (a : W.Word) (j : ℕ) → WordRanged a → Going P k n xs e c goes → Skipping P k xs (fetch_word a j) goes
-          → Matches P k (grin.then_do (act_by g gcalls true env d (fetch_word a j) w) goes) (does e (to_first xs (λ x. load_word width x (operand_of a) j) c) (world_image width frames w))
+          → Matches P k (grin.then_do (act_by g gcalls true env d (fetch_word a j) w) goes) (does e (to_first xs (λ x. load_word (reach g) x (operand_of a) j) c) (world_image width frames w))
       unfolding act_by
       fetch_word_runs a j r go skip = by (grin.and_then (word_of g env a) place_of) refl
         where
-          by : (o : Option ℕ) → grin.and_then (word_of g env a) place_of ≡ o → Matches P k (grin.then_do (grin.need o w (λ i. grin.need (slice_get w.cells i) w (λ u. grin.gives (words (node_word u.node j ∷ [])) w))) goes) (does e (to_first xs (λ x. load_word width x (operand_of a) j) c) (world_image width frames w))
+          by : (o : Option ℕ) → grin.and_then (word_of g env a) place_of ≡ o → Matches P k (grin.then_do (grin.need o w (λ i. grin.need (slice_get w.cells i) w (λ u. grin.gives (words (node_word u.node j ∷ [])) w))) goes) (does e (to_first xs (λ x. load_word (reach g) x (operand_of a) j) c) (world_image width frames w))
           by None q = missed
           by (Some i) q = inner (slice_get w.cells i) refl
             where
-              inner : (o : Option HeapCell) → slice_get w.cells i ≡ o → Matches P k (grin.then_do (grin.need o w (λ u. grin.gives (words (node_word u.node j ∷ [])) w)) goes) (does e (to_first xs (λ x. load_word width x (operand_of a) j) c) (world_image width frames w))
+              inner : (o : Option HeapCell) → slice_get w.cells i ≡ o → Matches P k (grin.then_do (grin.need o w (λ u. grin.gives (words (node_word u.node j ∷ [])) w)) goes) (does e (to_first xs (λ x. load_word (reach g) x (operand_of a) j) c) (world_image width frames w))
               inner None z = missed
               inner (Some u) z =
                   let o = place_is g p fw most rs first same_globals width wide gcalls lcalls top under P k n xs e c goes scope env w frames d apart h a i q r in
-                  let s : SoundNode g u.node = all_get (λ x. SoundNode g x.node) w.cells i u h.sound.cells z in
+                  let s : SoundCell g u.node = all_get (λ x. SoundCell g x.node) w.cells i u h.sound.cells z in
                   let ws = images (tag u.node.tag ∷ u.node.fields) in
-                  let le : length ws ≤ width = (let m = node_fits g u.node s in omega (arith, m, wide)) in
-                  one_word (fetch_word a j) xs (λ x. load_word width x (operand_of a) j) (node_word u.node j) w w frames (omega arith) (node_word_ranged u.node j s.ranged) h.sound h.within go skip
-                  (λ x rest c' eq. loads_run p fw free lcalls top under width (x ∷ []) (operand_of a) j i ws e c' (world_image width frames w) o.is (o.avoids (x ∷ []) (λ y m. first_only x rest y eq (apart y m))) (map_get (λ x. cell_image width x.node) w.cells i u z) le
+                  one_word (fetch_word a j) xs (λ x. load_word (reach g) x (operand_of a) j) (node_word u.node j) w w frames (omega arith) (node_word_ranged u.node j s.sound.ranged) h.sound h.within go skip
+                  (λ x rest c' eq. loads_run p fw free lcalls top under (reach g) width (omega (arith, wide)) (x ∷ []) (operand_of a) j i ws e c' (world_image width frames w) o.is (o.avoids (x ∷ []) (λ y m. first_only x rest y eq (apart y m))) (map_get (λ x. cell_image width x.node) w.cells i u z) (cell_narrow g u.node s)
                   ∙ (λ t. does (bound (x ∷ []) (fit_from 0 j ws t) e) c' (world_image width frames w)) ∙ ap (λ v. does (with_var x v e) c' (world_image width frames w)) (sym (node_word_image u.node j)))
 
       pub prim_runs : (f : G.PrimOp) (a b : W.Word) → WordRanged a → WordRanged b → Going P k n xs e c goes → Skipping P k xs (prim f a b) goes

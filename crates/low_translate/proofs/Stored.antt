@@ -1,11 +1,12 @@
 -- New cells, and cells that are written over.
 use Rattle.std.proofs.Common.{◌≡◌, ◌≤◌, ℕ, zero, suc, ◌+◌, Bool, true, cond, List, [], ◌∷◌, ◌++◌, map, length, take, replicate, Option, Some, None, slice_get, refl, sym, ap, ◌∙◌, subst, arith, append-nil, append_assoc, length-append}
-use Rattle.std.specs.Prelude.{nat_eq, slice_set}
+use Rattle.std.specs.Prelude.{nat_eq, min, max, slice_set}
 use Rattle.std.proofs.lemmas.Bool.{eq-eqb}
-use Rattle.std.proofs.lemmas.List.{length-take, length-replicate}
+use Rattle.std.proofs.lemmas.List.{length-map, length-take, length-replicate}
 use Rattle.seq.proofs.Truth.{and_left, and_right}
 use Rattle.grin_syntax.specs.declared.program.Cell as C
 use Rattle.grin_syntax.specs.declared.program.Val as V
+use Rattle.grin_syntax.specs.declared.program.Val.TheVariants as val
 use Rattle.grin_syntax.specs.Binders.{cell_vars}
 use Rattle.grin_syntax.specs.Formed.{AllOf}
 use Rattle.grin_syntax.specs.Tree as grin_tree
@@ -23,10 +24,13 @@ use Rattle.low_code.specs.Values.{Word, Env, World, Room, need, and_then, with_v
 use Rattle.low_code.specs.Run.{Calls, operand, operands, code, places, with_cells, empty_cell, within_limit}
 use Rattle.low_translate.specs.Translation.{operands_of, fitted, taken, stores, saves}
 use Rattle.low_translate.specs.Lowered.{ValRanged}
-use Rattle.low_translate.proofs.Images.{images, words_of_value, fit, length_fit, zeros, cell_image, SoundNode, none_some, some_same}
+use Rattle.low_translate.specs.Writes.{fields_in, cells_write, procs_write, reach}
+use Rattle.low_translate.proofs.Images.{word_image, images, words_of_value, fit, length_fit, zeros, cell_image, SoundCell, node_fits, none_some, some_same}
 use Rattle.low_translate.proofs.Operands.{bound, with_vars_bound, Agrees, value_is, fitted_are}
-use Rattle.low_translate.proofs.Pieces.{over_zeros, over_all, saves_run, bound_other}
-use Rattle.low_translate.proofs.Deciding.{stands, stands_sound, same_cell, filled_value}
+use Rattle.low_translate.proofs.Parts.{words_many}
+use Rattle.low_translate.proofs.Pieces.{over_zeros, over_fit, saves_run, bound_other}
+use Rattle.low_translate.proofs.Fills.{all_zeros, fills_run}
+use Rattle.low_translate.proofs.Deciding.{Stands, itself, its_words, stands, stands_sound, same_cell, filled_value}
 use Rattle.seq.specs.Lists.{times}
 
 -- the first operands
@@ -44,6 +48,25 @@ operands_front p fw env (suc k) (a ∷ as') ws h = go (operand p fw env a) refl 
     go None q os qs m rec = absurd (none_some m)
     go (Some b) q None qs m rec = absurd (none_some m)
     go (Some b) q (Some bs) qs m rec = (λ i. and_then (q i) (λ b. and_then (rec bs qs i) (λ bs. Some (b ∷ bs)))) ∙ ap (λ l. Some (take (suc k) l)) (some_same m)
+
+operands_many : (p : low_tree.Program) (fw : ℕ → ℕ) (env : Env) (as' : List Operand) (ws : List Word) → operands p fw env as' ≡ Some ws → length ws ≡ length as'
+operands_many p fw env [] ws h = ap length (sym (some_same h))
+operands_many p fw env (a ∷ as') ws h = go (operand p fw env a) (operands p fw env as') refl h (λ l q. operands_many p fw env as' l q)
+  where
+    go : (o : Option Word) (os : Option (List Word)) → operands p fw env as' ≡ os → and_then o (λ b. and_then os (λ bs. Some (b ∷ bs))) ≡ Some ws → ((l : List Word) → operands p fw env as' ≡ Some l → length l ≡ length as') → length ws ≡ suc (length as')
+    go None os q m rec = absurd (none_some m)
+    go (Some b) None q m rec = absurd (none_some m)
+    go (Some b) (Some l) q m rec = ap length (sym (some_same m)) ∙ ap suc (rec l q)
+
+operands_few : (v : V.Val) → length (operands_of v) ≤ 1 + fields_in v
+operands_few (val.NodeVar x) = omega arith
+operands_few (val.Node t ws) = let m = words_many ws in omega (arith, m)
+operands_few (val.Vector ws) = let m = words_many ws in omega (arith, m)
+operands_few (val.One w) = omega arith
+
+stands_few : (g : grin_tree.Program) (x : Value) (n : Node) → Stands g x n → 1 + length n.fields ≤ length (words_of_value x)
+stands_few g _ _ itself = omega arith
+stands_few g _ _ (its_words {k = k} {ds = ds} q le) = let m = length-take k ds in omega (arith, m)
 
 -- cells from a on, one for each variable
 abbrev pub Placed : Env → ℕ → List C.Cell → Type 0
@@ -84,64 +107,72 @@ module _ (g : grin_tree.Program) (p : low_tree.Program) (fw : ℕ → ℕ) (same
     pub value : Value
     pub words : operands p fw e (operands_of v) ≡ Some (images (words_of_value value))
     pub same : fit width (images (words_of_value value)) ≡ cell_image width n
-    pub sound : SoundNode g n
+    pub few : min width (length (images (words_of_value value))) ≤ reach g
+    pub sound : SoundCell g n
 
-  pub node_is : (first : ℕ) (scope : List ℕ) (env : grin.Env) (e : Env) → Agrees first scope env e → (v : V.Val) (n : Node) → node_of g env v ≡ Some n → fills g env v ≡ true → NoNodeVar v → ValRanged v → Noded first scope env e v n
-  node_is first scope env e a v n h f nn r = go (value_of g env v) refl h
+  pub node_is : (first : ℕ) (scope : List ℕ) (env : grin.Env) (e : Env) → Agrees first scope env e → (v : V.Val) (n : Node) → node_of g env v ≡ Some n → fills g env v ≡ true → NoNodeVar v → ValRanged v → fields_in v ≤ procs_write g.procs → Noded first scope env e v n
+  node_is first scope env e a v n h f nn r most = go (value_of g env v) refl h
     where
       go : (o : Option Value) → value_of g env v ≡ o → grin.and_then o (as_node g) ≡ Some n → Noded first scope env e v n
       go None q m = absurd (none_some m)
       go (Some x) q m =
           let u = value_is g p fw same_globals first scope env e a v x q nn r in
           let s = stands g x n m in
+          let sn = stands_sound g x n s u.sound in
+          let many = operands_many p fw e (operands_of v) _ u.words.are in
+          let at_most = operands_few v in
+          let own = stands_few g x n s in
+          let same = length-map (words_of_value x) word_image in
+          let fits = node_fits g n sn in
+          let own_many = length-map n.fields word_image in
           record {
             value = x;
+            few = omega (arith, many, at_most, most, wide);
             words = u.words.are;
             same = same_cell g width x n s (λ ds k. filled_value g env v x nn q f ds k n m);
-            sound = stands_sound g x n s u.sound;
+            sound = record { sound = sn; narrow = omega (arith, many, at_most, most, own, same, fits, own_many) };
           }
 
   -- the nodes of new cells
   pub stores_run : (first : ℕ) (scope : List ℕ) (env : grin.Env) (e : Env) → Agrees first scope env e → (cs : List C.Cell) (hs : List HeapCell) (pre : List (List Word)) (c : Code) (w : World)
-      → cells_of g env cs ≡ Some hs → all_fill g env cs ≡ true → AllOf (λ c. NoNodeVar c.val) cs → AllOf (λ c. ValRanged c.val) cs → Placed e (length pre) cs
-      → (runs e (stores width cs c) (record w { cells = pre ++ replicate (length cs) (zeros width) }) ≡ runs e c (record w { cells = pre ++ map (λ h. cell_image width h.node) hs })) × AllOf (λ h. SoundNode g h.node) hs
-  stores_run first scope env e a [] hs pre c w h f nn r pl = subst (λ l. (runs e c (record w { cells = pre ++ [] }) ≡ runs e c (record w { cells = pre ++ map (λ h. cell_image width h.node) l })) × AllOf (λ h. SoundNode g h.node) l) (some_same h) (refl, tt)
-  stores_run first scope env e a (k ∷ cs) hs pre c w h f nn r pl = go (node_of g env k.val) refl (cells_of g env cs) refl h
-      (λ l next qs t pl'. stores_run first scope env e a cs l next c w qs t nn.1 r.1 pl')
+      → cells_of g env cs ≡ Some hs → all_fill g env cs ≡ true → AllOf (λ c. NoNodeVar c.val) cs → AllOf (λ c. ValRanged c.val) cs → Placed e (length pre) cs → cells_write cs ≤ procs_write g.procs
+      → (runs e (stores (reach g) cs c) (record w { cells = pre ++ replicate (length cs) (zeros width) }) ≡ runs e c (record w { cells = pre ++ map (λ h. cell_image width h.node) hs })) × AllOf (λ h. SoundCell g h.node) hs
+  stores_run first scope env e a [] hs pre c w h f nn r pl most = subst (λ l. (runs e c (record w { cells = pre ++ [] }) ≡ runs e c (record w { cells = pre ++ map (λ h. cell_image width h.node) l })) × AllOf (λ h. SoundCell g h.node) l) (some_same h) (refl, tt)
+  stores_run first scope env e a (k ∷ cs) hs pre c w h f nn r pl most = go (node_of g env k.val) refl (cells_of g env cs) refl h
+      (λ l next qs t pl'. stores_run first scope env e a cs l next c w qs t nn.1 r.1 pl' (let m : max (fields_in k.val) (cells_write cs) ≤ procs_write g.procs = most in omega (arith, m)))
     where
       go : (o : Option Node) → node_of g env k.val ≡ o → (os : Option (List HeapCell)) → cells_of g env cs ≡ os → grin.and_then (grin.and_then o (λ n. Some (record { site = k.site.0; node = n }))) (λ b. grin.and_then os (λ bs. Some (b ∷ bs))) ≡ Some hs
           → ((l : List HeapCell) (next : List (List Word)) → cells_of g env cs ≡ Some l → all_fill g env cs ≡ true → Placed e (length next) cs
-          → (runs e (stores width cs c) (record w { cells = next ++ replicate (length cs) (zeros width) }) ≡ runs e c (record w { cells = next ++ map (λ h. cell_image width h.node) l })) × AllOf (λ h. SoundNode g h.node) l)
-          → (runs e (stores width (k ∷ cs) c) (record w { cells = pre ++ replicate (suc (length cs)) (zeros width) }) ≡ runs e c (record w { cells = pre ++ map (λ h. cell_image width h.node) hs })) × AllOf (λ h. SoundNode g h.node) hs
+          → (runs e (stores (reach g) cs c) (record w { cells = next ++ replicate (length cs) (zeros width) }) ≡ runs e c (record w { cells = next ++ map (λ h. cell_image width h.node) l })) × AllOf (λ h. SoundCell g h.node) l)
+          → (runs e (stores (reach g) (k ∷ cs) c) (record w { cells = pre ++ replicate (suc (length cs)) (zeros width) }) ≡ runs e c (record w { cells = pre ++ map (λ h. cell_image width h.node) hs })) × AllOf (λ h. SoundCell g h.node) hs
       go None q os qs m rec = absurd (none_some m)
       go (Some n) q None qs m rec = absurd (none_some m)
       go (Some n) q (Some l) qs m rec =
-          let d = node_is first scope env e a k.val n q (and_left (fills g env k.val) (all_fill g env cs) f) nn.0 r.0 in
+          let d = node_is first scope env e a k.val n q (and_left (fills g env k.val) (all_fill g env cs) f) nn.0 r.0 (let m : max (fields_in k.val) (cells_write cs) ≤ procs_write g.procs = most in omega (arith, m)) in
           let ws : List Word = images (words_of_value d.value) in
           let img : List Word = cell_image width n in
           let next : List (List Word) = pre ++ img ∷ [] in
           let one : length next ≡ suc (length pre) = length-append pre (img ∷ []) ∙ omega arith in
           let rest = rec l next qs (and_right (fills g env k.val) (all_fill g env cs) f) (subst (λ j. Placed e j cs) (sym one) pl.1) in
           let is : hs ≡ record { site = k.site.0; node = n } ∷ l = sym (some_same m) in
-          let step : runs e (stores width (k ∷ cs) c) (record w { cells = pre ++ (zeros width ∷ replicate (length cs) (zeros width)) }) ≡ runs e (stores width cs c) (record w { cells = next ++ replicate (length cs) (zeros width) }) =
-          saves_run p fw room calls top under (Var k.var.0) 0 (take width (operands_of k.val)) (take width ws) (length pre) (zeros width) e (stores width cs c) (record w { cells = pre ++ (zeros width ∷ replicate (length cs) (zeros width)) })
-          pl.0 (operands_front p fw e width (operands_of k.val) ws d.words) (at_end pre (zeros width) _) (omega (arith, length-take width ws, length-replicate width (low.number 0)))
-          ∙ (λ i. runs e (stores width cs c) (record w { cells = slice_set (pre ++ (zeros width ∷ replicate (length cs) (zeros width))) (length pre) ((over_zeros width ws ∙ d.same) i) }))
-          ∙ (λ i. runs e (stores width cs c) (record w { cells = (set_end pre (zeros width) img (replicate (length cs) (zeros width)) ∙ sym (append_assoc pre (img ∷ []) (replicate (length cs) (zeros width)))) i })) in (
+          let step : runs e (stores (reach g) (k ∷ cs) c) (record w { cells = pre ++ (zeros width ∷ replicate (length cs) (zeros width)) }) ≡ runs e (stores (reach g) cs c) (record w { cells = next ++ replicate (length cs) (zeros width) }) =
+          fills_run p fw room calls top under (Var k.var.0) 0 (take (reach g) (operands_of k.val)) (take (reach g) ws) (length pre) (zeros width) e (stores (reach g) cs c) (record w { cells = pre ++ (zeros width ∷ replicate (length cs) (zeros width)) })
+          pl.0 (operands_front p fw e (reach g) (operands_of k.val) ws d.words) (at_end pre (zeros width) _) (omega (arith, wide, length-take (reach g) ws, length-replicate width (low.number 0))) (all_zeros width)
+          ∙ (λ i. runs e (stores (reach g) cs c) (record w { cells = slice_set (pre ++ (zeros width ∷ replicate (length cs) (zeros width))) (length pre) ((over_zeros (reach g) width ws (omega (arith, wide)) d.few ∙ d.same) i) }))
+          ∙ (λ i. runs e (stores (reach g) cs c) (record w { cells = (set_end pre (zeros width) img (replicate (length cs) (zeros width)) ∙ sym (append_assoc pre (img ∷ []) (replicate (length cs) (zeros width)))) i })) in (
             step ∙ rest.0 ∙ (λ i. runs e c (record w { cells = (append_assoc pre (img ∷ []) (map (λ h. cell_image width h.node) l) ∙ ap (λ z. pre ++ map (λ h. cell_image width h.node) z) (sym is)) i })),
-            subst (AllOf (λ h. SoundNode g h.node)) (sym is) (d.sound, rest.1),
+            subst (AllOf (λ h. SoundCell g h.node)) (sym is) (d.sound, rest.1),
           )
 
   -- a cell that is written over
-  pub update_run : (first : ℕ) (scope : List ℕ) (env : grin.Env) (e : Env) → Agrees first scope env e → (b : Operand) (v : V.Val) (i : ℕ) (n : Node) (cell' : List Word) (c : Code) (w : World)
-      → operand p fw e b ≡ Some (low.cell i) → slice_get w.cells i ≡ Some cell' → length cell' ≡ width → node_of g env v ≡ Some n → fills g env v ≡ true → NoNodeVar v → ValRanged v
-      → (runs e (saves b 0 (fitted width (operands_of v)) c) w ≡ runs e c (record w { cells = slice_set w.cells i (cell_image width n) })) × SoundNode g n
-  update_run first scope env e a b v i n cell' c w hb hc hl hn f nn r =
-      let d = node_is first scope env e a v n hn f nn r in
-      let ws : List Word = images (words_of_value d.value) in
-      let many : length (fit width ws) ≡ length cell' = length_fit width ws ∙ sym hl in (
-        saves_run p fw room calls top under b 0 (fitted width (operands_of v)) (fit width ws) i cell' e c w hb (fitted_are g p fw same_globals width e (operands_of v) ws d.words) hc (omega (arith, many))
-            ∙ (λ t. runs e c (record w { cells = slice_set w.cells i ((over_all (fit width ws) cell' many ∙ d.same) t) })),
+  pub update_run : (first : ℕ) (scope : List ℕ) (env : grin.Env) (e : Env) → Agrees first scope env e → (b : Operand) (v : V.Val) (i : ℕ) (n : Node) (us : List Word) (c : Code) (w : World)
+      → operand p fw e b ≡ Some (low.cell i) → slice_get w.cells i ≡ Some (fit width us) → length us ≤ reach g → node_of g env v ≡ Some n → fills g env v ≡ true → NoNodeVar v → ValRanged v → fields_in v ≤ procs_write g.procs
+      → (runs e (saves b 0 (fitted (reach g) (operands_of v)) c) w ≡ runs e c (record w { cells = slice_set w.cells i (cell_image width n) })) × SoundCell g n
+  update_run first scope env e a b v i n us c w hb hc hl hn f nn r most =
+      let d = node_is first scope env e a v n hn f nn r most in
+      let ws : List Word = images (words_of_value d.value) in (
+        saves_run p fw room calls top under b 0 (fitted (reach g) (operands_of v)) (fit (reach g) ws) i (fit width us) e c w hb (fitted_are g p fw same_globals (reach g) e (operands_of v) ws d.words) hc (omega (arith, wide, length_fit (reach g) ws, length_fit width us))
+            ∙ (λ t. runs e c (record w { cells = slice_set w.cells i ((over_fit (reach g) width ws us (omega (arith, wide)) d.few hl ∙ d.same) t) })),
         d.sound,
       )
 

@@ -4,3 +4,4 @@ pub mod Lowered
 pub mod Emitted
 pub mod Groups
 pub mod Ends
+pub mod Writes

@@ -13,6 +13,7 @@ use Rattle.grin_syntax.specs.Formed.{AllOf}
 use Rattle.grin_meaning.specs.Ready.{most_fields, most_value_fields, val_width}
 use Rattle.low_code.specs.Tree as low
 use Rattle.low_translate.specs.Translation.{results_of, program_code}
+use Rattle.low_translate.specs.Writes.{reach}
 
 -- ---- the numbers of a program have 32 bits
 
@@ -123,4 +124,4 @@ pub record IsLowered (g : grin.Program) (l : low.Program) : Type 0 where
   pub few : AllOf (λ r. r ≤ 13) results
   pub few_tags : length g.tags ≤ 2 ^ 32
   pub ranged : AllOf (λ q. CodeRanged q.body) g.procs
-  pub is : l ≡ program_code (1 + most_fields g.tags) results (past_procs g.procs) g
+  pub is : l ≡ program_code (1 + most_fields g.tags) (reach g) results (past_procs g.procs) g

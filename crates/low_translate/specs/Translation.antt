@@ -88,15 +88,28 @@ abbrev pub saves : Operand → ℕ → List Operand → Code → Code
 saves a i [] c = c
 saves a i (b ∷ bs) c = save a i b (saves a (suc i) bs c)
 
+abbrev pub is_number : Operand → ℕ → Bool
+is_number (Num j) k = nat_eq j k
+is_number _ k = false
+
+-- a word into a new cell, where zeros stand already
+abbrev pub fill_word : Operand → ℕ → Operand → Code → Code
+fill_word a i b c = elim (is_number b 0) [ true ↦ c | false ↦ save a i b c ]
+
+-- words into a new cell, from word i on
+abbrev pub fills : Operand → ℕ → List Operand → Code → Code
+fills a i [] c = c
+fills a i (b ∷ bs) c = fill_word a i b (fills a (suc i) bs c)
+
 -- new cells, if any
 abbrev pub taken : List ℕ → Code → Code
 taken [] c = c
 taken (x ∷ xs) c = take_cells (x ∷ xs) c
 
--- a new cell's words are zeros: the tag and the fields alone are written
+-- a new cell's words are zeros: of the tag and the fields those are written that are others
 abbrev pub stores : (width : ℕ) → List C.Cell → Code → Code
 stores width [] c = c
-stores width (x ∷ xs) c = saves (Var x.var.0) 0 (take width (operands_of x.val)) (stores width xs c)
+stores width (x ∷ xs) c = fills (Var x.var.0) 0 (take width (operands_of x.val)) (stores width xs c)
 
 -- ---- tests
 
@@ -104,10 +117,6 @@ abbrev pub nth_operand : List Operand → ℕ → Operand
 nth_operand [] i = Num 0
 nth_operand (a ∷ as') zero = a
 nth_operand (a ∷ as') (suc i) = nth_operand as' i
-
-abbrev pub is_number : Operand → ℕ → Bool
-is_number (Num j) k = nat_eq j k
-is_number _ k = false
 
 -- a test, unless it is of the number itself
 abbrev pub tested : Operand → ℕ → List LowTest → List LowTest
@@ -260,9 +269,11 @@ module _ (width : ℕ) (results : List ℕ) where
       procedure_code n r q ∷ procedures_code (n + procedure_numbers r q) rs qs
   procedures_code n _ _ = []
 
-abbrev pub program_code : (width : ℕ) → (results : List ℕ) → (n : ℕ) → grin.Program → low.Program
-program_code width results n g = record {
-  procs = procedures_code width results n results g.procs;
+-- a program that writes so many words of its cells
+abbrev pub program_code : (width : ℕ) → (written : ℕ) → (results : List ℕ) → (n : ℕ) → grin.Program
+    → low.Program
+program_code width written results n g = record {
+  procs = procedures_code written results n results g.procs;
   start = g.start.0;
   argument = g.argument;
   globals = map (λ c. c.tag.0) g.globals;

@@ -27,8 +27,8 @@ pub(crate) struct Goal {
     pub leaves: bool,
 }
 
-/// What the translation of a block depends on: the words of a cell, and how many words each
-/// procedure gives.
+/// What the translation of a block depends on: how many words of a cell are written, and how many
+/// words each procedure gives.
 #[derive(Drop)]
 pub(crate) struct Plan<'a> {
     pub width: u32,

@@ -6,9 +6,10 @@ ghost use Rattle.low_code.specs.Tree.{before_of};
 ghost use Rattle.grin_syntax.specs.Binders.{cell_vars};
 ghost use Rattle.grin_syntax.specs.Formed.{AllOf};
 ghost use Rattle.low_translate.specs.Emitted.{Adds};
-ghost use Rattle.low_translate.specs.Translation.{sets, load_word, loads, saves, taken, stores};
+ghost use Rattle.low_translate.specs.Translation.{sets, load_word, loads, saves, fill_word, fills, taken, stores};
 ghost use Rattle.low_translate.specs.Lowered.{ValRanged};
 
+use crate::patterns::is_known;
 use crate::words::{nth, value};
 use grin_syntax::Cell;
 use low_code::{LowStmt, Operand};
@@ -85,6 +86,27 @@ pub(crate) fn save_words(
     Ok(())
 }
 
+// Puts a word into a new cell: a zero stands there already.
+fn fill(made: &mut Seq<LowStmt>, cell: Operand, i: u32, word: Operand) -> Result<(), AllocError>
+    ensures { OnOk result (Adds made.old made.new (fill_word cell i word)) }
+{
+    if !is_known(word, 0) {
+        emit(made, LowStmt::Save(cell, i, word))?;
+    }
+    Ok(())
+}
+
+// Puts words into a new cell, from its first one on.
+fn fill_words(made: &mut Seq<LowStmt>, cell: Operand, words: &[Operand]) -> Result<(), AllocError>
+    requires { length words.now < 2 ^ 32 }
+    ensures { OnOk result (Adds made.old made.new (fills cell 0 words.now)) }
+{
+    for (i, word) in words.iter().enumerate() {
+        fill(made, cell, i as u32, *word)?;
+    }
+    Ok(())
+}
+
 /// The first items, at most so many.
 pub(crate) fn front<T>(items: &[T], count: usize) -> &[T]
     ensures { result.now ≡ take count items.now }
@@ -119,7 +141,7 @@ fn fill_cells(
 {
     for cell in cells {
         let words = value(alloc, &cell.val)?;
-        save_words(
+        fill_words(
             made,
             Operand::Var(cell.var.0),
             front(words.as_slice(), width as usize),

@@ -21,6 +21,7 @@ mod patterns;
 mod program;
 mod results;
 mod words;
+mod writes;
 
 /// The low code of a vectorised program: a tag becomes its number, a number its pattern of 32 bits,
 /// and a cell a word for the tag and one for each field of the largest tag. Procedures that tail

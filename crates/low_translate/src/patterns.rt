@@ -11,8 +11,8 @@ use low_code::{LowTest, Operand};
 use seq::Seq;
 use std::alloc::{AllocError, Global};
 
-// Whether an operand is this number.
-fn is_known(word: Operand, number: u32) -> bool
+/// Whether an operand is this number.
+pub(crate) fn is_known(word: Operand, number: u32) -> bool
     ensures { result ≡ is_number word number }
 {
     match word {

@@ -7,11 +7,13 @@ ghost use Rattle.grin_syntax.specs.Tree.{procedure_of, program_of};
 ghost use Rattle.grin_meaning.specs.Ready.{most_fields, most_value_fields, value_fields};
 ghost use Rattle.low_code.specs.Tree as low;
 ghost use Rattle.low_translate.specs.Translation.{program_code};
+ghost use Rattle.low_translate.specs.Writes.{reach};
 ghost use Rattle.low_translate.specs.Lowered.{CodeEnds, CodeRanged, IsLowered};
 
 use crate::blocks::Plan;
 use crate::fresh::Numbers;
 use crate::results::results;
+use crate::writes::most_written;
 use grin_syntax::fresh::Fresh;
 use grin_syntax::{GlobalCell, Grin, Tag, TagKind};
 use low_code::Low;
@@ -73,18 +75,31 @@ pub(crate) fn count_tags(tags: &[Tag]) -> Result<u32, AllocError>
     Ok(count)
 }
 
+// How many words of its cells a program writes.
+fn words_written(g: &Grin) -> u32
+    requires { most_fields g.now.tags ≤ 13 }
+    ensures { result ≡ reach (program_of g.now) }
+{
+    let most = most_fields(g.tags.as_slice()) as usize;
+    most_written(g.procs.as_slice()).min(most) as u32 + 1
+}
+
 /// The low code of a program whose procedures give so many words.
 pub(crate) fn with_results(alloc: Global, g: &Grin, results: &[u32]) -> Result<Low, AllocError>
     requires few_fields { most_fields g.now.tags ≤ 13 }
     requires many { length results.now ≡ length g.now.procs }
     ensures is { IfOk result (λ l. low.program_of l
-        ≡ program_code (1 + most_fields g.now.tags) results.now
+        ≡ program_code (1 + most_fields g.now.tags) (reach (program_of g.now)) results.now
         (past_procs (map procedure_of g.now.procs)) (program_of g.now)) }
     ensures ranged { IfOk result (λ l.
         AllOf (λ q. CodeRanged q.body) (map procedure_of g.now.procs)) }
 {
     let width = most_fields(g.tags.as_slice()) + 1;
-    let plan = Plan { width, results };
+    let words = words_written(g);
+    let plan = Plan {
+        width: words,
+        results,
+    };
     let next = Fresh::past(g.procs.as_slice()).next;
     let mut numbers = Numbers { next };
     let globals = global_tags(alloc, g.globals.as_slice())?;

@@ -1,5 +1,5 @@
 -- The operations of low code are those of the machine, on two registers and on a register and a number.
-use Rattle.std.proofs.Common.{◌≡◌, ◌≢◌, ℕ, ℤ, pos, negsuc, suc, ◌-◌, ◌*◌, ◌/◌, ◌%◌, ◌^◌, ◌<◌, ◌≤◌, [], ◌∷◌, cond, Bool, true, false, not, inl, inr, refl, sym, ap, ◌∙◌, subst, arith, div-le_self}
+use Rattle.std.proofs.Common.{◌≡◌, ◌≢◌, ℕ, ℤ, pos, negsuc, zero, suc, ◌-◌, ◌*◌, ◌/◌, ◌%◌, ◌^◌, ◌<◌, ◌≤◌, [], ◌∷◌, cond, Bool, true, false, not, inl, inr, refl, sym, ap, ◌∙◌, subst, arith, div-le_self}
 use Rattle.std.specs.Prelude.{nat_eq, nat_lt, if◌then◌else◌}
 use Rattle.std.proofs.Math.Nat.{mod-le}
 use Rattle.std.proofs.Math.IntN.{+ℤ_comm, *ℤ_comm}
@@ -11,7 +11,9 @@ use Rattle.rv32_isa.specs.declared.instr.ImmKind.TheVariants.{Addi, Slti, Sltiu}
 use Rattle.rv32_isa.specs.declared.instr.OpKind.{OpKind}
 use Rattle.rv32_isa.specs.declared.instr.OpKind.TheVariants as op
 use Rattle.rv32_machine.specs.Memory.{Stretch}
-use Rattle.rv32_machine.specs.Arithmetic.{plus, minus, bit, less_signed, signed, pattern, op_value, is_negative, magnitude, just_one, with_sign, divided, left_over, negated}
+use Rattle.rv32_machine.specs.Arithmetic.{plus, minus, bit, less_signed, signed, pattern, op_value, is_negative, magnitude, just_one, with_sign, divided, left_over, negated, is_taken}
+use Rattle.rv32_items.specs.Course.{kind_of}
+use Rattle.rv32_select.specs.Decides.{compares, condition_one, condition_zero, condition, other_condition}
 use Rattle.rv32_machine.proofs.Division.{operations_agree}
 use Rattle.rv32_steps.specs.Data.{Bases}
 use Rattle.rv32_steps.specs.Straight.{value}
@@ -103,6 +105,77 @@ difference_tells m n hm hn = elim (two_ways (nat_eq m n)) [
       let some : nat_lt (minus m n) 1 ≡ false = let z : 1 ≤ minus m n = omega arith in grind (arith, nat_tests) in
       ap bit some ∙ sym (ap (λ t. pattern (truth t)) (signed_differ m n hm hn apart))
 ]
+
+-- ---- comparisons
+
+-- whether two words compare so
+abbrev pub compared : PrimOp → ℕ → ℕ → Bool
+compared Add m n = false
+compared Sub m n = false
+compared Mul m n = false
+compared Quot m n = false
+compared Rem m n = false
+compared Eq m n = nat_eq m n
+compared Lt m n = less_signed m n
+
+comparison_is : (p : PrimOp) (m n : ℕ) → compares p ≡ true → m < 2 ^ 32 → n < 2 ^ 32 → arithmetic p m n ≡ bit (compared p m n)
+comparison_is Add m n e hm hn = absurd (cc)
+comparison_is Sub m n e hm hn = absurd (cc)
+comparison_is Mul m n e hm hn = absurd (cc)
+comparison_is Quot m n e hm hn = absurd (cc)
+comparison_is Rem m n e hm hn = absurd (cc)
+comparison_is Lt m n e hm hn = sym (operations_agree.slt_is m n hm hn)
+comparison_is Eq m n e hm hn = elim (two_ways (nat_eq m n)) [
+  | inl t ↦
+      let is : m ≡ n = grind (arith, nat_tests) in
+      let same : same_number (signed m) (signed n) ≡ true = ap (λ x. same_number (signed m) (signed x)) (sym is) ∙ same_itself (signed m) in
+      ap (λ t. pattern (truth t)) same ∙ sym (ap bit t)
+  | inr t ↦
+      let apart : m ≢ n = grind (arith, nat_tests) in
+      ap (λ t. pattern (truth t)) (signed_differ m n hm hn apart) ∙ sym (ap bit t)
+]
+
+taken_one : (p : PrimOp) (m n : ℕ) → compares p ≡ true → is_taken (kind_of (condition_one p)) m n ≡ compared p m n
+taken_one Add m n e = absurd (cc)
+taken_one Sub m n e = absurd (cc)
+taken_one Mul m n e = absurd (cc)
+taken_one Quot m n e = absurd (cc)
+taken_one Rem m n e = absurd (cc)
+taken_one Eq m n e = refl
+taken_one Lt m n e = refl
+
+taken_zero : (p : PrimOp) (m n : ℕ) → compares p ≡ true → is_taken (kind_of (condition_zero p)) m n ≡ not (compared p m n)
+taken_zero Add m n e = absurd (cc)
+taken_zero Sub m n e = absurd (cc)
+taken_zero Mul m n e = absurd (cc)
+taken_zero Quot m n e = absurd (cc)
+taken_zero Rem m n e = absurd (cc)
+taken_zero Eq m n e = refl
+taken_zero Lt m n e = refl
+
+bit_one : (t : Bool) → nat_eq (bit t) 1 ≡ t
+bit_one true = refl
+bit_one false = refl
+
+bit_zero : (t : Bool) → nat_eq (bit t) 0 ≡ not t
+bit_zero true = refl
+bit_zero false = refl
+
+twice : (t : Bool) → t ≡ not (not t)
+twice true = refl
+twice false = refl
+
+-- a branch on the words of a comparison is taken where that gives this number, or where it gives the other one
+pub condition_tells : (p : PrimOp) (m n k : ℕ) → compares p ≡ true → m < 2 ^ 32 → n < 2 ^ 32 → k < 2 → is_taken (kind_of (condition p k)) m n ≡ nat_eq (arithmetic p m n) k
+condition_tells p m n zero e hm hn lt = taken_zero p m n e ∙ sym (ap (λ z. nat_eq z 0) (comparison_is p m n e hm hn) ∙ bit_zero (compared p m n))
+condition_tells p m n (suc zero) e hm hn lt = taken_one p m n e ∙ sym (ap (λ z. nat_eq z 1) (comparison_is p m n e hm hn) ∙ bit_one (compared p m n))
+condition_tells p m n (suc (suc k)) e hm hn lt = absurd (omega arith)
+
+pub other_tells : (p : PrimOp) (m n k : ℕ) → compares p ≡ true → m < 2 ^ 32 → n < 2 ^ 32 → k < 2 → is_taken (kind_of (other_condition p k)) m n ≡ not (nat_eq (arithmetic p m n) k)
+other_tells p m n zero e hm hn lt =
+    taken_one p m n e ∙ twice (compared p m n) ∙ sym (ap not (ap (λ z. nat_eq z 0) (comparison_is p m n e hm hn) ∙ bit_zero (compared p m n)))
+other_tells p m n (suc zero) e hm hn lt = taken_zero p m n e ∙ sym (ap not (ap (λ z. nat_eq z 1) (comparison_is p m n e hm hn) ∙ bit_one (compared p m n)))
+other_tells p m n (suc (suc k)) e hm hn lt = absurd (omega arith)
 
 -- the operands of these operations may change places
 pub arithmetic_turns : (p : PrimOp) (m n : ℕ) → is_free p ≡ true → arithmetic p m n ≡ arithmetic p n m

@@ -1,11 +1,13 @@
 -- Choices: tests of words, and the arm that is taken.
-use Rattle.std.proofs.Common.{◌≡◌, ◌≢◌, ℕ, suc, ◌+◌, List, [], ◌∷◌, ◌++◌, length, Bool, true, false, not, Some, None, ◌⊎◌, inl, inr, refl, sym, ap, ◌∙◌, subst, arith, length-append}
+use Rattle.std.proofs.Common.{◌≡◌, ◌≢◌, ℕ, suc, ◌+◌, ◌^◌, ◌<◌, List, [], ◌∷◌, ◌++◌, length, Bool, true, false, not, Some, None, ◌⊎◌, inl, inr, refl, sym, ap, ◌∙◌, subst, arith, length-append}
 use Rattle.std.specs.Prelude.{Option, nat_eq, slice_get}
 use Rattle.rv32_machine.specs.Arithmetic.{is_taken}
 use Rattle.rv32_machine.specs.Steps.{set_reg}
 use Rattle.rv32_steps.specs.Straight.{value}
 use Rattle.parallel_move.specs.declared.Spot.{Spot}
 use Rattle.parallel_move.specs.declared.Spot.TheVariants.{Reg, Slot, Scratch}
+use Rattle.low_code.specs.declared.program.Operand.{Operand}
+use Rattle.low_code.specs.declared.program.Operand.TheVariants.{Num}
 use Rattle.low_code.specs.declared.program.LowTest.{LowTest}
 use Rattle.low_code.specs.Tree.{Code, choose, Arms, otherwise, arm, Procedure, Program}
 use Rattle.low_code.specs.Formed.{uses, arms_uses, used_by, used_by_tests, variables}
@@ -18,17 +20,16 @@ use Rattle.rv32_items.specs.declared.Cond.TheVariants.{Eq, Ne}
 use Rattle.rv32_items.specs.declared.Item.{Item}
 use Rattle.rv32_items.specs.declared.Item.TheVariants.{Label, Branch}
 use Rattle.rv32_items.specs.Course.{Layout, Point, label_from, kind_of}
-use Rattle.rv32_select.specs.declared.source.Source.TheVariants.{Number}
 use Rattle.rv32_select.specs.declared.source.Way.{Way}
 use Rattle.rv32_select.specs.declared.source.Way.TheVariants.{Returns, Follows, Jumps}
-use Rattle.rv32_select.specs.Emit.{plain, held as held_in, hold, test_items, compare_items, match_items}
+use Rattle.rv32_select.specs.Emit.{plain, held as held_in, hold, branch_items, test_items, compare_items, match_items}
 use Rattle.rv32_select.specs.IsSelected.{source, tests_items, further, Then, Emits, EmitsArms}
-use Rattle.low_code.specs.Literals.{TestsSmall}
+use Rattle.low_code.specs.Literals.{IsSmall, TestsSmall}
 use Rattle.rv32_select.proofs.Courses.{Goes, Stands, front, back, stays}
 use Rattle.rv32_select.proofs.Straight.{Data, with_reg, does_on, at}
 use Rattle.rv32_select.proofs.JumpStretches.{with_regs, branches, goes_on}
 use Rattle.rv32_select.proofs.FrameViews.{spots, kept_on, in_frame}
-use Rattle.rv32_select.proofs.OperandsRead.{IsPlace, holds as held_by, held_stays}
+use Rattle.rv32_select.proofs.OperandsRead.{IsPlace, holds as held_by, held_stays, held_not_seven, read_same}
 use Rattle.rv32_select.proofs.Computed.{hold_kept, hold_seen}
 use Rattle.rv32_select.proofs.Relation.{bases, Stood, Ran, ran_on, quiet, Does', does_after, does_map, Given, Needed}
 use Rattle.rv32_select.proofs.PlaceFacts.{IsOwn, ArmsFine, ProcedureFine, Setting}
@@ -45,7 +46,7 @@ use Rattle.seq.proofs.Counted.{among_left, among_right}
 module _ (l : Program) (a : Assignment) (cells stack : ℕ) (lay : Layout) (items : List Item) (begins : List ℕ) (s : Setting l a cells stack lay items begins) (calls_n : Calls) (n : ℕ)
     (f : ℕ) (q : Procedure) (pf : ProcedureFine l a f q) (j m : ℕ) (outer : List ℕ) (d0 : Data) (u : ℕ) where
   -- what is needed where the arms of a choice begin
-  abbrev ArmsNeed : Arms → Env → (Must : ℕ → Word → Type 0) → ℕ → Word → Type 0
+  abbrev pub ArmsNeed : Arms → Env → (Must : ℕ → Word → Type 0) → ℕ → Word → Type 0
   ArmsNeed as' env Must x v = ((is_among x (arms_uses as') ≡ true) × (env x ≡ Some v)) ⊎ Must x v
 
   -- the arms of a choice in the items
@@ -59,7 +60,7 @@ module _ (l : Program) (a : Assignment) (cells stack : ℕ) (lay : Layout) (item
       Does' lay items begins (Given l a cells stack lay items f j pf.slots d0 m outer to way Must) (at (bases stack) lay items pos d) (m ∷ outer) w (arms l (words_at a) (room l a cells stack lay items begins) calls_n env top under as' w)
 
   -- what stands in this frame stands behind a branch that is taken
-  stood_far : (p : ℕ) (Needs : ℕ → Word → Type 0) (d : Data) (w : World) → ((y : ℕ) (v : Word) → Needs y v → IsOwn l a f (slots_of (place_of a) (variables q)) (place_of a y))
+  pub stood_far : (p : ℕ) (Needs : ℕ → Word → Type 0) (d : Data) (w : World) → ((y : ℕ) (v : Word) → Needs y v → IsOwn l a f (slots_of (place_of a) (variables q)) (place_of a y))
       → Stood l a cells stack lay f j pf.slots d0 (lay.address m) Needs d w → Stood l a cells stack lay f j pf.slots d0 (lay.address m) Needs (with_regs d (lay.far p d.regs)) w
   stood_far p Needs d w owned st =
       let d' = with_regs d (lay.far p d.regs) in
@@ -81,60 +82,79 @@ module _ (l : Program) (a : Assignment) (cells stack : ℕ) (lay : Layout) (item
   TestsDone c0 env Must next p t ts d w false =
       (e : Data) × (Ran lay items begins (at (bases stack) lay items p d) (m ∷ outer) w (at (bases stack) lay items t e) (m ∷ outer) w × Stood l a cells stack lay f j pf.slots d0 (lay.address m) (Needed c0 env Must) e w)
 
-  -- one test
-  record OneTest (cond : Cond) (c0 : Code) (env : Env) (Must : ℕ → Word → Type 0) (next p t : ℕ) (x : LowTest) (d : Data) (w : World) (k : ℕ) : Type 0 where
+  -- a branch on two words
+  pub record OneBranch (cond : Cond) (c0 : Code) (env : Env) (Must : ℕ → Word → Type 0) (next p t : ℕ) (o o' : Operand) (d : Data) (w : World) (g h : ℕ) : Type 0 where
     pub to' : Data
     pub stood : Stood l a cells stack lay f j pf.slots d0 (lay.address m) (Needed c0 env Must) to' w
-    pub same : is_taken (kind_of cond) k x.right ≡ false → Ran lay items begins (at (bases stack) lay items p d) (m ∷ outer) w (at (bases stack) lay items (p + length (compare_items cond next (source l a x.left) x.right)) to') (m ∷ outer) w
+    pub same : is_taken (kind_of cond) g h ≡ false → Ran lay items begins (at (bases stack) lay items p d) (m ∷ outer) w (at (bases stack) lay items (p + length (branch_items cond next (source l a o) (source l a o'))) to') (m ∷ outer) w
+    pub left_small : g < 2 ^ 32
+    pub right_small : h < 2 ^ 32
     pub far : Data
     pub stood_far' : Stood l a cells stack lay f j pf.slots d0 (lay.address m) (Needed c0 env Must) far w
-    pub other : is_taken (kind_of cond) k x.right ≡ true → Ran lay items begins (at (bases stack) lay items p d) (m ∷ outer) w (at (bases stack) lay items t far) (m ∷ outer) w
+    pub other : is_taken (kind_of cond) g h ≡ true → Ran lay items begins (at (bases stack) lay items p d) (m ∷ outer) w (at (bases stack) lay items t far) (m ∷ outer) w
+
+  pub one_branch : (cond : Cond) (c0 : Code) (scope later : List ℕ) (env : Env) (Must : ℕ → Word → Type 0) (next p t : ℕ) (o o' : Operand) (d : Data) (w : World) (g h : ℕ) → Stands items p (branch_items cond next (source l a o) (source l a o')) → label_from 0 items next ≡ Some t
+      → Stood l a cells stack lay f j pf.slots d0 (lay.address m) (Needed c0 env Must) d w
+      → ((y : ℕ) (v : Word) → env y ≡ Some v → is_among y scope ≡ true) → ((y : ℕ) → is_among y scope ≡ true → IsOwn l a f (slots_of (place_of a) (variables q)) (place_of a y)) → ((y : ℕ) (v : Word) → Must y v → (is_among y scope ≡ true) × (is_among y later ≡ true))
+      → ((y : ℕ) → is_among y (used_by o) ≡ true → is_among y (uses c0) ≡ true) → ((y : ℕ) → is_among y (used_by o') ≡ true → is_among y (uses c0) ≡ true) → IsSmall o → IsSmall o'
+      → number_in l (words_at a) env o ≡ Some g → number_in l (words_at a) env o' ≡ Some h → OneBranch cond c0 env Must next p t o o' d w g h
+  one_branch cond c0 scope later env Must next p t o o' d w g h stands to_label st scoped owned must incl incl' small small' e e' =
+      let left = source l a o in
+      let right = source l a o' in
+      let r = operand_read l a cells stack lay items begins s calls_n n f q pf j m outer d0 u c0 scope env Must d w o (number g) st scoped owned incl small (number_there (operand l (words_at a) env o) g e) in
+      let r' = operand_read l a cells stack lay items begins s calls_n n f q pf j m outer d0 u c0 scope env Must d w o' (number h) st scoped owned incl' small' (number_there (operand l (words_at a) env o') h e') in
+      let one = held_by lay.code (bases stack) j pf.slots 5 left d st.world.good st.frame (omega arith) (omega arith) r.0 in
+      let e1 = with_reg (with_reg d 7 one.seven) 5 one.own in
+      let k1 = hold_kept lay.code (bases stack) j pf.slots 5 left d one (omega arith) in
+      let two = held_by lay.code (bases stack) j pf.slots 6 right e1 one.does.good (in_frame lay.code (bases stack) j pf.slots st.frame k1) (omega arith) (omega arith) r'.0 in
+      let e2 = with_reg (with_reg e1 7 two.seven) 6 two.own in
+      let k2 = kept_on lay.code (bases stack) j pf.slots k1 (hold_kept lay.code (bases stack) j pf.slots 6 right e1 two (omega arith)) in
+      let left_is : value e2.regs (held_in 5 left) ≡ g =
+      held_stays lay.code (bases stack) j pf.slots (set_reg e1.regs 7 two.seven) 5 0 6 two.own left r.0 (omega arith) (omega arith) (omega arith)
+      ∙ held_stays lay.code (bases stack) j pf.slots e1.regs 5 0 7 two.seven left r.0 (omega arith) (omega arith) (omega arith)
+      ∙ one.value_is' ∙ r.1 in
+      let right_is : value e2.regs (held_in 6 right) ≡ h =
+      two.value_is' ∙ read_same lay.code (bases stack) j pf.slots right d e1 r'.0 (hold_seen lay.code (bases stack) j pf.slots 5 left d one (omega arith) (omega arith)) ∙ r'.1 in
+      let is = hold 5 left ++ hold 6 right in
+      let branch = Branch cond (held_in 5 left) (held_in 6 right) next in
+      let s1 = front items p (plain is) (branch ∷ []) stands in
+      let s2 : Stands items (p + length (plain is)) (branch ∷ []) = back items p (plain is) (branch ∷ []) stands in
+      let ran = plain_ran l a cells stack lay items begins is p d e2 (m ∷ outer) w st.world.good (does_on lay.code (bases stack) one.does two.does) s1 in
+      let pb = p + length (plain is) in
+      let world = world_kept l a cells stack lay j pf.slots d e2 w st.world two.does.good k2 in
+      let seen = λ (y : Spot) (z : IsPlace lay.code (bases stack) j pf.slots y). hold_seen lay.code (bases stack) j pf.slots 6 right e1 two (omega arith) (omega arith) y z ∙ hold_seen lay.code (bases stack) j pf.slots 5 left d one (omega arith) (omega arith) y z in
+      let st2 = stood_same l a cells stack lay f j pf.slots (slots_of (place_of a) (variables q)) d0 (lay.address m) (Needed c0 env Must) (Needed c0 env Must) d e2 w w pf.enough st world k2.frame k2.words (λ y. refl) seen (λ y v z. (z, owned_of y v z)) in
+      let compare : is_taken (kind_of cond) (value e2.regs (held_in 5 left)) (value e2.regs (held_in 6 right)) ≡ is_taken (kind_of cond) g h = λ i. is_taken (kind_of cond) (left_is i) (right_is i) in
+      let behind : suc pb ≡ p + length (branch_items cond next left right) = let y = length-append (plain is) (branch ∷ []) in omega arith in
+      record {
+        to' = e2;
+        stood = st2;
+        same = λ z.
+            let step = goes_on (bases stack) lay items pb next (held_in 5 left) (held_in 6 right) cond e2 w.input (m ∷ outer) s2.0 (compare ∙ z) in
+            ran_on lay items begins ran (quiet lay items begins w w (subst (λ y. Goes lay items 1 w.input (at (bases stack) lay items pb e2) (m ∷ outer) [] [] w.input (at (bases stack) lay items y e2) (m ∷ outer)) behind step) refl refl refl refl refl);
+        left_small = subst (λ z. z < 2 ^ 32) left_is (two.does.good.small (held_in 5 left) (held_not_seven lay.code (bases stack) j pf.slots 5 left r.0 (omega arith)));
+        right_small = subst (λ z. z < 2 ^ 32) right_is (two.does.good.small (held_in 6 right) (held_not_seven lay.code (bases stack) j pf.slots 6 right r'.0 (omega arith)));
+        far = with_regs e2 (lay.far pb e2.regs);
+        stood_far' = stood_far pb (Needed c0 env Must) e2 w owned_of st2;
+        other = λ z.
+            let step = branches (bases stack) lay items pb t next (held_in 5 left) (held_in 6 right) cond e2 w.input (m ∷ outer) s2.0 to_label (compare ∙ z) in
+            ran_on lay items begins ran (quiet lay items begins w w step refl refl refl refl refl);
+      }
+    where
+      owned_of : (y : ℕ) (v : Word) → Needed c0 env Must y v → IsOwn l a f (slots_of (place_of a) (variables q)) (place_of a y)
+      owned_of y v (inl z) = owned y (scoped y v z.1)
+      owned_of y v (inr z) = owned y (must y v z).0
+
+  -- one test
+  abbrev OneTest : (cond : Cond) (c0 : Code) (env : Env) (Must : ℕ → Word → Type 0) (next p t : ℕ) (x : LowTest) (d : Data) (w : World) (k : ℕ) → Type 0
+  OneTest cond c0 env Must next p t x d w k = OneBranch cond c0 env Must next p t x.left (Num x.right) d w k x.right
 
   one_test : (cond : Cond) (c0 : Code) (scope later : List ℕ) (env : Env) (Must : ℕ → Word → Type 0) (next p t : ℕ) (x : LowTest) (d : Data) (w : World) (k : ℕ) → Stands items p (compare_items cond next (source l a x.left) x.right) → label_from 0 items next ≡ Some t
       → Stood l a cells stack lay f j pf.slots d0 (lay.address m) (Needed c0 env Must) d w
       → ((y : ℕ) (v : Word) → env y ≡ Some v → is_among y scope ≡ true) → ((y : ℕ) → is_among y scope ≡ true → IsOwn l a f (slots_of (place_of a) (variables q)) (place_of a y)) → ((y : ℕ) (v : Word) → Must y v → (is_among y scope ≡ true) × (is_among y later ≡ true))
       → ((y : ℕ) → is_among y (used_by x.left) ≡ true → is_among y (uses c0) ≡ true) → TestsSmall (x ∷ []) → number_in l (words_at a) env x.left ≡ Some k → OneTest cond c0 env Must next p t x d w k
   one_test cond c0 scope later env Must next p t x d w k stands to_label st scoped owned must incl small e =
-      let src = source l a x.left in
-      let r = operand_read l a cells stack lay items begins s calls_n n f q pf j m outer d0 u c0 scope env Must d w x.left (number k) st scoped owned incl small.0.0 (number_there (operand l (words_at a) env x.left) k e) in
-      let h = held_by lay.code (bases stack) j pf.slots 5 src d st.world.good st.frame (omega arith) (omega arith) r.0 in
-      let e1 = with_reg (with_reg d 7 h.seven) 5 h.own in
-      let k1 = hold_kept lay.code (bases stack) j pf.slots 5 src d h (omega arith) in
-      let h' = held_by lay.code (bases stack) j pf.slots 6 (Number x.right) e1 h.does.good (in_frame lay.code (bases stack) j pf.slots st.frame k1) (omega arith) (omega arith) small.0.1 in
-      let e2 = with_reg (with_reg e1 7 h'.seven) 6 h'.own in
-      let k2 = kept_on lay.code (bases stack) j pf.slots k1 (hold_kept lay.code (bases stack) j pf.slots 6 (Number x.right) e1 h' (omega arith)) in
-      let left_is : value e2.regs (held_in 5 src) ≡ k =
-      held_stays lay.code (bases stack) j pf.slots (set_reg e1.regs 7 h'.seven) 5 0 6 h'.own src r.0 (omega arith) (omega arith) (omega arith)
-      ∙ held_stays lay.code (bases stack) j pf.slots e1.regs 5 0 7 h'.seven src r.0 (omega arith) (omega arith) (omega arith)
-      ∙ h.value_is' ∙ r.1 in
-      let is = hold 5 src ++ hold 6 (Number x.right) in
-      let branch = Branch cond (held_in 5 src) (held_in 6 (Number x.right)) next in
-      let s1 = front items p (plain is) (branch ∷ []) stands in
-      let s2 : Stands items (p + length (plain is)) (branch ∷ []) = back items p (plain is) (branch ∷ []) stands in
-      let ran = plain_ran l a cells stack lay items begins is p d e2 (m ∷ outer) w st.world.good (does_on lay.code (bases stack) h.does h'.does) s1 in
-      let pb = p + length (plain is) in
-      let world = world_kept l a cells stack lay j pf.slots d e2 w st.world h'.does.good k2 in
-      let seen = λ (y : Spot) (o : IsPlace lay.code (bases stack) j pf.slots y). hold_seen lay.code (bases stack) j pf.slots 6 (Number x.right) e1 h' (omega arith) (omega arith) y o ∙ hold_seen lay.code (bases stack) j pf.slots 5 src d h (omega arith) (omega arith) y o in
-      let own = λ (y : ℕ) (v : Word) (z : Needed c0 env Must y v). owned_of y v z in
-      let st2 = stood_same l a cells stack lay f j pf.slots (slots_of (place_of a) (variables q)) d0 (lay.address m) (Needed c0 env Must) (Needed c0 env Must) d e2 w w pf.enough st world k2.frame k2.words (λ y. refl) seen (λ y v z. (z, owned_of y v z)) in
-      let compare : is_taken (kind_of cond) (value e2.regs (held_in 5 src)) (value e2.regs (held_in 6 (Number x.right))) ≡ is_taken (kind_of cond) k x.right = λ i. is_taken (kind_of cond) (left_is i) (h'.value_is' i) in
-      let behind : suc pb ≡ p + length (compare_items cond next (source l a x.left) x.right) = let y = length-append (plain is) (branch ∷ []) in omega arith in
-      record {
-        to' = e2;
-        stood = st2;
-        same = λ z.
-            let step = goes_on (bases stack) lay items pb next (held_in 5 src) (held_in 6 (Number x.right)) cond e2 w.input (m ∷ outer) s2.0 (compare ∙ z) in
-            ran_on lay items begins ran (quiet lay items begins w w (subst (λ y. Goes lay items 1 w.input (at (bases stack) lay items pb e2) (m ∷ outer) [] [] w.input (at (bases stack) lay items y e2) (m ∷ outer)) behind step) refl refl refl refl refl);
-        far = with_regs e2 (lay.far pb e2.regs);
-        stood_far' = stood_far pb (Needed c0 env Must) e2 w owned_of st2;
-        other = λ z.
-            let step = branches (bases stack) lay items pb t next (held_in 5 src) (held_in 6 (Number x.right)) cond e2 w.input (m ∷ outer) s2.0 to_label (compare ∙ z) in
-            ran_on lay items begins ran (quiet lay items begins w w step refl refl refl refl refl);
-      }
-    where
-      owned_of : (y : ℕ) (v : Word) → Needed c0 env Must y v → IsOwn l a f (slots_of (place_of a) (variables q)) (place_of a y)
-      owned_of y v (inl h) = owned y (scoped y v h.1)
-      owned_of y v (inr h) = owned y (must y v h).0
+      one_branch cond c0 scope later env Must next p t x.left (Num x.right) d w k x.right stands to_label st scoped owned must incl (λ y z. absurd (cc)) small.0.0 small.0.1 e refl
 
   tests_done : (c0 : Code) (scope later : List ℕ) (env : Env) (Must : ℕ → Word → Type 0) (next t : ℕ) (ts : List LowTest) (p : ℕ) (d : Data) (w : World) → Stands items p (tests_items l a next ts) → label_from 0 items next ≡ Some t
       → Stood l a cells stack lay f j pf.slots d0 (lay.address m) (Needed c0 env Must) d w
@@ -179,17 +199,17 @@ module _ (l : Program) (a : Assignment) (cells stack : ℕ) (lay : Layout) (item
 
   -- ---- arms
 
-  further_given : (to : List Spot) (way : Way) (Must : ℕ → Word → Type 0) (vs : List Word) (v : World) (p : Point) (c : List ℕ) → Given l a cells stack lay items f j pf.slots d0 m outer to (further way) Must vs v p c → Given l a cells stack lay items f j pf.slots d0 m outer to way Must vs v p c
+  pub further_given : (to : List Spot) (way : Way) (Must : ℕ → Word → Type 0) (vs : List Word) (v : World) (p : Point) (c : List ℕ) → Given l a cells stack lay items f j pf.slots d0 m outer to (further way) Must vs v p c → Given l a cells stack lay items f j pf.slots d0 m outer to way Must vs v p c
   further_given to Returns Must vs v p c h = h
   further_given to (Follows k) Must vs v p c h = h
   further_given to (Jumps k) Must vs v p c h = h
 
-  further_ready : (way : Way) (e e' : ℕ) → Ready l a cells stack lay items begins way e → Ready l a cells stack lay items begins (further way) e'
+  pub further_ready : (way : Way) (e e' : ℕ) → Ready l a cells stack lay items begins way e → Ready l a cells stack lay items begins (further way) e'
   further_ready Returns e e' h = tt
   further_ready (Follows k) e e' h = (e, h)
   further_ready (Jumps k) e e' h = h
 
-  further_registers : (way : Way) (to : List Spot) → InRegisters l a cells stack lay items begins f q pf.slots j m outer d0 u n way to → InRegisters l a cells stack lay items begins f q pf.slots j m outer d0 u n (further way) to
+  pub further_registers : (way : Way) (to : List Spot) → InRegisters l a cells stack lay items begins f q pf.slots j m outer d0 u n way to → InRegisters l a cells stack lay items begins f q pf.slots j m outer d0 u n (further way) to
   further_registers Returns to h = h
   further_registers (Follows k) to h = tt
   further_registers (Jumps k) to h = tt

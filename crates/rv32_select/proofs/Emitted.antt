@@ -28,13 +28,15 @@ use Rattle.register_alloc.specs.Assignment.{Assignment, place_of, saves_at}
 use Rattle.rv32_items.specs.declared.Item.{Item}
 use Rattle.rv32_items.specs.declared.Item.TheVariants.{Label, Jump}
 use Rattle.rv32_select.specs.declared.source.Source.{Source}
+use Rattle.rv32_select.specs.declared.decides.Comparison.{Comparison}
 use Rattle.rv32_select.specs.declared.source.Way.{Way}
 use Rattle.rv32_select.specs.declared.source.Way.TheVariants.{Follows}
-use Rattle.rv32_select.specs.Emit.{plain, moves_code, number_moves, save_moves, restore_moves, result_spots, set_code, prim_code, load_code, save_code, take_items, put_code, get_code, match_items}
-use Rattle.rv32_select.specs.IsSelected.{source, sources, heap_end, heap_full, places, further, way_out, tests_items, no_alternative, argument_spots_of, result_spots_of, results_of, moves_between, is_rare, waits, has_one, last_of, stands_last, Emits, EmitsArms, EmitsLast}
+use Rattle.rv32_select.specs.Emit.{plain, moves_code, number_moves, save_moves, restore_moves, result_spots, set_code, prim_code, load_code, save_code, take_items, put_code, get_code, branch_items, match_items}
+use Rattle.rv32_select.specs.IsSelected.{source, sources, heap_end, heap_full, places, further, way_out, tests_items, no_alternative, argument_spots_of, result_spots_of, results_of, moves_between, is_rare, waits, has_one, last_of, stands_last, Then, Emits, EmitsArms, EmitsLast, EmitsDecided, EmitsDecidedFirst, EmitsDecidedLast}
+use Rattle.rv32_select.specs.Decides.{compares, decides_arms, decides_code, decides, decided, tested, condition, other_condition}
 use Rattle.rv32_select.specs.Ranges.{IsSource, AreSpots, AllInRange, is_spot_in, Different, AreTargets}
 use Rattle.rv32_select.specs.Writable.{Writable, HasPlace, HavePlaces, OperandPlaced, OperandsPlaced, TargetsPlaced, TestsPlaced, CallPlaced, Placed, ArmsPlaced, ArmPlaced, ProcedurePlaced}
-use Rattle.rv32_select.specs.Emitting.{Moved, Sent, Called, TailCalled, Emitted, EmittedArms, EmittedLast, Before, ArmsBefore, one_arm}
+use Rattle.rv32_select.specs.Emitting.{Moved, Sent, Called, TailCalled, Emitted, EmittedArms, EmittedLast, EmittedDecidedFirst, EmittedDecidedLast, Before, ArmsBefore, one_arm}
 use Rattle.rv32_select.proofs.Plain.{plain_append}
 use Rattle.rv32_select.proofs.Sending.{spots_in_range, procedure_at}
 
@@ -79,6 +81,13 @@ joined_placed l a s xs items b block is same e h =
     let p = join_placed l a s xs b is h in
     (subst (TargetsPlaced l a) (sym same) p.0, subst (λ c. Placed l a (code_of c)) (sym e) p.1)
 
+pub undecided : (f : PrimOp) (x : ℕ) (c : Code) → decides_code x c ≡ false → decides f x c ≡ false
+undecided f x c h = by_test (compares f)
+  where
+    by_test : (t : Bool) → (if t then decides_code x c else false) ≡ false
+    by_test true = h
+    by_test false = refl
+
 -- a statement's items
 module _ (l : Program) (a : Assignment) (cells stack words saved : ℕ) (stmt : LowStmt) (old new : List Item) (n : ℕ) where
   abbrev Done : Type 0
@@ -92,7 +101,9 @@ module _ (l : Program) (a : Assignment) (cells stack words saved : ℕ) (stmt : 
     items = plain (set_code (place_of a x) (source l a b));
     is = is ∙ (λ i. old ++ plain (set_code (at i) (from.0 i)));
     placed = λ c h. h.2;
-    emits = λ to way c k rest h. (rest, refl, h);
+    no_choice = λ y c. refl;
+    before_choice = λ c h. refl;
+    emits = λ to way c k rest free h. (rest, refl, h);
   })
 
   pub prim_done : (f : PrimOp) (x : ℕ) (b d : Operand) (p : Spot) (s t : Source) → stmt ≡ Prim f x b d → p ≡ place_of a x → (s ≡ source l a b) × IsSource s → (t ≡ source l a d) × IsSource t → new ≡ old ++ plain (prim_code f p s t) → Done
@@ -100,7 +111,11 @@ module _ (l : Program) (a : Assignment) (cells stack words saved : ℕ) (stmt : 
     items = plain (prim_code f (place_of a x) (source l a b) (source l a d));
     is = is ∙ (λ i. old ++ plain (prim_code f (at i) (from.0 i) (and.0 i)));
     placed = λ c h. h.3;
-    emits = λ to way c k rest h. (rest, refl, h);
+    no_choice = λ y c. refl;
+    before_choice = λ c h. undecided f x c (h x);
+    emits = λ to way c k rest free h.
+        let code = plain (prim_code f (place_of a x) (source l a b) (source l a d)) in
+        subst (λ r. elim r as (λ y. Type 0) [ true ↦ EmitsDecided l a cells stack words saved f (source l a b) (source l a d) to way c n k (code ++ rest) | false ↦ Then code (Emits l a cells stack words saved to way c n k) (code ++ rest) ]) (sym free) (rest, refl, h);
   })
 
   pub load_done : (x : ℕ) (b : Operand) (k : ℕ) (p : Spot) (s : Source) → stmt ≡ Load x b k → p ≡ place_of a x → (s ≡ source l a b) × IsSource s → new ≡ old ++ plain (load_code p s k) → Done
@@ -108,7 +123,9 @@ module _ (l : Program) (a : Assignment) (cells stack words saved : ℕ) (stmt : 
     items = plain (load_code (place_of a x) (source l a b) k);
     is = is ∙ (λ i. old ++ plain (load_code (at i) (from.0 i) k));
     placed = λ c h. h.2;
-    emits = λ to way c k rest h. (rest, refl, h);
+    no_choice = λ y c. refl;
+    before_choice = λ c h. refl;
+    emits = λ to way c k rest free h. (rest, refl, h);
   })
 
   pub save_done : (b : Operand) (k : ℕ) (d : Operand) (s t : Source) → stmt ≡ Save b k d → (s ≡ source l a b) × IsSource s → (t ≡ source l a d) × IsSource t → new ≡ old ++ plain (save_code s k t) → Done
@@ -116,7 +133,9 @@ module _ (l : Program) (a : Assignment) (cells stack words saved : ℕ) (stmt : 
     items = plain (save_code (source l a b) k (source l a d));
     is = is ∙ (λ i. old ++ plain (save_code (from.0 i) k (and.0 i)));
     placed = λ c h. h.2;
-    emits = λ to way c k rest h. (rest, refl, h);
+    no_choice = λ y c. refl;
+    before_choice = λ c h. refl;
+    emits = λ to way c k rest free h. (rest, refl, h);
   })
 
   pub take_done : (xs : List ℕ) → stmt ≡ Take xs → new ≡ old ++ take_items (4 * l.width) (heap_full l) (map (place_of a) xs) → Done
@@ -124,7 +143,9 @@ module _ (l : Program) (a : Assignment) (cells stack words saved : ℕ) (stmt : 
     items = take_items (4 * l.width) (heap_full l) (places a xs);
     is = is;
     placed = λ c h. h.2;
-    emits = λ to way c k rest h. (rest, refl, h);
+    no_choice = λ y c. refl;
+    before_choice = λ c h. refl;
+    emits = λ to way c k rest free h. (rest, refl, h);
   })
 
   pub put_done : (b : Operand) (s : Source) (end : ℕ) → stmt ≡ Put b → (s ≡ source l a b) × IsSource s → end ≡ heap_end l cells → new ≡ old ++ plain (put_code end s) → Done
@@ -132,7 +153,9 @@ module _ (l : Program) (a : Assignment) (cells stack words saved : ℕ) (stmt : 
     items = plain (put_code (heap_end l cells) (source l a b));
     is = is ∙ (λ i. old ++ plain (put_code (at i) (from.0 i)));
     placed = λ c h. h.1;
-    emits = λ to way c k rest h. (rest, refl, h);
+    no_choice = λ y c. refl;
+    before_choice = λ c h. refl;
+    emits = λ to way c k rest free h. (rest, refl, h);
   })
 
   pub get_done : (x : ℕ) (p : Spot) (end : ℕ) → stmt ≡ Get x → p ≡ place_of a x → end ≡ heap_end l cells → new ≡ old ++ plain (get_code end p) → Done
@@ -140,7 +163,9 @@ module _ (l : Program) (a : Assignment) (cells stack words saved : ℕ) (stmt : 
     items = plain (get_code (heap_end l cells) (place_of a x));
     is = is ∙ (λ i. old ++ plain (get_code (ends i) (at i)));
     placed = λ c h. h.1;
-    emits = λ to way c k rest h. (rest, refl, h);
+    no_choice = λ y c. refl;
+    before_choice = λ c h. refl;
+    emits = λ to way c k rest free h. (rest, refl, h);
   })
 
   pub call_done : (f site : ℕ) (as' : List Operand) (xs : List ℕ) → stmt ≡ Call f site as' xs → Called l a saved f site as' xs old new → Done
@@ -148,8 +173,14 @@ module _ (l : Program) (a : Assignment) (cells stack words saved : ℕ) (stmt : 
     items = _;
     is = c.is;
     placed = λ c h. h.1;
-    emits = λ to way b k rest h. (c.arguments, c.results, c.order, c.results_order, (rest, refl, h));
+    no_choice = λ y c. refl;
+    before_choice = λ c h. refl;
+    emits = λ to way b k rest free h. (c.arguments, c.results, c.order, c.results_order, (rest, refl, h));
   })
+
+pub on_ok : (r : Result (Unit {0}) AllocError) (P Q : Type 0) → (P → Q) → OnOk r P → OnOk r Q
+on_ok (Ok t) P Q f h = f h
+on_ok (Err t) P Q f h = tt
 
 pub join_done : (l : Program) (a : Assignment) (cells stack words saved : ℕ) (stmt : LowStmt) (old new : List Item) (n m : ℕ) (xs items : List ℕ) (b : Box LowBlock Global) (block : LowBlock) (r : Result (Unit {0}) AllocError) → stmt ≡ Join xs b → items ≡ xs → block ≡ b.value
     → OnOk r (Before l a cells stack words saved (join items (code_of block)) old n new m) → OnOk r (Before l a cells stack words saved (before_of stmt) old n new m)
@@ -166,7 +197,9 @@ join_made l a cells stack words saved c xs old mid new n label k m to at is next
       items = e.items ++ Label n ∷ [];
       is = then' ∙ ap (λ x. mid ++ Label x ∷ []) is ∙ ap (λ x. x ++ Label n ∷ []) e.is ∙ append_assoc old e.items (Label n ∷ []);
       placed = λ c h. h.2;
-      emits = λ to way b j rest h. (m, e.items, block, (rest, refl, h));
+      no_choice = λ y c. refl;
+      before_choice = λ c h. refl;
+      emits = λ to way b j rest free h. (m, e.items, block, (rest, refl, h));
     }
 
 -- what the pieces of a call ask, and what they are together
@@ -301,6 +334,20 @@ first_last_placed l a first t rest c one h =
     let tests : TestsPlaced l a (t ∷ []) = subst (TestsPlaced l a) one parts.0 in
     (tests.0, (h.2, parts.1))
 
+pub first_placed : (l : Program) (a : Assignment) (first : LowArm) (rest : List LowArm) (c : Code) → ArmsPlaced l a (arms_before (map arm_of (first ∷ rest)) c) → ArmsPlaced l a (arms_before (map arm_of rest) c) × Placed l a (code_of first.block)
+first_placed l a first rest c h =
+    let p : ArmPlaced l a (arm_of first) = (h.0, h.1) in
+    (h.2, (arm_placed l a first p).1)
+
+-- an end that is a choice with a first arm
+pub choice_is : (e : LowEnd) (arms items rest : List LowArm) (first : LowArm) (b : Box LowBlock Global) (block : LowBlock) → e ≡ Choose arms b → items ≡ arms → block ≡ b.value → items ≡ first ∷ rest → end_of e ≡ choose (arms_before (map arm_of (first ∷ rest)) (code_of block))
+choice_is e arms items rest first b block is are same all =
+    ap end_of is ∙ end_of-Choose arms b ∙ (λ i. choose (arms_before (map arm_of ((sym are ∙ all) i)) (code_of (sym same i))))
+
+pub choice_none : (e : LowEnd) (arms items : List LowArm) (b : Box LowBlock Global) → e ≡ Choose arms b → items ≡ arms → length items ≡ 0 → end_of e ≡ choose (arms_before [] (code_of b.value))
+choice_none e arms [] b is are none = ap end_of is ∙ end_of-Choose arms b ∙ ap (λ ts. choose (arms_before (map arm_of ts) (code_of b.value))) (sym are)
+choice_none e arms (t ∷ ts) b is are none = absurd (omega (arith, none))
+
 pub arm_made : (l : Program) (a : Assignment) (cells stack words saved : ℕ) (to : List Spot) (way way' : Way) (t : LowArm) (old c1 mid new : List Item) (n label k m : ℕ) → label ≡ n → k ≡ suc n → way' ≡ further way → c1 ≡ old ++ tests_items l a label t.tests
     → Emitted l a cells stack words saved to way' (code_of t.block) c1 k mid m → new ≡ mid ++ Label label ∷ []
     → ArmsBefore l a cells stack words saved to way (one_arm (arm_of t)) old n new m
@@ -324,11 +371,14 @@ module _ (l : Program) (a : Assignment) (cells stack words saved : ℕ) where
     pub items : List Item
     pub is : new ≡ old ++ items
     pub placed : (c : Code) → Placed l a (whole c) → Placed l a (rest c)
+    -- whether the statement before the rest decides this one
+    pub pending : Code → Bool
+    pub settles : (c : Code) → ((x : ℕ) → decides_code x c ≡ false) → pending c ≡ false
     pub emits : (to : List Spot) (way : Way) (c : Code) (k : ℕ) (more : List Item)
-        → Emits l a cells stack words saved to way (rest c) m k more → Emits l a cells stack words saved to way (whole c) n k (items ++ more)
+        → pending (rest c) ≡ false → Emits l a cells stack words saved to way (rest c) m k more → Emits l a cells stack words saved to way (whole c) n k (items ++ more)
 
   pub none_yet : (whole : Code → Code) (old : List Item) (n : ℕ) → Towards whole whole old n old n
-  none_yet whole old n = record { items = []; is = sym (append-nil old); placed = λ c h. h; emits = λ to way c k more h. h }
+  none_yet whole old n = record { items = []; is = sym (append-nil old); placed = λ c h. h; pending = λ c. false; settles = λ c h. refl; emits = λ to way c k more free h. h }
 
   pub one_more : (whole : Code → Code) (s : LowStmt) (rest : List LowStmt) (old mid new : List Item) (n k m : ℕ) → Towards whole (all_before (map before_of (s ∷ rest))) old n mid k → Before l a cells stack words saved (before_of s) mid k new m
       → Towards whole (all_before (map before_of rest)) old n new m
@@ -336,37 +386,96 @@ module _ (l : Program) (a : Assignment) (cells stack words saved : ℕ) where
     items = t.items ++ b.items;
     is = b.is ∙ ap (λ x. x ++ b.items) t.is ∙ append_assoc old t.items b.items;
     placed = λ c h. b.placed (all_before (map before_of rest) c) (t.placed c h);
-    emits = λ to way c j more h.
-        let first = t.emits to way c j (b.items ++ more) (b.emits to way (all_before (map before_of rest) c) j more h) in
+    pending = λ c. decided (before_of s c);
+    settles = b.before_choice;
+    emits = λ to way c j more free h.
+        let next = all_before (map before_of rest) c in
+        let first = t.emits to way c j (b.items ++ more) (t.settles (before_of s next) (λ x. b.no_choice x next)) (b.emits to way next j more free h) in
         rw (append_assoc t.items b.items more) first;
   }
 
-  pub block_made : (b : LowBlock) (items : List LowStmt) (i : ℕ) (to : List Spot) (way : Way) (old mid new : List Item) (n k m : ℕ) → items ≡ b.stmts → length items ≤ i → Towards (all_before (map before_of items)) (all_before (map before_of (drop i items))) old n mid k
+  -- what is known within a block of which so many statements are left: whether the last one decides the end
+  pub record Within (items : List LowStmt) (i left : ℕ) (end : Code) (old : List Item) (n : ℕ) (new : List Item) (m : ℕ) : Type 0 where
+    pub towards : Towards (all_before (map before_of items)) (all_before (map before_of (drop i items))) old n new m
+    pub count : left + i ≡ length items
+    pub settled : left ≡ 0 → towards.pending end ≡ false
+
+  pub within_none : (items : List LowStmt) (left : ℕ) (end : Code) (old : List Item) (n : ℕ) → left ≡ length items → Within items 0 left end old n old n
+  unfolding none_yet
+  within_none items left end old n e = record { towards = none_yet (all_before (map before_of items)) old n; count = omega (arith, e); settled = λ z. refl }
+
+  pub within_more : (items : List LowStmt) (i left left' : ℕ) (s : LowStmt) (end : Code) (old mid new : List Item) (n k m : ℕ) (is_last : Bool) → i < length items → s ≡ get_or items i s → left' + 1 ≡ left → is_last ≡ nat_eq left' 0
+      → (is_last ≡ true → decided (before_of s end) ≡ false) → Within items i left end old n mid k → Before l a cells stack words saved (before_of s) mid k new m → Within items (i + 1) left' end old n new m
+  unfolding one_more
+  within_more items i left left' s end old mid new n k m is_last lt is down last free t b =
+      let front : drop i items ≡ s ∷ drop (suc i) items = drop-cons items i s lt ∙ ap (λ x. x ∷ drop (suc i) items) (sym is) in
+      let next : suc i ≡ i + 1 = omega arith in
+      let before = subst (λ ss. Towards (all_before (map before_of items)) (all_before (map before_of ss)) old n mid k) front t.towards in
+      let all = one_more (all_before (map before_of items)) s (drop (suc i) items) old mid new n k m before b in
+      subst (λ x. Within items x left' end old n new m) next (record {
+        towards = all;
+        count = let c = t.count in omega (arith, c, down);
+        settled = λ z. free (last ∙ (let zero' : nat_eq left' 0 ≡ true = grind (arith, nat_tests) in zero'));
+      })
+
+  pub block_made : (b : LowBlock) (items : List LowStmt) (i left : ℕ) (to : List Spot) (way : Way) (old mid new : List Item) (n k m : ℕ) → items ≡ b.stmts → length items ≤ i → Within items i left (end_of b.last) old n mid k
       → Emitted l a cells stack words saved to way (end_of b.last) mid k new m → Emitted l a cells stack words saved to way (code_of b) old n new m
-  block_made b items i to way old mid new n k m is over t e =
+  block_made b items i left to way old mid new n k m is over t e =
       let none = drop_past items i over in
+      let count = t.count in
+      let settled : t.towards.pending (all_before (map before_of (drop i items)) (end_of b.last)) ≡ false =
+      ap (λ ss. t.towards.pending (all_before (map before_of ss) (end_of b.last))) none ∙ t.settled (omega (arith, count, over)) in
       let last : Emits l a cells stack words saved to way (all_before (map before_of (drop i items)) (end_of b.last)) k m e.items = rw none e.emits in
-      let whole = t.emits to way (end_of b.last) m e.items last in
+      let whole = t.towards.emits to way (end_of b.last) m e.items settled last in
       rw (code_of-parts b) (record {
-        items = t.items ++ e.items;
-        is = e.is ∙ ap (λ x. x ++ e.items) t.is ∙ append_assoc old t.items e.items;
-        emits = subst (λ ss. Emits l a cells stack words saved to way (all_before (map before_of ss) (end_of b.last)) n m (t.items ++ e.items)) is whole;
+        items = t.towards.items ++ e.items;
+        is = e.is ∙ ap (λ x. x ++ e.items) t.towards.is ∙ append_assoc old t.towards.items e.items;
+        emits = subst (λ ss. Emits l a cells stack words saved to way (all_before (map before_of ss) (end_of b.last)) n m (t.towards.items ++ e.items)) is whole;
+      })
+
+  -- the last statement, that decides the end
+  last_left : (items : List LowStmt) (i left left' : ℕ) (s : LowStmt) (c : Comparison) (end : Code) → i < length items → s ≡ get_or items i s → left + i ≡ length items → left' + 1 ≡ left → left' ≡ 0 → before_of s ≡ prim c.operation c.variable c.left c.right
+      → all_before (map before_of (drop i items)) end ≡ prim c.operation c.variable c.left c.right end
+  last_left items i left left' s c end lt at count down none same =
+      let over : length items ≤ suc i = omega (arith, count, down, none) in
+      let front : drop i items ≡ s ∷ [] = drop-cons items i s lt ∙ ap (λ x. x ∷ drop (suc i) items) (sym at) ∙ ap (λ ss. s ∷ ss) (drop_past items (suc i) over) in
+      ap (λ ss. all_before (map before_of ss) end) front ∙ ap (λ g. g end) same
+
+  pub decided_placed : (b : LowBlock) (items : List LowStmt) (i left left' : ℕ) (s : LowStmt) (c : Comparison) (old new : List Item) (n m : ℕ) → items ≡ b.stmts → i < length items → s ≡ get_or items i s → left' + 1 ≡ left → left' ≡ 0
+      → before_of s ≡ prim c.operation c.variable c.left c.right → Within items i left (end_of b.last) old n new m → Placed l a (code_of b) → (OperandPlaced l a c.left × OperandPlaced l a c.right) × Placed l a (end_of b.last)
+  decided_placed b items i left left' s c old new n m e lt at down none same t h =
+      let parts : Placed l a (all_before (map before_of items) (end_of b.last)) = subst (λ ss. Placed l a (all_before (map before_of ss) (end_of b.last))) (sym e) (subst (Placed l a) (code_of-parts b) h) in
+      let here : Placed l a (prim c.operation c.variable c.left c.right (end_of b.last)) = subst (Placed l a) (last_left items i left left' s c (end_of b.last) lt at t.count down none same) (t.towards.placed (end_of b.last) parts) in
+      ((here.1, here.2), here.3)
+
+  pub decided_made : (b : LowBlock) (items : List LowStmt) (i left left' : ℕ) (s : LowStmt) (c : Comparison) (to : List Spot) (way : Way) (old mid new : List Item) (n k m : ℕ) → items ≡ b.stmts → i < length items → s ≡ get_or items i s → left' + 1 ≡ left → left' ≡ 0
+      → before_of s ≡ prim c.operation c.variable c.left c.right → Within items i left (end_of b.last) old n mid k
+      → Emitted l a cells stack words saved to way (prim c.operation c.variable c.left c.right (end_of b.last)) mid k new m → Emitted l a cells stack words saved to way (code_of b) old n new m
+  decided_made b items i left left' s c to way old mid new n k m is lt at down none same t e =
+      let rest = last_left items i left left' s c (end_of b.last) lt at t.count down none same in
+      let settled = ap t.towards.pending rest ∙ t.towards.settles (prim c.operation c.variable c.left c.right (end_of b.last)) (λ x. refl) in
+      let last : Emits l a cells stack words saved to way (all_before (map before_of (drop i items)) (end_of b.last)) k m e.items = rw rest e.emits in
+      let whole = t.towards.emits to way (end_of b.last) m e.items settled last in
+      rw (code_of-parts b) (record {
+        items = t.towards.items ++ e.items;
+        is = e.is ∙ ap (λ x. x ++ e.items) t.towards.is ∙ append_assoc old t.towards.items e.items;
+        emits = subst (λ ss. Emits l a cells stack words saved to way (all_before (map before_of ss) (end_of b.last)) n m (t.towards.items ++ e.items)) is whole;
       })
 
   -- the statement at hand is placed, and so is the end
-  pub stmt_placed : (b : LowBlock) (items : List LowStmt) (i : ℕ) (old new : List Item) (n m : ℕ) (s : LowStmt) → items ≡ b.stmts → i < length items → s ≡ get_or items i s → Towards (all_before (map before_of items)) (all_before (map before_of (drop i items))) old n new m
+  pub stmt_placed : (b : LowBlock) (items : List LowStmt) (i left : ℕ) (old new : List Item) (n m : ℕ) (s : LowStmt) → items ≡ b.stmts → i < length items → s ≡ get_or items i s → Within items i left (end_of b.last) old n new m
       → Placed l a (code_of b) → (c : Code) × Placed l a (before_of s c)
-  stmt_placed b items i old new n m s e lt is t h =
+  stmt_placed b items i left old new n m s e lt is t h =
       let parts : Placed l a (all_before (map before_of items) (end_of b.last)) = subst (λ ss. Placed l a (all_before (map before_of ss) (end_of b.last))) (sym e) (subst (Placed l a) (code_of-parts b) h) in
       let front : drop i items ≡ s ∷ drop (suc i) items = drop-cons items i s lt ∙ ap (λ x. x ∷ drop (suc i) items) (sym is) in
-      let here : Placed l a (before_of s (all_before (map before_of (drop (suc i) items)) (end_of b.last))) = subst (λ ss. Placed l a (all_before (map before_of ss) (end_of b.last))) front (t.placed (end_of b.last) parts) in
+      let here : Placed l a (before_of s (all_before (map before_of (drop (suc i) items)) (end_of b.last))) = subst (λ ss. Placed l a (all_before (map before_of ss) (end_of b.last))) front (t.towards.placed (end_of b.last) parts) in
       (all_before (map before_of (drop (suc i) items)) (end_of b.last), here)
 
-  pub last_placed : (b : LowBlock) (items : List LowStmt) (i : ℕ) (old new : List Item) (n m : ℕ) → items ≡ b.stmts → length items ≤ i → Towards (all_before (map before_of items)) (all_before (map before_of (drop i items))) old n new m
+  pub last_placed : (b : LowBlock) (items : List LowStmt) (i left : ℕ) (old new : List Item) (n m : ℕ) → items ≡ b.stmts → length items ≤ i → Within items i left (end_of b.last) old n new m
       → Placed l a (code_of b) → Placed l a (end_of b.last)
-  last_placed b items i old new n m e over t h =
+  last_placed b items i left old new n m e over t h =
       let parts : Placed l a (all_before (map before_of items) (end_of b.last)) = subst (λ ss. Placed l a (all_before (map before_of ss) (end_of b.last))) (sym e) (subst (Placed l a) (code_of-parts b) h) in
-      subst (λ ss. Placed l a (all_before (map before_of ss) (end_of b.last))) (drop_past items i over) (t.placed (end_of b.last) parts)
+      subst (λ ss. Placed l a (all_before (map before_of ss) (end_of b.last))) (drop_past items i over) (t.towards.placed (end_of b.last) parts)
 
   pub record TowardsArms (to : List Spot) (way : Way) (whole rest : Code → Arms) (old : List Item) (n : ℕ) (new : List Item) (m : ℕ) : Type 0 where
     pub items : List Item
@@ -462,6 +571,72 @@ module _ (l : Program) (a : Assignment) (cells stack words saved : ℕ) where
   order_chosen to way arms rest first c r old new n m all e t h =
       let rule = ap (λ ts. stands_last way (arms_before (map arm_of ts) c)) all ∙ rule_is way first rest c ∙ sym e ∙ t in
       in_order_made to way (arms_before (map arm_of arms) c) old new n m rule h
+
+  -- a choice that a comparison decides
+  pub decided_first_made : (to : List Spot) (way way' : Way) (first : LowArm) (rest : List LowArm) (c : Code) (f : PrimOp) (left right : Source) (number : ℕ) (old c1 c2 c3 new : List Item) (n label k i m : ℕ) → label ≡ n → k ≡ suc n → way' ≡ further way → number ≡ tested first.tests
+      → c1 ≡ old ++ branch_items (other_condition f number) label left right → Emitted l a cells stack words saved to way' (code_of first.block) c1 k c2 i → c3 ≡ c2 ++ Label label ∷ []
+      → EmittedArms l a cells stack words saved to way (arms_before (map arm_of rest) c) c3 i new m → EmittedDecidedFirst l a cells stack words saved f left right to way (arms_before (map arm_of (first ∷ rest)) c) old n new m
+  decided_first_made to way way' first rest c f left right number old c1 c2 c3 new n label k i m is next w which branched inner labelled e =
+      let block : Emits l a cells stack words saved to (further way) (code_of first.block) (suc n) i inner.items = rw (sym w, sym next) inner.emits in
+      let test = branch_items (other_condition f (tested first.tests)) n left right in
+      let all : new ≡ (((old ++ test) ++ inner.items) ++ Label n ∷ []) ++ e.items =
+      e.is ∙ ap (λ x. x ++ e.items) (labelled ∙ (λ i. c2 ++ Label (is i) ∷ []) ∙ ap (λ x. x ++ Label n ∷ []) (inner.is ∙ ap (λ x. x ++ inner.items) (branched ∙ (λ i. old ++ branch_items (other_condition f (which i)) (is i) left right)))) in
+      let shape : (((old ++ test) ++ inner.items) ++ Label n ∷ []) ++ e.items ≡ old ++ ((test ++ (inner.items ++ Label n ∷ [])) ++ e.items) = grind (arith, common_steps) in
+      subst (λ p. EmittedDecidedFirst l a cells stack words saved f left right to way (one_arm p (arms_before (map arm_of rest) c)) old n new m) (sym (arm_of-parts first)) (record {
+        items = (test ++ (inner.items ++ Label n ∷ [])) ++ e.items;
+        is = all ∙ shape;
+        emits = (i, inner.items, block, (e.items, refl, e.emits));
+      })
+
+  pub decided_last_made : (to : List Spot) (way way' : Way) (first : LowArm) (rest : List LowArm) (c : Code) (f : PrimOp) (left right : Source) (number : ℕ) (old c1 c2 c3 new : List Item) (n label k i m : ℕ) → label ≡ n → k ≡ suc n → way' ≡ further way → number ≡ tested first.tests
+      → c1 ≡ old ++ branch_items (condition f number) label left right → EmittedArms l a cells stack words saved to way' (arms_before (map arm_of rest) c) c1 k c2 i → c3 ≡ c2 ++ Label label ∷ []
+      → Emitted l a cells stack words saved to way (code_of first.block) c3 i new m → EmittedDecidedLast l a cells stack words saved f left right to way (arms_before (map arm_of (first ∷ rest)) c) old n new m
+  decided_last_made to way way' first rest c f left right number old c1 c2 c3 new n label k i m is next w which branched others labelled e =
+      let arms' : EmitsArms l a cells stack words saved to (further way) (arms_before (map arm_of rest) c) (suc n) i others.items = rw (sym w, sym next) others.emits in
+      let test = branch_items (condition f (tested first.tests)) n left right in
+      let all : new ≡ (((old ++ test) ++ others.items) ++ Label n ∷ []) ++ e.items =
+      e.is ∙ ap (λ x. x ++ e.items) (labelled ∙ (λ i. c2 ++ Label (is i) ∷ []) ∙ ap (λ x. x ++ Label n ∷ []) (others.is ∙ ap (λ x. x ++ others.items) (branched ∙ (λ i. old ++ branch_items (condition f (which i)) (is i) left right)))) in
+      let shape : (((old ++ test) ++ others.items) ++ Label n ∷ []) ++ e.items ≡ old ++ ((test ++ (others.items ++ Label n ∷ [])) ++ e.items) = grind (arith, common_steps) in
+      subst (λ p. EmittedDecidedLast l a cells stack words saved f left right to way (one_arm p (arms_before (map arm_of rest) c)) old n new m) (sym (arm_of-parts first)) (record {
+        items = (test ++ (others.items ++ Label n ∷ [])) ++ e.items;
+        is = all ∙ shape;
+        emits = (i, others.items, arms', (e.items, refl, e.emits));
+      })
+
+  -- a comparison and its choice
+  decided_choice : (to : List Spot) (way : Way) (as' : Arms) (f : PrimOp) (x : ℕ) (b d : Operand) (left right : Source) (n m : ℕ) (items : List Item) → left ≡ source l a b → right ≡ source l a d → decides f x (choose as') ≡ true
+      → EmitsDecided l a cells stack words saved f left right to way (choose as') n m items → Emits l a cells stack words saved to way (prim f x b d (choose as')) n m items
+  decided_choice to way as' f x b d left right n m items from and is h =
+      let there : EmitsDecided l a cells stack words saved f (source l a b) (source l a d) to way (choose as') n m items = rw (sym from, sym and) h in
+      subst (λ r. elim r as (λ y. Type 0) [ true ↦ EmitsDecided l a cells stack words saved f (source l a b) (source l a d) to way (choose as') n m items | false ↦ Then (plain (prim_code f (place_of a x) (source l a b) (source l a d))) (Emits l a cells stack words saved to way (choose as') n m) items ]) (sym is) there
+
+  pub decided_last_chosen : (to : List Spot) (way : Way) (first : LowArm) (rest : List LowArm) (c : Code) (f : PrimOp) (x : ℕ) (b d : Operand) (left right : Source) (r : Bool) (old new : List Item) (n m : ℕ) → left ≡ source l a b → right ≡ source l a d
+      → r ≡ (if has_one first.tests then waits way (code_of first.block) c else false) → r ≡ true → decides f x (choose (arms_before (map arm_of (first ∷ rest)) c)) ≡ true
+      → EmittedDecidedLast l a cells stack words saved f left right to way (arms_before (map arm_of (first ∷ rest)) c) old n new m → Emitted l a cells stack words saved to way (prim f x b d (choose (arms_before (map arm_of (first ∷ rest)) c))) old n new m
+  decided_last_chosen to way first rest c f x b d left right r old new n m from and e t is h =
+      let as' = arms_before (map arm_of (first ∷ rest)) c in
+      record {
+        items = h.items;
+        is = h.is;
+        emits = decided_choice to way as' f x b d left right n m h.items from and is
+            (subst (λ r. elim r as (λ y. Type 0) [ true ↦ EmitsDecidedLast l a cells stack words saved f left right to way as' n m h.items | false ↦ EmitsDecidedFirst l a cells stack words saved f left right to way as' n m h.items ]) (sym (rule_is way first rest c ∙ sym e ∙ t)) h.emits);
+      }
+
+  pub decided_first_chosen : (to : List Spot) (way : Way) (first : LowArm) (rest : List LowArm) (c : Code) (f : PrimOp) (x : ℕ) (b d : Operand) (left right : Source) (r : Bool) (old new : List Item) (n m : ℕ) → left ≡ source l a b → right ≡ source l a d
+      → r ≡ (if has_one first.tests then waits way (code_of first.block) c else false) → r ≡ false → decides f x (choose (arms_before (map arm_of (first ∷ rest)) c)) ≡ true
+      → EmittedDecidedFirst l a cells stack words saved f left right to way (arms_before (map arm_of (first ∷ rest)) c) old n new m → Emitted l a cells stack words saved to way (prim f x b d (choose (arms_before (map arm_of (first ∷ rest)) c))) old n new m
+  decided_first_chosen to way first rest c f x b d left right r old new n m from and e t is h =
+      let as' = arms_before (map arm_of (first ∷ rest)) c in
+      record {
+        items = h.items;
+        is = h.is;
+        emits = decided_choice to way as' f x b d left right n m h.items from and is
+            (subst (λ r. elim r as (λ y. Type 0) [ true ↦ EmitsDecidedLast l a cells stack words saved f left right to way as' n m h.items | false ↦ EmitsDecidedFirst l a cells stack words saved f left right to way as' n m h.items ]) (sym (rule_is way first rest c ∙ sym e ∙ t)) h.emits);
+      }
+
+  -- where a comparison decides the end of a block, that is a choice with an arm
+  pub not_decided : (f : PrimOp) (x : ℕ) (end c : Code) → decides_code x c ≡ false → end ≡ c → decides f x end ≡ true → ⊥
+  not_decided f x end c none is h = let free : decides f x end ≡ false = ap (decides f x) is ∙ undecided f x c none in let both : false ≡ true = sym free ∙ h in absurd (cc)
 
   -- ---- ends
 

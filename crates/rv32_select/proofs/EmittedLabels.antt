@@ -1,15 +1,18 @@
 -- The labels of a block's own rise.
 use Rattle.std.proofs.Common.{ℕ, suc, ◌≤◌, List, Bool, true, false, arith}
 use Rattle.parallel_move.specs.declared.Spot.{Spot}
+use Rattle.low_code.specs.declared.program.PrimOp.{PrimOp}
 use Rattle.low_code.specs.Tree.{Code, set, prim, load, save, take, put, get, call, join, give, tail, choose, fail, Arms, otherwise, arm, Procedure, Program}
 use Rattle.low_code.specs.Formed.{variables}
 use Rattle.register_alloc.specs.Assignment.{Assignment, place_of, words_at}
 use Rattle.register_alloc.specs.Fits.{slots_of}
 use Rattle.rv32_items.specs.declared.Item.{Item}
+use Rattle.rv32_select.specs.declared.source.Source.{Source}
 use Rattle.rv32_select.specs.declared.source.Way.{Way}
 use Rattle.rv32_select.specs.declared.source.Way.TheVariants.{Returns, Follows}
-use Rattle.rv32_select.specs.Emit.{result_spots}
-use Rattle.rv32_select.specs.IsSelected.{Emits, EmitsArms, EmitsLast, EmitsProcedure, further, places, stands_last}
+use Rattle.rv32_select.specs.Emit.{plain, prim_code, result_spots}
+use Rattle.rv32_select.specs.Decides.{decides}
+use Rattle.rv32_select.specs.IsSelected.{Emits, EmitsArms, EmitsLast, EmitsDecided, EmitsDecidedFirst, EmitsDecidedLast, Then, EmitsProcedure, further, places, source, stands_last}
 
 -- what follows of both, whichever it is
 pub whichever : {A : Type 0} (T F : Type 0) (r : Bool) → (T → A) → (F → A) → elim r as (λ x. Type 0) [ true ↦ T | false ↦ F ] → A
@@ -20,7 +23,9 @@ module _ (l : Program) (a : Assignment) (cells stack words saved : ℕ) where
   mutual
     pub emits_up : (c : Code) (to : List Spot) (way : Way) (n m : ℕ) (items : List Item) → Emits l a cells stack words saved to way c n m items → n ≤ m
     emits_up (set x b c) to way n m items h = emits_up c to way n m h.0 h.2
-    emits_up (prim f x b d c) to way n m items h = emits_up c to way n m h.0 h.2
+    emits_up (prim f x b d c) to way n m items h =
+        whichever (EmitsDecided l a cells stack words saved f (source l a b) (source l a d) to way c n m items) (Then (plain (prim_code f (place_of a x) (source l a b) (source l a d))) (Emits l a cells stack words saved to way c n m) items) (decides f x c)
+        (λ z. decided_up c f (source l a b) (source l a d) to way n m items z) (λ z. emits_up c to way n m z.0 z.2) h
     emits_up (load x b k c) to way n m items h = emits_up c to way n m h.0 h.2
     emits_up (save b k d c) to way n m items h = emits_up c to way n m h.0 h.2
     emits_up (take xs c) to way n m items h = emits_up c to way n m h.0 h.2
@@ -50,6 +55,38 @@ module _ (l : Program) (a : Assignment) (cells stack words saved : ℕ) where
     last_up (arm ts c as') to way n m items h =
         let first = arms_up as' to (further way) (suc n) h.2 h.3 h.4 in
         let second = emits_up c to way h.2 m h.5.0 h.5.2 in
+        omega arith
+
+    -- a choice that a comparison decides
+    pub decided_up : (c : Code) (f : PrimOp) (left right : Source) (to : List Spot) (way : Way) (n m : ℕ) (items : List Item) → EmitsDecided l a cells stack words saved f left right to way c n m items → n ≤ m
+    decided_up (choose as') f left right to way n m items h =
+        whichever (EmitsDecidedLast l a cells stack words saved f left right to way as' n m items) (EmitsDecidedFirst l a cells stack words saved f left right to way as' n m items) (stands_last way as')
+        (λ z. decided_last_up as' f left right to way n m items z) (λ z. decided_first_up as' f left right to way n m items z) h
+    decided_up (set x b c) f left right to way n m items h = absurd h
+    decided_up (prim g x b d c) f left right to way n m items h = absurd h
+    decided_up (load x b k c) f left right to way n m items h = absurd h
+    decided_up (save b k d c) f left right to way n m items h = absurd h
+    decided_up (take xs c) f left right to way n m items h = absurd h
+    decided_up (put b c) f left right to way n m items h = absurd h
+    decided_up (get x c) f left right to way n m items h = absurd h
+    decided_up (call g site os xs c) f left right to way n m items h = absurd h
+    decided_up (join xs b c) f left right to way n m items h = absurd h
+    decided_up (give os) f left right to way n m items h = absurd h
+    decided_up (tail g site os) f left right to way n m items h = absurd h
+    decided_up fail f left right to way n m items h = absurd h
+
+    pub decided_first_up : (as' : Arms) (f : PrimOp) (left right : Source) (to : List Spot) (way : Way) (n m : ℕ) (items : List Item) → EmitsDecidedFirst l a cells stack words saved f left right to way as' n m items → n ≤ m
+    decided_first_up (otherwise c) f left right to way n m items h = absurd h
+    decided_first_up (arm ts c as') f left right to way n m items h =
+        let first = emits_up c to (further way) (suc n) h.0 h.1 h.2 in
+        let second = arms_up as' to way h.0 m h.3.0 h.3.2 in
+        omega arith
+
+    pub decided_last_up : (as' : Arms) (f : PrimOp) (left right : Source) (to : List Spot) (way : Way) (n m : ℕ) (items : List Item) → EmitsDecidedLast l a cells stack words saved f left right to way as' n m items → n ≤ m
+    decided_last_up (otherwise c) f left right to way n m items h = absurd h
+    decided_last_up (arm ts c as') f left right to way n m items h =
+        let first = arms_up as' to (further way) (suc n) h.0 h.1 h.2 in
+        let second = emits_up c to way h.0 m h.3.0 h.3.2 in
         omega arith
 
 pub procedure_up : (l : Program) (a : Assignment) (cells stack f : ℕ) (q : Procedure) (n m : ℕ) (items : List Item) → EmitsProcedure l a cells stack f q n m items → n ≤ m

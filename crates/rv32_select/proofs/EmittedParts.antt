@@ -8,6 +8,7 @@ use Rattle.parallel_move.specs.declared.Spot.{Spot}
 use Rattle.parallel_move.specs.declared.Move.{Move}
 use Rattle.low_code.specs.declared.program.Operand.{Operand}
 use Rattle.low_code.specs.declared.program.LowTest.{LowTest}
+use Rattle.low_code.specs.declared.program.PrimOp.{PrimOp}
 use Rattle.low_code.specs.Tree.{Code, set, prim, load, save, take, put, get, call, join, give, tail, choose, fail, Arms, otherwise, arm, Program}
 use Rattle.low_code.specs.Formed.{calls_in, arms_calls}
 use Rattle.low_code.specs.Size.{code_size, arms_size, FewTests, ArmsFewTests}
@@ -15,14 +16,17 @@ use Rattle.register_alloc.specs.Assignment.{Assignment, place_of, saves_at}
 use Rattle.rv32_items.specs.declared.Cond.TheVariants.{Eq, Ne}
 use Rattle.rv32_items.specs.declared.Item.{Item}
 use Rattle.rv32_items.specs.declared.Item.TheVariants.{Label, Plain, Jump}
+use Rattle.rv32_items.specs.declared.Cond.{Cond}
+use Rattle.rv32_select.specs.declared.source.Source.{Source}
 use Rattle.rv32_select.specs.declared.source.Way.{Way}
 use Rattle.rv32_select.specs.declared.source.Way.TheVariants.{Returns, Follows, Jumps}
-use Rattle.rv32_select.specs.Emit.{plain, moves_code, spot_moves, number_moves, take_items, leave_code, save_moves, restore_moves, test_items, match_items}
-use Rattle.rv32_select.specs.IsSelected.{IsOrder, moves_between, heap_end, heap_full, step, no_alternative, source, sources, places, argument_spots_of, result_spots_of, further, way_out, tests_items, call_items, stands_last, Emits, EmitsArms, EmitsLast}
+use Rattle.rv32_select.specs.Emit.{plain, moves_code, spot_moves, number_moves, take_items, leave_code, save_moves, restore_moves, prim_code, branch_items, test_items, match_items}
+use Rattle.rv32_select.specs.Decides.{decides, tested, condition, other_condition}
+use Rattle.rv32_select.specs.IsSelected.{IsOrder, moves_between, heap_end, heap_full, step, no_alternative, source, sources, places, argument_spots_of, result_spots_of, further, way_out, tests_items, call_items, stands_last, Then, Emits, EmitsArms, EmitsLast, EmitsDecided, EmitsDecidedFirst, EmitsDecidedLast}
 use Rattle.rv32_select.specs.Writable.{Placed, ArmsPlaced}
 use Rattle.rv32_select.proofs.StaticPieces.{Piece, piece_append, piece_more, set_piece, prim_piece, load_word_piece, save_word_piece, put_piece, get_piece, leave_piece, save_piece, restore_piece}
 use Rattle.rv32_select.proofs.EmittedLabels.{whichever, emits_up, arms_up}
-use Rattle.rv32_select.proofs.Parts.{sent_code, between_code, Part, inside_part, code_part, part_append, part_more, part_then, part_under, jump_part, take_part, compare_part, closed_part, tested_part}
+use Rattle.rv32_select.proofs.Parts.{sent_code, between_code, Part, inside_part, code_part, part_append, part_more, part_then, part_under, jump_part, take_part, compare_part, two_words_part, closed_part, tested_part}
 
 -- the label behind a block
 abbrev pub IsWay : Way → ℕ → Type 0
@@ -184,12 +188,27 @@ module _ (l : Program) (a : Assignment) (cells stack : ℕ) where
         (part_under procs (Outer way) (ArmsFewTests as') Few n k (arms_most as') (others ++ Label n ∷ []) (λ f. f.2) closed))
         (part_under procs (Outer way) (FewTests c) Few k m (most c) rest (λ f. f.1) q)
 
+    -- a branch on two words before a block, and what stands behind that
+    decided : (way : Way) (Few Inner Behind : Type 0) (n k m most most' : ℕ) (test block rest items : List Item) → 3 + procs ≤ n → (Few → Inner) → (Few → Behind) → Part procs (λ j. n ≡ j) n n 9 Few test
+        → Part procs (Outer (further way)) (suc n) k most Inner block → Part procs (Outer way) k m most' Behind rest
+        → items ≡ (test ++ (block ++ Label n ∷ [])) ++ rest → Part procs (Outer way) n m (9 + most + most') Few items
+    decided way Few Inner Behind n k m most most' test block rest items le in_few behind_few t p q e =
+        let le' : procs ≤ n = omega (arith, le) in
+        let closed = closed_part procs (Outer way) Inner (Outer (further way)) n k most block le' (λ j h. inr (same_way way j h)) p in
+        part_then procs (Outer way) Few n k m (9 + most) most' (9 + most + most') (test ++ (block ++ Label n ∷ [])) rest items e (omega arith)
+        (tested_part procs (Outer way) Few n k 9 most test block le' t (inside_part procs (suc n) k block (omega (arith, le)) p.counts)
+        (part_under procs (Outer way) Inner Few n k most (block ++ Label n ∷ []) in_few closed))
+        (part_under procs (Outer way) Behind Few k m most' rest behind_few q)
+
     mutual
       pub block_part : (c : Code) (to : List Spot) (way : Way) (n m : ℕ) (items : List Item) → 3 + procs ≤ n → Placed l a c → Emits l a cells stack words saved to way c n m items → Block way c n m items
       block_part (set x b c) to way n m items le p h =
           coded way n m 6 (most c) (most (set x b c)) (FewTests c) _ h.0 items (omega arith) (set_piece (place_of a x) (source l a b)) h.1 (block_part c to way n m h.0 le p.2 h.2)
       block_part (prim f x b d c) to way n m items le p h =
-          coded way n m 11 (most c) (most (prim f x b d c)) (FewTests c) _ h.0 items (omega arith) (prim_piece f (place_of a x) (source l a b) (source l a d)) h.1 (block_part c to way n m h.0 le p.3 h.2)
+          whichever (EmitsDecided l a cells stack words saved f (source l a b) (source l a d) to way c n m items) (Then (plain (prim_code f (place_of a x) (source l a b) (source l a d))) (Emits l a cells stack words saved to way c n m) items) (decides f x c)
+          (λ z. part_more procs (Outer way) (FewTests c) n m (9 + most c) (most (prim f x b d c)) items (omega arith) (decided_part c f (source l a b) (source l a d) to way n m items le p.3 z))
+          (λ z. coded way n m 11 (most c) (most (prim f x b d c)) (FewTests c) _ z.0 items (omega arith) (prim_piece f (place_of a x) (source l a b) (source l a d)) z.1 (block_part c to way n m z.0 le p.3 z.2))
+          h
       block_part (load x b k c) to way n m items le p h =
           coded way n m 7 (most c) (most (load x b k c)) (FewTests c) _ h.0 items (omega arith) (load_word_piece (place_of a x) (source l a b) k) h.1 (block_part c to way n m h.0 le p.2 h.2)
       block_part (save b k d c) to way n m items le p h =
@@ -241,3 +260,48 @@ module _ (l : Program) (a : Assignment) (cells stack : ℕ) where
           let first = arms_part as' to (further way) (suc n) h.2 h.3 (omega (arith, le)) p.2 h.4 in
           let rest = block_part c to way h.2 m h.5.0 (omega (arith, le, up)) p.1 h.5.2 in
           subst (λ x. ArmsBlock way (arm x c as') n m items) (sym h.1) (turned way h.0 c as' n h.2 m h.3 h.5.0 items le first rest h.5.1)
+
+      decided_part : (c : Code) (f : PrimOp) (left right : Source) (to : List Spot) (way : Way) (n m : ℕ) (items : List Item) → 3 + procs ≤ n → Placed l a c → EmitsDecided l a cells stack words saved f left right to way c n m items
+          → Part procs (Outer way) n m (9 + most c) (FewTests c) items
+      decided_part (choose as') f left right to way n m items le p h =
+          part_more procs (Outer way) (ArmsFewTests as') n m (9 + arms_most as') (9 + most (choose as')) items (omega arith)
+          (whichever (EmitsDecidedLast l a cells stack words saved f left right to way as' n m items) (EmitsDecidedFirst l a cells stack words saved f left right to way as' n m items) (stands_last way as')
+          (λ z. decided_last_part as' f left right to way n m items le p z) (λ z. decided_first_part as' f left right to way n m items le p z) h)
+      decided_part (set x b c) f left right to way n m items le p h = absurd h
+      decided_part (prim g x b d c) f left right to way n m items le p h = absurd h
+      decided_part (load x b k c) f left right to way n m items le p h = absurd h
+      decided_part (save b k d c) f left right to way n m items le p h = absurd h
+      decided_part (take xs c) f left right to way n m items le p h = absurd h
+      decided_part (put b c) f left right to way n m items le p h = absurd h
+      decided_part (get x c) f left right to way n m items le p h = absurd h
+      decided_part (call g site os xs c) f left right to way n m items le p h = absurd h
+      decided_part (join xs b c) f left right to way n m items le p h = absurd h
+      decided_part (give os) f left right to way n m items le p h = absurd h
+      decided_part (tail g site os) f left right to way n m items le p h = absurd h
+      decided_part fail f left right to way n m items le p h = absurd h
+
+      decided_first_part : (as' : Arms) (f : PrimOp) (left right : Source) (to : List Spot) (way : Way) (n m : ℕ) (items : List Item) → 3 + procs ≤ n → ArmsPlaced l a as' → EmitsDecidedFirst l a cells stack words saved f left right to way as' n m items
+          → Part procs (Outer way) n m (9 + arms_most as') (ArmsFewTests as') items
+      decided_first_part (otherwise c) f left right to way n m items le p h = absurd h
+      decided_first_part (arm ts c as') f left right to way n m items le p h =
+          let Few = ArmsFewTests (arm ts c as') in
+          let up = emits_up l a cells stack words saved c to (further way) (suc n) h.0 h.1 h.2 in
+          let both = length-append (calls_in c) (arms_calls as') in
+          let one = two_words_part procs (λ j. n ≡ j) Few (other_condition f (tested ts)) n n left right refl in
+          part_more procs (Outer way) Few n m (9 + most c + arms_most as') (9 + arms_most (arm ts c as')) items (omega (arith, both))
+          (decided way Few (FewTests c) (ArmsFewTests as') n h.0 m (most c) (arms_most as') (branch_items (other_condition f (tested ts)) n left right) h.1 h.3.0 items le (λ x. x.1) (λ x. x.2) one
+          (block_part c to (further way) (suc n) h.0 h.1 (omega (arith, le)) p.1 h.2)
+          (arms_part as' to way h.0 m h.3.0 (omega (arith, le, up)) p.2 h.3.2) h.3.1)
+
+      decided_last_part : (as' : Arms) (f : PrimOp) (left right : Source) (to : List Spot) (way : Way) (n m : ℕ) (items : List Item) → 3 + procs ≤ n → ArmsPlaced l a as' → EmitsDecidedLast l a cells stack words saved f left right to way as' n m items
+          → Part procs (Outer way) n m (9 + arms_most as') (ArmsFewTests as') items
+      decided_last_part (otherwise c) f left right to way n m items le p h = absurd h
+      decided_last_part (arm ts c as') f left right to way n m items le p h =
+          let Few = ArmsFewTests (arm ts c as') in
+          let up = arms_up l a cells stack words saved as' to (further way) (suc n) h.0 h.1 h.2 in
+          let both = length-append (calls_in c) (arms_calls as') in
+          let one = two_words_part procs (λ j. n ≡ j) Few (condition f (tested ts)) n n left right refl in
+          part_more procs (Outer way) Few n m (9 + arms_most as' + most c) (9 + arms_most (arm ts c as')) items (omega (arith, both))
+          (decided way Few (ArmsFewTests as') (FewTests c) n h.0 m (arms_most as') (most c) (branch_items (condition f (tested ts)) n left right) h.1 h.3.0 items le (λ x. x.2) (λ x. x.1) one
+          (arms_part as' to (further way) (suc n) h.0 h.1 (omega (arith, le)) p.2 h.2)
+          (block_part c to way h.0 m h.3.0 (omega (arith, le, up)) p.1 h.3.2) h.3.1)

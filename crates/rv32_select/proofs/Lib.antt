@@ -29,6 +29,7 @@ pub mod CallStatement
 pub mod EmittedLabels
 pub mod JoinStatement
 pub mod ChoiceStatement
+pub mod DecidedStatement
 pub mod MachineCalls
 pub mod ByteStatements
 pub mod Simulation
@@ -41,6 +42,8 @@ pub mod FittingPlaces
 pub mod Sending
 pub mod Weight
 pub mod Emitted
+pub mod VariableUsed
+pub mod Deciding
 pub mod Entered
 pub mod Among
 pub mod Writes

@@ -14,7 +14,7 @@ use Rattle.rv32_items.specs.declared.Item.TheVariants.{Label, Branch, Jump}
 use Rattle.rv32_items.specs.Placed.{size_of, times}
 use Rattle.rv32_select.specs.declared.source.Source.{Source}
 use Rattle.rv32_select.specs.declared.source.Source.TheVariants.{Number}
-use Rattle.rv32_select.specs.Emit.{plain, hold, held, add_to, moves_code, spot_moves, number_moves, cells_code, is_offset, room_items, cells_below, near_cells, far_cells, take_items, compare_items}
+use Rattle.rv32_select.specs.Emit.{plain, hold, held, add_to, moves_code, spot_moves, number_moves, cells_code, is_offset, room_items, cells_below, near_cells, far_cells, take_items, branch_items, compare_items}
 use Rattle.rv32_select.specs.IsSelected.{IsOrder, moves_between}
 use Rattle.rv32_select.proofs.StaticPieces.{Piece, piece_append, piece_more, piece_one, hold_piece, held_number_piece, add_piece, moves_piece, sent_piece, cells_piece, below_piece}
 use Rattle.rv32_select.proofs.Flowing.{Inside, Ahead, Goes, ahead_behind, goes_both, goes_then, goes_plain, inside_of, times_plain, below_more, Counts, counts_append, size_plain}
@@ -124,6 +124,12 @@ module _ (procs : ℕ) where
         part_append n n n 5 3 (plain (hold 5 word ++ hold 6 (Number k))) _
         (code_part n 5 _ (piece_append 3 2 (hold 5 word) _ (hold_piece 5 word) (held_number_piece 6 k)))
         (branch_part n c (held 5 word) (held 6 (Number k)) next far)
+
+    pub two_words_part : (c : Cond) (n next : ℕ) (left right : Source) → Far next → Part Far n n 9 Few (branch_items c next left right)
+    two_words_part c n next left right far =
+        part_append n n n 6 3 (plain (hold 5 left ++ hold 6 right)) _
+        (code_part n 6 _ (piece_append 3 3 (hold 5 left) _ (hold_piece 5 left) (hold_piece 6 right)))
+        (branch_part n c (held 5 left) (held 6 right) next far)
 
     -- a block whose far labels are far from here, or the one behind it
     pub closed_part : (Near : ℕ → Type 0) (n k a : ℕ) (block : List Item) → procs ≤ n → ((l : ℕ) → Near l → (n ≡ l) ⊎ Far l)

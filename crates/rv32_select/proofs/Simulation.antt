@@ -1,7 +1,9 @@
 -- The machine does what runs of low code do: blocks by their structure, and calls by the units that are left.
-use Rattle.std.proofs.Common.{◌≡◌, ℕ, zero, suc, ◌+◌, ◌*◌, List, [], ◌∷◌, ◌++◌, map, length, Some, None, arith}
+use Rattle.std.proofs.Common.{◌≡◌, ℕ, zero, suc, ◌+◌, ◌*◌, List, [], ◌∷◌, ◌++◌, map, length, Bool, true, false, Some, None, refl, arith}
 use Rattle.std.specs.Prelude.{Option}
 use Rattle.parallel_move.specs.declared.Spot.{Spot}
+use Rattle.low_code.specs.declared.program.Operand.{Operand}
+use Rattle.low_code.specs.declared.program.PrimOp.{PrimOp}
 use Rattle.low_code.specs.Tree.{Code, set, prim, load, save, take, put, get, call, join, give, tail, choose, fail, Arms, otherwise, arm, Procedure, Program}
 use Rattle.low_code.specs.Formed.{uses, variables}
 use Rattle.low_code.specs.Values.{Word, Env, World, with_var}
@@ -13,8 +15,9 @@ use Rattle.rv32_items.specs.declared.Item.TheVariants.{Label}
 use Rattle.rv32_items.specs.Course.{Layout, address_from}
 use Rattle.rv32_select.specs.declared.source.Way.{Way}
 use Rattle.rv32_select.specs.declared.source.Way.TheVariants.{Returns, Follows}
-use Rattle.rv32_select.specs.Emit.{result_spots, match_items}
-use Rattle.rv32_select.specs.IsSelected.{further, source, tests_items, stands_last, EmitsArms, EmitsLast}
+use Rattle.rv32_select.specs.Emit.{plain, prim_code, branch_items, result_spots, match_items}
+use Rattle.rv32_select.specs.Decides.{decides, tested, condition, other_condition}
+use Rattle.rv32_select.specs.IsSelected.{further, source, tests_items, stands_last, Then, Emits, EmitsArms, EmitsLast, EmitsDecided, EmitsDecidedFirst, EmitsDecidedLast}
 use Rattle.rv32_select.proofs.Straight.{Data, at}
 use Rattle.rv32_select.proofs.Relation.{bases, Back, Needed}
 use Rattle.rv32_select.proofs.PlaceFacts.{ProcedureFine, Setting}
@@ -29,9 +32,15 @@ use Rattle.rv32_select.proofs.TailStatement.{tail_simulated}
 use Rattle.rv32_select.proofs.CallStatement.{call_statement}
 use Rattle.rv32_select.proofs.JoinStatement.{inner, join_simulated}
 use Rattle.rv32_select.proofs.ChoiceStatement.{ArmsBlock, ArmsSimulates, arm_simulated, turned_arm, arms_block, choice, last_arm}
+use Rattle.rv32_select.proofs.DecidedStatement.{decided, decided_first, decided_last}
 use Rattle.rv32_select.proofs.EmittedLabels.{whichever}
 use Rattle.rv32_select.proofs.ProcedureEntry.{NoMust}
 use Rattle.rv32_select.proofs.ProcedureCall.{waits_here, call_simulated}
+
+-- what follows of both, and of the first where it is that
+whichever_so : {A : Type 0} (T F : Type 0) (r : Bool) → (r ≡ true → T → A) → (F → A) → elim r as (λ x. Type 0) [ true ↦ T | false ↦ F ] → A
+whichever_so T F true f g h = f refl h
+whichever_so T F false f g h = g h
 
 module _ (l : Program) (a : Assignment) (cells stack : ℕ) (lay : Layout) (items : List Item) (begins : List ℕ) (s : Setting l a cells stack lay items begins) (calls_n : Calls) (n : ℕ) (called : CallsSimulated l a cells stack lay items begins calls_n n)
     (f : ℕ) (q : Procedure) (pf : ProcedureFine l a f q) (j m : ℕ) (outer : List ℕ) (d0 : Data) (u : ℕ) (found : address_from 0 items lay (lay.address m) ≡ Some m) (total : 4 * (j + (1 + pf.slots) + u) ≡ stack) where
@@ -43,8 +52,11 @@ module _ (l : Program) (a : Assignment) (cells stack : ℕ) (lay : Layout) (item
         set_simulated l a cells stack lay items begins s calls_n n f q pf j m outer d0 u x o c to way Must k k' block p scope later env top under d w b
         (λ v rest p' d' b'. simulate c to way Must k k' rest p' (x ∷ scope) later (with_var x v env) top under d' w b')
     simulate (prim g x o o' c) to way Must k k' block p scope later env top under d w b =
-        prim_simulated l a cells stack lay items begins s calls_n n f q pf j m outer d0 u g x o o' c to way Must k k' block p scope later env top under d w b
-        (λ v rest p' d' b'. simulate c to way Must k k' rest p' (x ∷ scope) later (with_var x v env) top under d' w b')
+        whichever_so (EmitsDecided l a cells stack (words_at a f) (slots_of (place_of a) (variables q)) g (source l a o) (source l a o') to way c k k' block) (Then (plain (prim_code g (place_of a x) (source l a o) (source l a o'))) (Emits l a cells stack (words_at a f) (slots_of (place_of a) (variables q)) to way c k k') block) (decides g x c)
+        (λ is h. simulate_decided c g x o o' to way Must k k' block p scope later env top under d w b is h)
+        (λ h. prim_simulated l a cells stack lay items begins s calls_n n f q pf j m outer d0 u g x o o' c to way Must k k' block p scope later env top under d w b h
+        (λ v rest p' d' b'. simulate c to way Must k k' rest p' (x ∷ scope) later (with_var x v env) top under d' w b'))
+        b.emits
     simulate (load x o i c) to way Must k k' block p scope later env top under d w b =
         load_simulated l a cells stack lay items begins s calls_n n f q pf j m outer d0 u x o i c to way Must k k' block p scope later env top under d w b
         (λ v rest p' d' b'. simulate c to way Must k k' rest p' (x ∷ scope) later (with_var x v env) top under d' w b')
@@ -104,6 +116,48 @@ module _ (l : Program) (a : Assignment) (cells stack : ℕ) (lay : Layout) (item
         turned_arm l a cells stack lay items begins s calls_n n f q pf j m outer d0 u ts h.0 c as' to way Must k k' block p scope later env top under d w h.1 b (h.2, h.3, h.4, h.5)
         (λ d' b'. simulate c to way Must h.2 k' h.5.0 (p + length (test ++ (h.3 ++ Label k ∷ []))) scope later env top under d' w b')
         (λ d' b'. simulate_arms as' to (further way) Must (suc k) h.2 h.3 (p + length test) scope later env top under d' w b')
+
+    -- a comparison that decides the choice right behind it
+    pub simulate_decided : (c : Code) (g : PrimOp) (x : ℕ) (o o' : Operand) (to : List Spot) (way : Way) (Must : ℕ → Word → Type 0) (k k' : ℕ) (block : List Item) (p : ℕ) (scope later : List ℕ) (env : Env) (top : ℕ) (under : Option ℕ) (d : Data) (w : World)
+        → Block l a cells stack lay items begins f q pf.slots j m outer d0 u n (prim g x o o' c) to way Must k k' block p scope later env top under d w → decides g x c ≡ true
+        → EmitsDecided l a cells stack (words_at a f) (slots_of (place_of a) (variables q)) g (source l a o) (source l a o') to way c k k' block
+        → Simulates l a cells stack lay items begins f q pf.slots j m outer d0 u n calls_n (prim g x o o' c) to way Must p env top under d w
+    simulate_decided (choose as') g x o o' to way Must k k' block p scope later env top under d w b is h =
+        whichever (EmitsDecidedLast l a cells stack (words_at a f) (slots_of (place_of a) (variables q)) g (source l a o) (source l a o') to way as' k k' block) (EmitsDecidedFirst l a cells stack (words_at a f) (slots_of (place_of a) (variables q)) g (source l a o) (source l a o') to way as' k k' block) (stands_last way as')
+        (λ z. simulate_decided_last as' g x o o' to way Must k k' block p scope later env top under d w b is z)
+        (λ z. simulate_decided_first as' g x o o' to way Must k k' block p scope later env top under d w b is z) h
+    simulate_decided (set y r c) g x o o' to way Must k k' block p scope later env top under d w b is h = absurd h
+    simulate_decided (prim y z r e c) g x o o' to way Must k k' block p scope later env top under d w b is h = absurd h
+    simulate_decided (load y r i c) g x o o' to way Must k k' block p scope later env top under d w b is h = absurd h
+    simulate_decided (save r i e c) g x o o' to way Must k k' block p scope later env top under d w b is h = absurd h
+    simulate_decided (take ys c) g x o o' to way Must k k' block p scope later env top under d w b is h = absurd h
+    simulate_decided (put r c) g x o o' to way Must k k' block p scope later env top under d w b is h = absurd h
+    simulate_decided (get y c) g x o o' to way Must k k' block p scope later env top under d w b is h = absurd h
+    simulate_decided (call y site os ys c) g x o o' to way Must k k' block p scope later env top under d w b is h = absurd h
+    simulate_decided (join ys r c) g x o o' to way Must k k' block p scope later env top under d w b is h = absurd h
+    simulate_decided (give os) g x o o' to way Must k k' block p scope later env top under d w b is h = absurd h
+    simulate_decided (tail y site os) g x o o' to way Must k k' block p scope later env top under d w b is h = absurd h
+    simulate_decided fail g x o o' to way Must k k' block p scope later env top under d w b is h = absurd h
+
+    pub simulate_decided_first : (as' : Arms) (g : PrimOp) (x : ℕ) (o o' : Operand) (to : List Spot) (way : Way) (Must : ℕ → Word → Type 0) (k k' : ℕ) (block : List Item) (p : ℕ) (scope later : List ℕ) (env : Env) (top : ℕ) (under : Option ℕ) (d : Data) (w : World)
+        → Block l a cells stack lay items begins f q pf.slots j m outer d0 u n (prim g x o o' (choose as')) to way Must k k' block p scope later env top under d w → decides g x (choose as') ≡ true
+        → EmitsDecidedFirst l a cells stack (words_at a f) (slots_of (place_of a) (variables q)) g (source l a o) (source l a o') to way as' k k' block
+        → Simulates l a cells stack lay items begins f q pf.slots j m outer d0 u n calls_n (prim g x o o' (choose as')) to way Must p env top under d w
+    simulate_decided_first (otherwise c) g x o o' to way Must k k' block p scope later env top under d w b is h = absurd h
+    simulate_decided_first (arm ts c as') g x o o' to way Must k k' block p scope later env top under d w b is h =
+        decided_first l a cells stack lay items begins s calls_n n f q pf j m outer d0 u g x o o' ts c as' to way Must k k' block p scope later env top under d w b (decided g x ts c as' is) h
+        (λ v d' b'. simulate c to (further way) Must (suc k) h.0 h.1 (p + length (branch_items (other_condition g (tested ts)) k (source l a o) (source l a o'))) (x ∷ scope) later (with_var x v env) top under d' w b')
+        (λ v d' b'. simulate_arms as' to way Must h.0 k' h.3.0 (p + length (branch_items (other_condition g (tested ts)) k (source l a o) (source l a o') ++ (h.1 ++ Label k ∷ []))) (x ∷ scope) later (with_var x v env) top under d' w b')
+
+    pub simulate_decided_last : (as' : Arms) (g : PrimOp) (x : ℕ) (o o' : Operand) (to : List Spot) (way : Way) (Must : ℕ → Word → Type 0) (k k' : ℕ) (block : List Item) (p : ℕ) (scope later : List ℕ) (env : Env) (top : ℕ) (under : Option ℕ) (d : Data) (w : World)
+        → Block l a cells stack lay items begins f q pf.slots j m outer d0 u n (prim g x o o' (choose as')) to way Must k k' block p scope later env top under d w → decides g x (choose as') ≡ true
+        → EmitsDecidedLast l a cells stack (words_at a f) (slots_of (place_of a) (variables q)) g (source l a o) (source l a o') to way as' k k' block
+        → Simulates l a cells stack lay items begins f q pf.slots j m outer d0 u n calls_n (prim g x o o' (choose as')) to way Must p env top under d w
+    simulate_decided_last (otherwise c) g x o o' to way Must k k' block p scope later env top under d w b is h = absurd h
+    simulate_decided_last (arm ts c as') g x o o' to way Must k k' block p scope later env top under d w b is h =
+        decided_last l a cells stack lay items begins s calls_n n f q pf j m outer d0 u g x o o' ts c as' to way Must k k' block p scope later env top under d w b (decided g x ts c as' is) h
+        (λ v d' b'. simulate_arms as' to (further way) Must (suc k) h.0 h.1 (p + length (branch_items (condition g (tested ts)) k (source l a o) (source l a o'))) (x ∷ scope) later (with_var x v env) top under d' w b')
+        (λ v d' b'. simulate c to way Must h.0 k' h.3.0 (p + length (branch_items (condition g (tested ts)) k (source l a o) (source l a o') ++ (h.1 ++ Label k ∷ []))) (x ∷ scope) later (with_var x v env) top under d' w b')
 
 module _ (l : Program) (a : Assignment) (cells stack : ℕ) (lay : Layout) (items : List Item) (begins : List ℕ) (s : Setting l a cells stack lay items begins) where
   -- calls with so many units

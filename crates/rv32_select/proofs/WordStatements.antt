@@ -18,7 +18,7 @@ use Rattle.rv32_items.specs.declared.Item.{Item}
 use Rattle.rv32_items.specs.Course.{Layout}
 use Rattle.rv32_select.specs.declared.source.Way.{Way}
 use Rattle.rv32_select.specs.Emit.{plain, prim_code, load_code, save_code}
-use Rattle.rv32_select.specs.IsSelected.{heap_base, source}
+use Rattle.rv32_select.specs.IsSelected.{heap_base, source, Then, Emits}
 use Rattle.rv32_select.proofs.Courses.{Goes}
 use Rattle.rv32_select.proofs.Straight.{Data, at, block as stretch, plain_length}
 use Rattle.rv32_select.proofs.FrameViews.{spots}
@@ -65,11 +65,12 @@ module _ (l : Program) (a : Assignment) (cells stack : ℕ) (lay : Layout) (item
   -- a variable gets the result of an operation
   pub prim_simulated : (p : PrimOp) (x : ℕ) (o o' : Operand) (c : Code) (to : List Spot) (way : Way) (Must : ℕ → Word → Type 0) (k k' : ℕ) (block : List Item) (pos : ℕ) (scope later : List ℕ) (env : Env) (top : ℕ) (under : Option ℕ) (d : Data) (w : World)
       → Block l a cells stack lay items begins f q pf.slots j m outer d0 u n (prim p x o o' c) to way Must k k' block pos scope later env top under d w
+      → Then (plain (prim_code p (place_of a x) (source l a o) (source l a o'))) (Emits l a cells stack (words_at a f) (slots_of (place_of a) (variables q)) to way c k k') block
       → ((v : Word) (rest : List Item) (pos' : ℕ) (d' : Data) → Block l a cells stack lay items begins f q pf.slots j m outer d0 u n c to way Must k k' rest pos' (x ∷ scope) later (with_var x v env) top under d' w
       → Simulates l a cells stack lay items begins f q pf.slots j m outer d0 u n calls_n c to way Must pos' (with_var x v env) top under d' w)
       → Simulates l a cells stack lay items begins f q pf.slots j m outer d0 u n calls_n (prim p x o o' c) to way Must pos env top under d w
   unfolding code
-  prim_simulated p x o o' c to way Must k k' block pos scope later env top under d w b more = go (number_in l (words_at a) env o) refl (number_in l (words_at a) env o') refl
+  prim_simulated p x o o' c to way Must k k' block pos scope later env top under d w b emits more = go (number_in l (words_at a) env o) refl (number_in l (words_at a) env o') refl
     where
       go : (r : Option ℕ) → number_in l (words_at a) env o ≡ r → (r' : Option ℕ) → number_in l (words_at a) env o' ≡ r'
           → Does' lay items begins (Given l a cells stack lay items f j pf.slots d0 m outer to way Must) (at (bases stack) lay items pos d) (m ∷ outer) w (need r w (λ g. need r' w (λ h. code l (words_at a) (room l a cells stack lay items begins) calls_n (with_var x (number (arithmetic p g h)) env) top under c w)))
@@ -77,13 +78,13 @@ module _ (l : Program) (a : Assignment) (cells stack : ℕ) (lay : Layout) (item
       go (Some g) e None e' = tt
       go (Some g) e (Some h) e' =
           let is = prim_code p (place_of a x) (source l a o) (source l a o') in
-          let rest = b.emits.0 in
+          let rest = emits.0 in
           let one = operand_read l a cells stack lay items begins s calls_n n f q pf j m outer d0 u (prim p x o o' c) scope env Must d w o (number g) b.stood b.scoped b.owned (λ y h. among_left y (used_by o) (used_by o' ++ uses c) h) b.fine.0 (number_there (operand l (words_at a) env o) g e) in
           let two = operand_read l a cells stack lay items begins s calls_n n f q pf j m outer d0 u (prim p x o o' c) scope env Must d w o' (number h) b.stood b.scoped b.owned (λ y h. among_right y (used_by o) (used_by o' ++ uses c) (among_left y (used_by o') (uses c) h)) b.fine.1.0 (number_there (operand l (words_at a) env o') h e') in
           let t = own_place l a lay stack f j pf.slots (slots_of (place_of a) (variables q)) (place_of a x) pf.enough b.fine.1.1.0.1.0 in
           let sets = sets_prim lay.code (bases stack) j pf.slots p (place_of a x) (source l a o) (source l a o') d b.stood.world.good b.stood.frame t one.0 two.0 in
           let result : arithmetic p (read lay.code (bases stack) j pf.slots d (source l a o)) (read lay.code (bases stack) j pf.slots d (source l a o')) ≡ arithmetic p g h = λ i. arithmetic p (one.1 i) (two.1 i) in
-          one_bound l a cells stack lay items begins s calls_n n f q pf j m outer d0 u (prim p x o o' c) c is x (number (arithmetic p g h)) to way Must k k' block rest pos scope later env top under d w b b.emits.1 b.emits.2
+          one_bound l a cells stack lay items begins s calls_n n f q pf j m outer d0 u (prim p x o o' c) c is x (number (arithmetic p g h)) to way Must k k' block rest pos scope later env top under d w b emits.1 emits.2
           (subst (λ y. Sets lay.code (bases stack) j pf.slots is d (place_of a x) y) result sets) b.fine.1.1.0 b.fine.1.1.1 (λ y h. among_right y (used_by o) (used_by o' ++ uses c) (among_right y (used_by o') (uses c) h))
           (λ d' b'. more (number (arithmetic p g h)) rest (pos + length (plain is)) d' b')
 

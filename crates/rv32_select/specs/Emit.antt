@@ -354,11 +354,14 @@ restore_moves first (r ∷ rs) =
 
 -- ---- choices
 
+-- words that compare so go on to the label
+abbrev pub branch_items : Cond → (next : ℕ) → (left right : Source) → List Item
+branch_items cond next left right =
+    plain (hold 5 left ++ hold 6 right) ++ Branch cond (held 5 left) (held 6 right) next ∷ []
+
 -- a word that compares so with this number goes on to the label
 abbrev pub compare_items : Cond → (next : ℕ) → (word : Source) → ℕ → List Item
-compare_items cond next word n =
-    plain (hold 5 word ++ hold 6 (Number n))
-    ++ Branch cond (held 5 word) (held 6 (Number n)) next ∷ []
+compare_items cond next word n = branch_items cond next word (Number n)
 
 -- one that isn't the number, and one that is it
 abbrev pub test_items : (next : ℕ) → (word : Source) → ℕ → List Item

@@ -1,17 +1,20 @@
 -- What items that were put behind others stand for.
-use Rattle.std.specs.Prelude.{◌≡◌, ℕ, List, [], ◌∷◌, ◌++◌, Some, slice_get}
+use Rattle.std.specs.Prelude.{◌≡◌, ℕ, Bool, true, false, Option, None, List, [], ◌∷◌, ◌++◌, Some, slice_get}
 use Rattle.parallel_move.specs.declared.Spot.{Spot}
 use Rattle.parallel_move.specs.declared.Move.{Move}
 use Rattle.low_code.specs.declared.program.Operand.{Operand}
 use Rattle.low_code.specs.declared.program.LowTest.{LowTest}
-use Rattle.low_code.specs.Tree.{Code, Arms, arm, Procedure, Program}
+use Rattle.low_code.specs.declared.program.PrimOp.{PrimOp}
+use Rattle.low_code.specs.Tree.{Code, prim, Arms, arm, Procedure, Program}
 use Rattle.register_alloc.specs.Assignment.{Assignment, saves_at}
 use Rattle.rv32_items.specs.declared.Item.{Item}
 use Rattle.rv32_items.specs.declared.Item.TheVariants.{Jump}
 use Rattle.rv32_select.specs.declared.source.Source.{Source}
+use Rattle.rv32_select.specs.declared.decides.Comparison.{Comparison}
 use Rattle.rv32_select.specs.declared.source.Way.{Way}
 use Rattle.rv32_select.specs.Emit.{plain, moves_code, spot_moves, number_moves, leave_code}
-use Rattle.rv32_select.specs.IsSelected.{IsOrder, sources, places, argument_spots_of, result_spots_of, moves_between, call_items, Emits, EmitsArms, EmitsLast, EmitsProcedure}
+use Rattle.rv32_select.specs.IsSelected.{IsOrder, sources, places, argument_spots_of, result_spots_of, moves_between, call_items, Emits, EmitsArms, EmitsLast, EmitsDecidedFirst, EmitsDecidedLast, EmitsProcedure}
+use Rattle.rv32_select.specs.Decides.{decides_code, decides, decided}
 use Rattle.rv32_select.specs.Writable.{Placed, ArmsPlaced}
 
 -- moves in some order
@@ -28,6 +31,19 @@ pub record Sent (to : List Spot) (from : List Source) (old new : List Item) : Ty
 
 abbrev pub one_arm : List LowTest × Code → Arms → Arms
 one_arm t = arm t.0 t.1
+
+-- the comparison of a statement that decides the end right behind it
+abbrev pub Comparing : (before : Code → Code) → (end : Code) → Option Comparison → Type 0
+Comparing before end None = decided (before end) ≡ false
+Comparing before end (Some c) =
+    (before ≡ prim c.operation c.variable c.left c.right)
+    × (decides c.operation c.variable end ≡ true)
+
+-- and where that is the last one of a block
+abbrev pub Deciding : (is_last : Bool) → (before : Code → Code) → (end : Code)
+    → Option Comparison → Type 0
+Deciding is_last before end None = is_last ≡ true → decided (before end) ≡ false
+Deciding is_last before end (Some c) = (is_last ≡ true) × Comparing before end (Some c)
 
 module _ (l : Program) (a : Assignment) where
   pub record Called (saved f site : ℕ) (as' : List Operand) (xs : List ℕ) (old new : List Item)
@@ -66,14 +82,29 @@ module _ (l : Program) (a : Assignment) (cells stack words saved : ℕ) where
     pub is : new ≡ old ++ items
     pub emits : EmitsLast l a cells stack words saved to way c n m items
 
-  -- a statement, or several, before any block
+  pub record EmittedDecidedFirst (f : PrimOp) (left right : Source) (to : List Spot) (way : Way)
+      (c : Arms) (old : List Item) (n : ℕ) (new : List Item) (m : ℕ) : Type 0 where
+    pub items : List Item
+    pub is : new ≡ old ++ items
+    pub emits : EmitsDecidedFirst l a cells stack words saved f left right to way c n m items
+
+  pub record EmittedDecidedLast (f : PrimOp) (left right : Source) (to : List Spot) (way : Way)
+      (c : Arms) (old : List Item) (n : ℕ) (new : List Item) (m : ℕ) : Type 0 where
+    pub items : List Item
+    pub is : new ≡ old ++ items
+    pub emits : EmitsDecidedLast l a cells stack words saved f left right to way c n m items
+
+  -- a statement before any block that it doesn't decide
   pub record Before (before : Code → Code) (old : List Item) (n : ℕ) (new : List Item) (m : ℕ)
       : Type 0 where
     pub items : List Item
     pub is : new ≡ old ++ items
     pub placed : (c : Code) → Placed l a (before c) → Placed l a c
+    pub no_choice : (x : ℕ) (c : Code) → decides_code x (before c) ≡ false
+    pub before_choice : (c : Code) → ((x : ℕ) → decides_code x c ≡ false)
+        → decided (before c) ≡ false
     pub emits : (to : List Spot) (way : Way) (c : Code) (k : ℕ) (rest : List Item)
-        → Emits l a cells stack words saved to way c m k rest
+        → decided (before c) ≡ false → Emits l a cells stack words saved to way c m k rest
         → Emits l a cells stack words saved to way (before c) n k (items ++ rest)
 
   -- an arm, or several, before any others

@@ -7,6 +7,7 @@ use Rattle.parallel_move.specs.Moves.{DoesAtOnce, ends, StaysAmong}
 use Rattle.low_code.specs.declared.program.Operand.{Operand}
 use Rattle.low_code.specs.declared.program.Operand.TheVariants.{Var, Num, Cell}
 use Rattle.low_code.specs.declared.program.LowTest.{LowTest}
+use Rattle.low_code.specs.declared.program.PrimOp.{PrimOp}
 use Rattle.low_code.specs.Tree.{Code, set, prim, load, save, take, put, get, call, join, give, tail, choose, fail, Arms, otherwise, arm, Procedure, Program}
 use Rattle.low_code.specs.Formed.{variables}
 use Rattle.register_alloc.specs.Assignment.{Assignment, place_of, saves_at, words_at}
@@ -17,7 +18,8 @@ use Rattle.rv32_select.specs.declared.source.Source.{Source}
 use Rattle.rv32_select.specs.declared.source.Source.TheVariants.{At, Number}
 use Rattle.rv32_select.specs.declared.source.Way.{Way}
 use Rattle.rv32_select.specs.declared.source.Way.TheVariants.{Returns, Follows, Jumps}
-use Rattle.rv32_select.specs.Emit.{plain, moves_code, spot_moves, number_moves, set_code, prim_code, load_code, save_code, take_items, put_code, get_code, exit_with, argument_spots, result_spots, entry_items, leave_code, return_items, save_moves, restore_moves, test_items, match_items, start_items, stop_items}
+use Rattle.rv32_select.specs.Emit.{plain, moves_code, spot_moves, number_moves, set_code, prim_code, load_code, save_code, take_items, put_code, get_code, exit_with, argument_spots, result_spots, entry_items, leave_code, return_items, save_moves, restore_moves, branch_items, test_items, match_items, start_items, stop_items}
+use Rattle.rv32_select.specs.Decides.{decides, tested, condition, other_condition}
 
 -- the heap's first address, and the end of the frames
 abbrev pub heap_base : ℕ
@@ -35,6 +37,13 @@ pub record IsOrder (steps moves : List Move) : Type 0 where
 -- a piece of items, and then others
 abbrev pub Then : (piece : List Item) → (List Item → Type 0) → List Item → Type 0
 Then piece Rest items = (rest : List Item) × (items ≡ piece ++ rest) × Rest rest
+
+-- items that may go on to label n, a block that they pass then, and what stands behind the label
+abbrev pub Passed : (tests : List Item) → (Block Behind : (n m : ℕ) → List Item → Type 0)
+    → (n m : ℕ) → List Item → Type 0
+Passed tests Block Behind n m items =
+    (k : ℕ) × (block : List Item) × Block (suc n) k block
+    × Then (tests ++ (block ++ Label n ∷ [])) (Behind k m) items
 
 -- moves from one list of spots to another
 abbrev pub moves_between : (to from : List Spot) → List Move
@@ -170,8 +179,11 @@ module _ (l : Program) (a : Assignment) (cells stack : ℕ) where
       Emits to way (set x b c) n m items =
           Then (plain (set_code (place_of a x) (source l a b))) (Emits to way c n m) items
       Emits to way (prim f x b d c) n m items =
-          Then (plain (prim_code f (place_of a x) (source l a b) (source l a d)))
-          (Emits to way c n m) items
+          elim (decides f x c) [
+            | true ↦ EmitsDecided f (source l a b) (source l a d) to way c n m items
+            | false ↦ Then (plain (prim_code f (place_of a x) (source l a b) (source l a d)))
+                (Emits to way c n m) items
+          ]
       Emits to way (load x b k c) n m items =
           Then (plain (load_code (place_of a x) (source l a b) k)) (Emits to way c n m) items
       Emits to way (save b k d c) n m items =
@@ -221,6 +233,30 @@ module _ (l : Program) (a : Assignment) (cells stack : ℕ) where
           × (k : ℕ) × (others : List Item) × EmitsArms to (further way) as' (suc n) k others
           × Then (match_items n (source l a t.left) t.right ++ (others ++ Label n ∷ []))
           (Emits to way c k m) items
+
+      -- a choice whose first arm is taken by how two words compare
+      pub EmitsDecided : PrimOp → (left right : Source) → (to : List Spot) → Way → Code
+          → (n m : ℕ) → List Item → Type 0
+      EmitsDecided f left right to way (choose as') n m items = elim (stands_last way as') [
+        | true ↦ EmitsDecidedLast f left right to way as' n m items
+        | false ↦ EmitsDecidedFirst f left right to way as' n m items
+      ]
+      EmitsDecided f left right to way _ n m items = ⊥
+
+      -- that arm first, and behind the others
+      pub EmitsDecidedFirst : PrimOp → (left right : Source) → (to : List Spot) → Way → Arms
+          → (n m : ℕ) → List Item → Type 0
+      EmitsDecidedFirst f left right to way (otherwise c) n m items = ⊥
+      EmitsDecidedFirst f left right to way (arm ts c as') n m items =
+          Passed (branch_items (other_condition f (tested ts)) n left right)
+          (Emits to (further way) c) (EmitsArms to way as') n m items
+
+      pub EmitsDecidedLast : PrimOp → (left right : Source) → (to : List Spot) → Way → Arms
+          → (n m : ℕ) → List Item → Type 0
+      EmitsDecidedLast f left right to way (otherwise c) n m items = ⊥
+      EmitsDecidedLast f left right to way (arm ts c as') n m items =
+          Passed (branch_items (condition f (tested ts)) n left right)
+          (EmitsArms to (further way) as') (Emits to way c) n m items
 
   -- procedure f: its entry, and its block
   pub record EmitsProcedure (f : ℕ) (q : Procedure) (n m : ℕ) (items : List Item) : Type 0 where

@@ -1,5 +1,6 @@
 pub mod Ranges
 pub mod Emit
+pub mod Decides
 pub mod IsSelected
 pub mod Writable
 pub mod Emitting

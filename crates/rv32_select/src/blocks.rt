@@ -2,16 +2,18 @@
 #![tactic(auto, using(low_code::proofs::TreeOf::tree_of, crate::proofs::Plain::plain_append, crate::proofs::Emitted::emitted), unfolding(crate::specs::Emit::plain))]
 
 ghost use Rattle.std.specs.Prelude.{◌≡◌, ◌++◌, [], ◌∷◌, ◌<◌, ◌+◌, ◌*◌, ◌≤◌, suc, length, map, slice_get, Some, OnOk, IfOk, true, false, if◌then◌else◌};
-ghost use Rattle.low_code.specs.Tree.{Code as Block, join, choose, all_before, arms_before, before_of, end_of, code_of, arm_of, program_of};
+ghost use Rattle.low_code.specs.Tree.{Code as Block, prim, join, choose, all_before, arms_before, before_of, end_of, code_of, arm_of, program_of};
 ghost use Rattle.register_alloc.specs.Assignment.{place_of};
 ghost use Rattle.rv32_select.specs.Emit.{plain, leave_code, take_items};
-ghost use Rattle.rv32_select.specs.IsSelected.{further as further_way, way_out as way_out_items, sources as sources_of, tests_items, is_rare as is_rare_code, waits as waits_there, has_one, argument_spots_of, result_spots_of, moves_between as moves_across, heap_end as end_of_heap, heap_full as heap_full_label, no_alternative as no_alternative_label};
+ghost use Rattle.rv32_select.specs.IsSelected.{source as source_of, further as further_way, way_out as way_out_items, sources as sources_of, tests_items, is_rare as is_rare_code, waits as waits_there, has_one, argument_spots_of, result_spots_of, moves_between as moves_across, heap_end as end_of_heap, heap_full as heap_full_label, no_alternative as no_alternative_label};
+ghost use Rattle.rv32_select.specs.Decides.{decides as decides_all};
 ghost use Rattle.rv32_select.specs.Ranges.{AreTargets};
-ghost use Rattle.rv32_select.specs.Writable.{Writable, CanWrite, FrameFits, Placed, ArmsPlaced, ArmPlaced, HavePlaces, OperandsPlaced, TestsPlaced, TargetsPlaced, CallPlaced};
-ghost use Rattle.rv32_select.specs.Emitting.{Moved, Sent, Called, TailCalled, Emitted, EmittedArms, EmittedLast, Before, ArmsBefore, one_arm};
+ghost use Rattle.rv32_select.specs.Writable.{Writable, CanWrite, FrameFits, Placed, ArmsPlaced, ArmPlaced, HavePlaces, OperandPlaced, OperandsPlaced, TestsPlaced, TargetsPlaced, CallPlaced};
+ghost use Rattle.rv32_select.specs.Emitting.{Moved, Sent, Called, TailCalled, Emitted, EmittedArms, EmittedLast, EmittedDecidedFirst, EmittedDecidedLast, Before, ArmsBefore, one_arm};
 
 use crate::code::Code;
 use crate::context::{Context, Frame, HEAP_BASE, result_spots};
+use crate::decides::{Comparison, condition, deciding, other_condition, tested};
 use crate::source::Way;
 use low_code::{LowArm, LowBlock, LowEnd, LowStmt, LowTest, Operand};
 use parallel_move::Spot;
@@ -492,6 +494,169 @@ impl<'a> Context<'a> {
         }
     }
 
+    /// Arms of which a comparison decides whether the first is taken.
+    #[cycle(blocks)]
+    fn decided_first(
+        &self,
+        frame: Frame,
+        out: &mut Selection,
+        to: &[Spot],
+        way: Way,
+        comparison: Comparison,
+        first: &LowArm,
+        others: &[LowArm],
+        otherwise: &LowBlock,
+    ) -> Result<(), AllocError>
+        requires writable { CanWrite (program_of self.now.low.now) self.now.places.now
+            self.now.cells }
+        requires frame { FrameFits frame.words frame.saved }
+        requires targets { AreTargets to.now }
+        requires operands { OperandPlaced (program_of self.now.low.now) self.now.places.now
+            comparison.left × OperandPlaced (program_of self.now.low.now) self.now.places.now
+            comparison.right }
+        requires placed { ArmsPlaced (program_of self.now.low.now) self.now.places.now
+            (arms_before (map arm_of (first.now ∷ others.now)) (code_of otherwise.now)) }
+        ensures { OnOk result (EmittedDecidedFirst (program_of self.now.low.now) self.now.places.now
+            self.now.cells self.now.stack frame.words frame.saved comparison.operation
+            (source_of (program_of self.now.low.now) self.now.places.now comparison.left)
+            (source_of (program_of self.now.low.now) self.now.places.now comparison.right)
+            to.now way (arms_before (map arm_of (first.now ∷ others.now)) (code_of otherwise.now))
+            out.old.code out.old.next out.new.code out.new.next) }
+    {
+        let label = out.fresh()?;
+        let left = self.source(comparison.left);
+        let right = self.source(comparison.right);
+        let number = tested(first.tests.as_slice());
+        out.code.branch(
+            other_condition(comparison.operation, number),
+            label,
+            left,
+            right,
+        )?;
+        self.block(frame, out, to, further(way), &first.block)?;
+        out.code.put(Item::Label(label))?;
+        self.arms(frame, out, to, way, others, otherwise)?;
+        Ok(())
+    }
+
+    /// The same, with the first behind the others.
+    #[cycle(blocks)]
+    fn decided_last(
+        &self,
+        frame: Frame,
+        out: &mut Selection,
+        to: &[Spot],
+        way: Way,
+        comparison: Comparison,
+        first: &LowArm,
+        others: &[LowArm],
+        otherwise: &LowBlock,
+    ) -> Result<(), AllocError>
+        requires writable { CanWrite (program_of self.now.low.now) self.now.places.now
+            self.now.cells }
+        requires frame { FrameFits frame.words frame.saved }
+        requires targets { AreTargets to.now }
+        requires operands { OperandPlaced (program_of self.now.low.now) self.now.places.now
+            comparison.left × OperandPlaced (program_of self.now.low.now) self.now.places.now
+            comparison.right }
+        requires placed { ArmsPlaced (program_of self.now.low.now) self.now.places.now
+            (arms_before (map arm_of (first.now ∷ others.now)) (code_of otherwise.now)) }
+        ensures { OnOk result (EmittedDecidedLast (program_of self.now.low.now) self.now.places.now
+            self.now.cells self.now.stack frame.words frame.saved comparison.operation
+            (source_of (program_of self.now.low.now) self.now.places.now comparison.left)
+            (source_of (program_of self.now.low.now) self.now.places.now comparison.right)
+            to.now way (arms_before (map arm_of (first.now ∷ others.now)) (code_of otherwise.now))
+            out.old.code out.old.next out.new.code out.new.next) }
+    {
+        let label = out.fresh()?;
+        let left = self.source(comparison.left);
+        let right = self.source(comparison.right);
+        let number = tested(first.tests.as_slice());
+        out.code.branch(condition(comparison.operation, number), label, left, right)?;
+        self.arms(frame, out, to, further(way), others, otherwise)?;
+        out.code.put(Item::Label(label))?;
+        self.block(frame, out, to, way, &first.block)?;
+        Ok(())
+    }
+
+    #[cycle(blocks)]
+    fn decided_arms(
+        &self,
+        frame: Frame,
+        out: &mut Selection,
+        to: &[Spot],
+        way: Way,
+        comparison: Comparison,
+        first: &LowArm,
+        others: &[LowArm],
+        otherwise: &LowBlock,
+    ) -> Result<(), AllocError>
+        requires writable { CanWrite (program_of self.now.low.now) self.now.places.now
+            self.now.cells }
+        requires frame { FrameFits frame.words frame.saved }
+        requires targets { AreTargets to.now }
+        requires operands { OperandPlaced (program_of self.now.low.now) self.now.places.now
+            comparison.left × OperandPlaced (program_of self.now.low.now) self.now.places.now
+            comparison.right }
+        requires placed { ArmsPlaced (program_of self.now.low.now) self.now.places.now
+            (arms_before (map arm_of (first.now ∷ others.now)) (code_of otherwise.now)) }
+        requires decides { decides_all comparison.operation comparison.variable
+            (choose (arms_before (map arm_of (first.now ∷ others.now)) (code_of otherwise.now))) ≡ true }
+        ensures { OnOk result (Emitted (program_of self.now.low.now) self.now.places.now
+            self.now.cells self.now.stack frame.words frame.saved to.now way
+            (prim comparison.operation comparison.variable comparison.left comparison.right
+            (choose (arms_before (map arm_of (first.now ∷ others.now)) (code_of otherwise.now))))
+            out.old.code out.old.next out.new.code out.new.next) }
+    {
+        if stands_last(way, first, otherwise) {
+            self.decided_last(frame, out, to, way, comparison, first, others, otherwise)?;
+            return Ok(());
+        }
+        self.decided_first(frame, out, to, way, comparison, first, others, otherwise)?;
+        Ok(())
+    }
+
+    /// A comparison and the choice that it decides.
+    #[cycle(blocks)]
+    fn decided(
+        &self,
+        frame: Frame,
+        out: &mut Selection,
+        to: &[Spot],
+        way: Way,
+        comparison: Comparison,
+        end: &LowEnd,
+    ) -> Result<(), AllocError>
+        requires writable { CanWrite (program_of self.now.low.now) self.now.places.now
+            self.now.cells }
+        requires frame { FrameFits frame.words frame.saved }
+        requires targets { AreTargets to.now }
+        requires operands { OperandPlaced (program_of self.now.low.now) self.now.places.now
+            comparison.left × OperandPlaced (program_of self.now.low.now) self.now.places.now
+            comparison.right }
+        requires placed { Placed (program_of self.now.low.now) self.now.places.now (end_of end.now) }
+        requires decides { decides_all comparison.operation comparison.variable
+            (end_of end.now) ≡ true }
+        ensures { OnOk result (Emitted (program_of self.now.low.now) self.now.places.now
+            self.now.cells self.now.stack frame.words frame.saved to.now way
+            (prim comparison.operation comparison.variable comparison.left comparison.right
+            (end_of end.now))
+            out.old.code out.old.next out.new.code out.new.next) }
+    {
+        match end {
+            LowEnd::Give(_) => Ok(()),
+            LowEnd::Tail(_, _, _) => Ok(()),
+            LowEnd::Choose(arms, otherwise) => match arms.as_slice().split_first() {
+                None => Ok(()),
+                Some((first, others)) => {
+                    self.decided_arms(frame, out, to, way, comparison, first, others, otherwise)?;
+                    Ok(())
+                }
+            },
+            LowEnd::Fail => Ok(()),
+        }
+    }
+
     #[cycle(blocks)]
     fn end(
         &self,
@@ -553,7 +718,13 @@ impl<'a> Context<'a> {
             self.now.cells self.now.stack frame.words frame.saved to.now way (code_of block.now)
             out.old.code out.old.next out.new.code out.new.next) }
     {
+        let mut left = block.stmts.len();
         for stmt in block.stmts.as_slice() {
+            left -= 1;
+            if let Some(comparison) = deciding(left == 0, stmt, &block.last) {
+                self.decided(frame, out, to, way, comparison, &block.last)?;
+                return Ok(());
+            }
             self.stmt(frame, out, stmt)?;
         }
         self.end(frame, out, to, way, &block.last)?;

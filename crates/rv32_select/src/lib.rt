@@ -19,6 +19,7 @@ use std::alloc::{AllocError, Global};
 mod blocks;
 mod code;
 mod context;
+mod decides;
 mod laws;
 mod procedures;
 mod slots;

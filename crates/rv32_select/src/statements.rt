@@ -2,7 +2,7 @@
 #![tactic(auto, using(crate::proofs::Plain::plain_append), unfolding(crate::specs::Emit::plain))]
 
 ghost use Rattle.std.specs.Prelude.{◌≡◌, ◌++◌, [], ◌∷◌, ◌<◌, ◌*◌, ◌≤◌, length, OnOk, IfOk, true};
-ghost use Rattle.rv32_select.specs.Emit.{plain, set_code, operation as operation_code, is_immediate as immediate_number, immediate as immediate_code, operands_held as held_code, operate_on as on_code, is_free as is_free_order, operate_in_order as in_order_code, prim_code, load_code, save_code, word_offset as offset_of_word, room_items, next_offset as offset_behind, go_on as go_on_code, cells_code, far_cells as far_cells_items, raise_items, cells_below as below_code, take_items, aside as aside_code, back as back_code, call_code, byte_given as byte_given_code, put_code, get_code, exit_with as exit_items, compare_items, test_items, match_items};
+ghost use Rattle.rv32_select.specs.Emit.{plain, set_code, operation as operation_code, is_immediate as immediate_number, immediate as immediate_code, operands_held as held_code, operate_on as on_code, is_free as is_free_order, operate_in_order as in_order_code, prim_code, load_code, save_code, word_offset as offset_of_word, room_items, next_offset as offset_behind, go_on as go_on_code, cells_code, far_cells as far_cells_items, raise_items, cells_below as below_code, take_items, aside as aside_code, back as back_code, call_code, byte_given as byte_given_code, put_code, get_code, exit_with as exit_items, branch_items, compare_items, test_items, match_items};
 ghost use Rattle.rv32_select.specs.Ranges.{in_range, AllInRange, IsSource};
 
 use crate::code::{Code, add_immediate, held, is_short, lower, negated, target};
@@ -386,19 +386,33 @@ impl Code {
         self.instr(Instr::Ecall)
     }
 
+    /// Words that compare so go on to the label.
+    pub(crate) fn branch(
+        &mut self,
+        cond: Cond,
+        next: u32,
+        left: Source,
+        right: Source,
+    ) -> Result<(), AllocError>
+        requires { IsSource left × IsSource right }
+        ensures { OnOk result (self.new ≡ self.old ++ branch_items cond next left right) }
+    {
+        self.hold(Reg(5), left)?;
+        self.hold(Reg(6), right)?;
+        self.put(Item::Branch {
+            cond,
+            left: held(Reg(5), left),
+            right: held(Reg(6), right),
+            label: next,
+        })
+    }
+
     /// A word that compares so with this number goes on to the label.
     fn compare(&mut self, cond: Cond, next: u32, word: Source, n: u32) -> Result<(), AllocError>
         requires { IsSource word }
         ensures { OnOk result (self.new ≡ self.old ++ compare_items cond next word n) }
     {
-        self.hold(Reg(5), word)?;
-        self.hold(Reg(6), Source::Number(n))?;
-        self.put(Item::Branch {
-            cond,
-            left: held(Reg(5), word),
-            right: held(Reg(6), Source::Number(n)),
-            label: next,
-        })
+        self.branch(cond, next, word, Source::Number(n))
     }
 
     /// A word that isn't this number goes on to the label.

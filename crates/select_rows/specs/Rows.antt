@@ -62,6 +62,12 @@ mark = procedure [] 0
 abbrev pub other : Procedure
 other = procedure [] 1 (give (Num 63 ∷ []))
 
+-- writes whether a byte is less than a
+abbrev pub less : Procedure
+less = procedure [] 0
+    (get 0 (prim Lt 1 (Var 0) (Num 97)
+    (where_is 1 1 (put (Num 60) (give [])) (put (Num 62) (give [])))))
+
 -- makes a list of the numbers from 10 to 1 behind a list, adds them up, writes the sum, and a mark
 -- where it is 55
 abbrev pub main : Procedure

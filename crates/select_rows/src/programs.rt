@@ -3,10 +3,10 @@
 
 ghost use Rattle.std.specs.Prelude.{◌≡◌, ◌∷◌, [], IfOk};
 ghost use Rattle.low_code.specs.Tree.{procedure_of, program_of};
-ghost use Rattle.select_rows.specs.Rows.{echo as echo_tree, stuck as stuck_tree, takes as takes_tree, nests as nests_tree, mark as mark_tree, other as other_tree, program as program_tree};
+ghost use Rattle.select_rows.specs.Rows.{echo as echo_tree, stuck as stuck_tree, takes as takes_tree, nests as nests_tree, mark as mark_tree, other as other_tree, less as less_tree, program as program_tree};
 
 use crate::build::{block, call, give, join, procedure, program, tail, take, where_is};
-use low_code::{Low, LowEnd, LowProc, LowStmt, Operand};
+use low_code::{Low, LowEnd, LowProc, LowStmt, Operand, PrimOp};
 use seq::Seq;
 use std::alloc::{AllocError, Global};
 
@@ -95,4 +95,24 @@ pub fn marks(alloc: Global) -> Result<Low, AllocError>
         globals: Seq::new(alloc),
         width: 3,
     })
+}
+
+/// Writes whether a byte is less than a.
+pub fn less(alloc: Global) -> Result<Low, AllocError>
+    ensures { IfOk result (λ low. program_of low ≡ program_tree (less_tree ∷ [])) }
+{
+    let yes = block(
+        vec![in alloc; LowStmt::Put(Operand::Num(60))]?,
+        give(alloc, &[])?,
+    );
+    let no = block(
+        vec![in alloc; LowStmt::Put(Operand::Num(62))]?,
+        give(alloc, &[])?,
+    );
+    let stmts = vec![in alloc;
+        LowStmt::Get(0),
+        LowStmt::Prim(PrimOp::Lt, 1, Operand::Var(0), Operand::Num(97)),
+    ]?;
+    let body = block(stmts, where_is(alloc, 1, 1, yes, no)?);
+    program(alloc, procedure(alloc, &[], 0, body)?)
 }

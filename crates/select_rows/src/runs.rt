@@ -4,8 +4,8 @@ ghost use Rattle.std.specs.Prelude.{◌≤◌, ◌%◌, ◌≡◌};
 ghost use Rattle.low_code.specs.Tree.{program_of};
 ghost use Rattle.select_rows.specs.Rows.{IsRow};
 
-use crate::image::start;
-use crate::programs::{echo, marks, nests, stuck, takes};
+use crate::image::{start, words};
+use crate::programs::{echo, less, marks, nests, stuck, takes};
 use crate::sums::sums;
 use grin_io::{MemSink, MemSource};
 use low_code::Low;
@@ -82,6 +82,28 @@ fn frames_of_1024_bytes(rt: HostRuntime) -> Result<(), Fail> {
 fn bytes_are_marked(rt: HostRuntime) -> Result<(), Fail> {
     let low = marks(rt.alloc())?;
     exits(&rt, rt.alloc(), &low, SMALL, b"abba", 0, b"A??A")
+}
+
+/// A word of some.
+fn word_at(words: &Vec<u32>, at: usize) -> u32 {
+    if at < words.len() {
+        return words[at];
+    }
+    0
+}
+
+// Six words are the start's, four the call's and the exit's behind it, five the entry's and 22 those
+// for a byte. The comparison is two: x6 gets 97, and a register whose word isn't less goes on past
+// the 19 words for a byte that is put and the three of a return. As many follow, and nine for stops.
+#[test]
+fn a_comparison_is_one_branch(rt: HostRuntime) -> Result<(), Fail> {
+    let low = less(rt.alloc())?;
+    let words = words(rt.alloc(), &low, SMALL.cells, SMALL.stack)?;
+    assert_eq!(rt; words.len(), 92);
+    assert_eq!(rt; word_at(&words, 37), 0x06100313);
+    assert_eq!(rt; word_at(&words, 38) & 0xfff07fff, 0x04605e63);
+    exits(&rt, rt.alloc(), &low, SMALL, b"Z", 0, b"<")?;
+    exits(&rt, rt.alloc(), &low, SMALL, b"a", 0, b">")
 }
 
 #[test]

@@ -23,9 +23,9 @@ use Rattle.text_commands.specs.Printing.{IsCanonicalText, Prints}
 use Rattle.text_commands.specs.Linking.{IsLinkedText, IsNotLinked, Links}
 use Rattle.text_commands.specs.Lifting.{IsLiftedText, Lifts}
 use Rattle.text_commands.specs.Matching.{IsMatchedText, IsNotMatched, Matches}
-use Rattle.text_commands.specs.Typing.{IsTypedText, Types}
+use Rattle.text_commands.specs.Typing.{IsTypedText, Types, IsSidesText, BreaksAnother, HasSides, Sides}
 use Rattle.text_commands.proofs.Matched.{unmatched_broken}
-use Rattle.text_commands.proofs.TypesFit.{untyped_broken}
+use Rattle.text_commands.proofs.TypesFit.{untyped_broken, sided_broken}
 use Rattle.text_commands.proofs.Written.{writes_gives}
 
 -- ---- accepted texts are not refused
@@ -75,3 +75,7 @@ match_gives o well text status h = writes_gives IsMatchedText IsNotMatched o wel
 pub types_gives : {K : Type 0} (o : SinkChange K) → (Rose (o.faults o.old) (o.faults o.new) → ⊥) → (text : List ℕ) (status : Status) → Types o text status
     → (status ≡ OutOfMemory) ⊎ (typing.IsUnbrokenText text → status ≡ Done)
 types_gives o well text status h = writes_gives IsTypedText typing.IsFirstBrokenText o well text (λ k at u b. untyped_broken text k at u b) status h
+
+pub sides_gives : {K : Type 0} (o : SinkChange K) → (Rose (o.faults o.old) (o.faults o.new) → ⊥) → (text : List ℕ) (status : Status) → Sides o text status
+    → (status ≡ OutOfMemory) ⊎ (HasSides text → status ≡ Done)
+sides_gives o well text status h = writes_gives IsSidesText BreaksAnother o well text (λ k at u b. sided_broken text k at u b) status h

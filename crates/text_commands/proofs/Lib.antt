@@ -9,4 +9,5 @@ pub mod Linked
 pub mod Lifted
 pub mod Matched
 pub mod TypesFit
+pub mod Shallow
 pub mod Gives

@@ -1,8 +1,8 @@
 //! A text with types, checked and written as Core.
 
-ghost use Rattle.std.specs.Prelude.{ℕ, List};
-ghost use Rattle.core_types.specs.Refused.{IsCause, IsFirstBrokenText};
-ghost use Rattle.text_commands.specs.Typing.{IsTypedText};
+ghost use Rattle.std.specs.Prelude.{◌≡◌, ℕ, List, None};
+ghost use Rattle.core_types.specs.Refused.{IsCause, IsFirstBrokenText, mismatch_in};
+ghost use Rattle.text_commands.specs.Typing.{IsTypedText, BreaksAnother};
 ghost use Rattle.text_commands.specs.Writing.{IsUnwritten};
 
 use crate::status::Status;
@@ -37,9 +37,11 @@ impl Maker for Types {
 }
 
 /// The status for a text whose types don't fit, or that breaks another rule.
-fn untyped(fault: &TypeFault) -> Status
-    ensures { (text : List ℕ) → IsCause text fault.now
+pub(crate) fn untyped(fault: &TypeFault) -> Status
+    ensures first { (text : List ℕ) → IsCause text fault.now
         → IsUnwritten IsFirstBrokenText text result }
+    ensures another { mismatch_in fault.now ≡ None → (text : List ℕ) → IsCause text fault.now
+        → IsUnwritten BreaksAnother text result }
 {
     let rule = fault.rule();
     if rule == 0 {

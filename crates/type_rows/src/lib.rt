@@ -2,4 +2,6 @@
 #![tactic(auto)]
 
 #[cfg(test)]
+mod sides;
+#[cfg(test)]
 mod tests;

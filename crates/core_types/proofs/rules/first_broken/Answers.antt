@@ -1,7 +1,5 @@
 use Rattle.std.proofs.Common.{◌≡◌, ℕ, List, map, sym, ap, subst, ◌∙◌, Option, Some, None}
 use Rattle.std.specs.Prelude.{◌<◌, ◌^◌}
-use Rattle.std.specs.List.{find}
-use Rattle.core_reader.specs.declared.syntax.NameId.{NameId}
 use Rattle.core_reader.specs.Tree.{Function, Program, program, function}
 use Rattle.core_reader.specs.Size.{program_size}
 use Rattle.arity_check.specs.declared.order.Order.TheVariants.{Check}
@@ -13,17 +11,13 @@ use Rattle.arity_check.specs.Tables.{known}
 use Rattle.arity_check.specs.Whole.{known_of}
 use Rattle.core_types.specs.Source.{TypeDecl, Source, erased}
 use Rattle.core_types.specs.SourceOf.{source_of, type_of}
-use Rattle.core_types.specs.Lists.{is_list_by}
-use Rattle.core_types.specs.Found.{nil_in, cons_in, name_of, declared_first, partial_in_functions, IsFirstMismatch}
+use Rattle.core_types.specs.Found.{declared_first, partial_in_functions, IsFirstMismatch}
 use Rattle.core_types.specs.Refused.{IsFirstOf}
-use Rattle.core_types.proofs.Judged.{core_first, declared_is_first, list_is_first, mismatch_is_first, case_is_first, none_broken, named_integers}
+use Rattle.core_types.proofs.Judged.{list_in, list_is, core_first, declared_is_first, list_is_first, mismatch_is_first, case_is_first, none_broken, named_integers}
 use Rattle.core_types.proofs.rules.first_broken.Goals as goal
 
 abbrev first_in : Source → Option (ℕ × ℕ)
 first_in s = declared_first (known_of (erased s)) s.types s.signatures
-
-abbrev list_in : Source → Option NameId
-list_in s = name_of (find (is_list_by (nil_in (known_of (erased s))) (cons_in (known_of (erased s)))) s.types)
 
 -- what the first refusal of the program that was read says of that without types
 refused : (s : Source) (p : Program) (o o' : Option CheckRefusal) → p ≡ erased s → o ≡ o' → IsFirstRefusal (ranked Check) p o → IsFirstRefusal (ranked Check) (erased s) o'
@@ -31,9 +25,6 @@ refused s p o o' same e h = subst (λ q. IsFirstRefusal (ranked Check) q o') sam
 
 declared_is : (s : Source) (k : Known) (o o' : Option (ℕ × ℕ)) → k ≡ known_of (erased s) → o ≡ declared_first k s.types s.signatures → o ≡ o' → first_in s ≡ o'
 declared_is s k o o' e f g = ap (λ k. declared_first k s.types s.signatures) (sym e) ∙ sym f ∙ g
-
-list_is : (s : Source) (k : Known) (types : List TypeDecl) (o o' : Option NameId) → k ≡ known_of (erased s) → types ≡ s.types → o ≡ name_of (find (is_list_by (nil_in k) (cons_in k)) types) → o ≡ o' → list_in s ≡ o'
-list_is s k types o o' e f g h = (λ i. name_of (find (is_list_by (nil_in (sym e i)) (cons_in (sym e i))) (sym f i))) ∙ sym g ∙ h
 
 cases_are : (s : Source) (types : List TypeDecl) (functions : List Function) (o o' : Option ℕ) → types ≡ s.types → functions ≡ s.functions → o ≡ partial_in_functions types None functions → o ≡ o' → partial_in_functions s.types None s.functions ≡ o'
 cases_are s types functions o o' e f g h = (λ i. partial_in_functions (sym e i) None (sym f i)) ∙ sym g ∙ h

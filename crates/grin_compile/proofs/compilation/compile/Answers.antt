@@ -1,12 +1,12 @@
 use Rattle.std.proofs.lemmas.Result.{err_from_is_err_and}
-use Rattle.std.proofs.Common.{◌*◌, ap, ◌∙◌, subst, arith}
+use Rattle.std.proofs.Common.{◌*◌, ◌<◌, ◌≤◌, length, ap, sym, ◌∙◌, subst, arith}
 use Rattle.arity_check.specs.Program.{program}
 use Rattle.elf32.specs.File as elf
 use Rattle.elf32.specs.Rules.{Loads}
 use Rattle.low_code.specs.Tree as low
 use Rattle.grin_compile.specs.Limits.{whole_words}
 use Rattle.grin_compile.specs.Parts.{HasLayers}
-use Rattle.grin_compile.proofs.CompiledProgram.{compilation, made_by, narrow_cells, small_heap}
+use Rattle.grin_compile.proofs.CompiledProgram.{compilation, made_by, narrow_cells, small_heap, sizes_of, fits_layout}
 use Rattle.grin_compile.proofs.compilation.compile.Goals as goal
 
 pub returns-clause-parts : goal.returns-clause-parts
@@ -37,3 +37,14 @@ overflow_mul-heap-2 c =
     let layers = subst (λ g. HasLayers g c.args.options.cells (whole_words c.args.options.stack) c.in_ok-layers.layers) c.lowered_stage.ensures c.in_ok-layers.ensures in
     let narrow = narrow_cells (program c.args.p.now) c.in_ok-stages.stages c.in_ok-layers.layers c.args.options.cells (whole_words c.args.options.stack) c.in_ok-stages.ensures.stages layers in
     omega (arith, small_heap c.in_ok-layers.layers.low.width c.args.options.cells narrow c.requires.range.few_cells)
+
+pub write-requires : goal.write-requires
+write-requires c =
+    let cells = c.args.options.cells in
+    let stack = whole_words c.args.options.stack in
+    let layers = subst (λ g. HasLayers g cells stack c.in_ok-layers.layers) c.lowered_stage.ensures c.in_ok-layers.ensures in
+    let narrow = narrow_cells (program c.args.p.now) c.in_ok-stages.stages c.in_ok-layers.layers cells stack c.in_ok-stages.ensures.stages layers in
+    let same = sym c.as_slice.ensures.value in
+    fits_layout c.as_slice.result.now c.in_ok-layers.layers.low.width cells stack
+    (subst (λ words. 0 < length words) same layers.some_words) (subst (λ words. length words ≤ 268435456) same layers.few_words)
+    narrow (sizes_of cells c.args.options.stack c.requires.range)

@@ -1,9 +1,9 @@
 use Rattle.grin_meaning.proofs.Kept.{keeps_again}
-use Rattle.grin_opt.proofs.Several.{of_known_words}
+use Rattle.grin_opt.proofs.Several.{of_both}
 use Rattle.grin_opt.proofs.schedule.with_literals.Goals as goal
 
 pub returns-clause-shape : goal.returns-clause-shape
-returns-clause-shape c = of_known_words _ _ _ c.in_ok-known.ensures.shape c.in_ok-made.ensures.shape
+returns-clause-shape c = of_both _ _ _ c.in_ok-once.ensures.shape c.in_ok-made.ensures.shape
 
 pub returns-clause-meaning : goal.returns-clause-meaning
-returns-clause-meaning c = keeps_again _ _ _ c.in_ok-known.ensures.meaning c.in_ok-made.ensures.meaning
+returns-clause-meaning c = keeps_again _ _ _ c.in_ok-once.ensures.meaning c.in_ok-made.ensures.meaning

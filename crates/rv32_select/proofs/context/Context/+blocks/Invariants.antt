@@ -1,12 +1,12 @@
 use Rattle.std.proofs.Common.{◌+◌, ◌∷◌, drop, map}
-use Rattle.low_code.specs.Tree.{program_of, before_of, arm_of, all_before, arms_before}
-use Rattle.rv32_select.proofs.Emitted.{Towards, TowardsArms}
+use Rattle.low_code.specs.Tree.{program_of, end_of, arm_of, arms_before}
+use Rattle.rv32_select.proofs.Emitted.{Within, TowardsArms}
 use Rattle.rv32_select.proofs.Weight.{stmt_weight, end_weight, arm_weight, block_weight}
 use Rattle.rv32_select.proofs.context.Context.+blocks.Given as goal
 use Rattle.seq.specs.Lists.{sum_of}
 
 abbrev pub invariant-block-loop-stmt : goal.invariant-block-loop-stmt
-invariant-block-loop-stmt l = Towards (program_of l.self.low.now) l.self.places.now l.self.cells l.self.stack l.frame.words l.frame.saved (all_before (map before_of l.stmt-items)) (all_before (map before_of (drop l.stmt-index l.stmt-items))) l.initial.out.code l.initial.out.next l.out.code l.out.next
+invariant-block-loop-stmt l = Within (program_of l.self.low.now) l.self.places.now l.self.cells l.self.stack l.frame.words l.frame.saved l.stmt-items l.stmt-index l.left (end_of l.block.last) l.initial.out.code l.initial.out.next l.out.code l.out.next
 
 abbrev pub invariant-arms-loop-arm : goal.invariant-arms-loop-arm
 invariant-arms-loop-arm l = TowardsArms (program_of l.self.low.now) l.self.places.now l.self.cells l.self.stack l.frame.words l.frame.saved l.to l.way (arms_before (map arm_of l.arms)) (arms_before (map arm_of (drop l.arm-index l.arms))) l.initial.out.code l.initial.out.next l.out.code l.out.next
@@ -34,3 +34,15 @@ decreases-arms l = 1 + (sum_of (map arm_weight l.arms.now) + block_weight l.othe
 
 abbrev pub decreases-arm : goal.decreases-arm
 decreases-arm l = arm_weight l.arm.now
+
+abbrev pub decreases-decided : goal.decreases-decided
+decreases-decided l = end_weight l.end.now
+
+abbrev pub decreases-decided_arms : goal.decreases-decided_arms
+decreases-decided_arms l = 2 + (sum_of (map arm_weight (l.first.now ∷ l.others.now)) + block_weight l.otherwise.now)
+
+abbrev pub decreases-decided_first : goal.decreases-decided_first
+decreases-decided_first l = 1 + (sum_of (map arm_weight (l.first.now ∷ l.others.now)) + block_weight l.otherwise.now)
+
+abbrev pub decreases-decided_last : goal.decreases-decided_last
+decreases-decided_last l = 1 + (sum_of (map arm_weight (l.first.now ∷ l.others.now)) + block_weight l.otherwise.now)

@@ -1,4 +1,4 @@
-use Rattle.std.proofs.Common.{◌≡◌, ℕ, List, length, refl, sym, subst, ◌∙◌, Option, Some, None}
+use Rattle.std.proofs.Common.{◌≡◌, ℕ, List, length, sym, subst, Option}
 use Rattle.std.specs.Prelude.{MatchOption}
 use Rattle.unification.specs.declared.term.Term.{Term}
 use Rattle.unification.specs.Terms.{AreEarlier, AreBelow, equations}
@@ -7,16 +7,15 @@ use Rattle.core_types.specs.declared.building.Builder.{Builder}
 use Rattle.core_types.specs.Source.{Source}
 use Rattle.core_types.specs.SourceOf.{source_of}
 use Rattle.core_types.specs.Typing.{constraints}
-use Rattle.core_types.specs.Found.{IsFirstMismatch}
-use Rattle.core_types.proofs.Unsolved.{pairs_earlier, pairs_below, all_solved, one_unsolved}
-use Rattle.core_types.proofs.rules.mismatch.Goals as goal
+use Rattle.core_types.proofs.Unsolved.{pairs_earlier, pairs_below, first_in}
+use Rattle.core_types.proofs.mismatch.Unsolved.new.Goals as goal
 
 -- what unification answers for terms and pairs
 abbrev IsAnswer : List Term → List (ℕ × ℕ) → Option ℕ → Type 0
 IsAnswer ts ps o = MatchOption o ((σ : Substitution) × Solves σ (equations ts ps)) (IsFirstUnsolved (equations ts ps))
 
-answered : (ts ts' : List Term) (ps ps' : List (ℕ × ℕ)) (o o' : Option ℕ) → ts ≡ ts' → ps ≡ ps' → o ≡ o' → IsAnswer ts ps o → IsAnswer ts' ps' o'
-answered ts ts' ps ps' o o' e f g h = subst (IsAnswer ts' ps') g (subst (λ ts. IsAnswer ts ps' o) e (subst (λ ps. IsAnswer ts ps o) f h))
+answered : (ts ts' : List Term) (ps ps' : List (ℕ × ℕ)) (o : Option ℕ) → ts ≡ ts' → ps ≡ ps' → IsAnswer ts ps o → IsAnswer ts' ps' o
+answered ts ts' ps ps' o e f h = subst (λ ts. IsAnswer ts ps' o) e (subst (λ ps. IsAnswer ts ps o) f h)
 
 pub first_unsolved-requires-clause-earlier : goal.first_unsolved-requires-clause-earlier
 first_unsolved-requires-clause-earlier c =
@@ -33,18 +32,10 @@ first_unsolved-requires-clause-below c =
     subst (λ (ts : List Term). AreBelow (length ts) c.as_slice-pairs.result.now) (sym c.as_slice.ensures.value)
     (subst (AreBelow (length b.nodes.terms.items)) (sym c.as_slice-pairs.ensures.value) (pairs_below b (constraints s) h.1))
 
-pub returns-in-Some : goal.returns-in-Some
-returns-in-Some c =
-    let s : Source = source_of c.args.source.now in
-    let b : Builder = c.in_ok-builder.builder in
-    let h = c.in_ok-builder.ensures s c.in_ok-context.ensures in
-    let u = answered c.as_slice.result.now b.nodes.terms.items c.as_slice-pairs.result.now b.pairs.items c.in_ok-unsolved.unsolved (Some c.in-Some.number) c.as_slice.ensures.value c.as_slice-pairs.ensures.value c.in-Some.is c.in_ok-unsolved.ensures in
-    let r = one_unsolved b (constraints s) h.0 h.1 c.in-Some.number u in
-    subst (IsFirstMismatch s) (sym (c.place_of.ensures ∙ r.2)) (c.in-Some.number, r.0, r.1, refl)
-
 pub returns : goal.returns
 returns c =
     let s : Source = source_of c.args.source.now in
     let b : Builder = c.in_ok-builder.builder in
     let h = c.in_ok-builder.ensures s c.in_ok-context.ensures in
-    all_solved b (constraints s) h.0 h.1 (answered c.as_slice.result.now b.nodes.terms.items c.as_slice-pairs.result.now b.pairs.items c.in_ok-unsolved.unsolved None c.as_slice.ensures.value c.as_slice-pairs.ensures.value c.in-None.is c.in_ok-unsolved.ensures)
+    let u = answered c.as_slice.result.now b.nodes.terms.items c.as_slice-pairs.result.now b.pairs.items c.in_ok-number.number c.as_slice.ensures.value c.as_slice-pairs.ensures.value c.in_ok-number.ensures in
+    record { sound = h.0; stands = h.1; first = first_in b (constraints s) h.0 h.1 c.in_ok-number.number u }

@@ -5,7 +5,7 @@ use Rattle.core_types.specs.Source.{Source}
 use Rattle.core_types.specs.SourceOf.{source_of}
 use Rattle.core_types.specs.Refused.{IsJudged, IsFirstOf}
 use Rattle.core_types.proofs.Checked.{text_unbroken, core_unbroken, unread_caused, untyped_caused}
-use Rattle.core_types.proofs.typed.typed_or_place.Goals as goal
+use Rattle.core_types.proofs.accepted.typed_or_place.Goals as goal
 
 pub returns-in_err-source-clause-refused : goal.returns-in_err-source-clause-refused
 returns-in_err-source-clause-refused c =

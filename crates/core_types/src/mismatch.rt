@@ -1,0 +1,74 @@
+//! The first constraint of a program that has no solution with those before it.
+
+ghost use Rattle.std.specs.Prelude.{◌≡◌, slice_get, IfOk};
+ghost use Rattle.arity_check.specs.Tables.{known};
+ghost use Rattle.arity_check.specs.Whole.{known_of};
+ghost use Rattle.core_types.specs.Source.{erased};
+ghost use Rattle.core_types.specs.SourceOf.{source_of};
+ghost use Rattle.core_types.specs.Typing.{Int, Named, AndTyped, NoTypeds, integers};
+ghost use Rattle.core_types.specs.Building.{IsUnsolvedOf};
+ghost use Rattle.core_types.specs.Found.{IsFirstMismatch};
+
+use crate::building::Builder;
+use crate::context::Context;
+use crate::functions::constrained;
+use crate::source::Source;
+use arity_check::globals::Globals;
+use core_reader::NameId;
+use std::alloc::{AllocError, Global};
+use unification::first_unsolved;
+
+/// The constraints of a program, with the number of the first that has no solution with those
+/// before it.
+#[derive(Drop)]
+pub struct Unsolved {
+    pub builder: Builder,
+    pub number: Option<usize>,
+}
+
+impl Unsolved {
+    /// The first constraint of a program that has no solution with those before it. Lists are of
+    /// the type of this name.
+    pub fn new(
+        alloc: Global,
+        globals: &Globals,
+        source: &Source,
+        lists: NameId,
+    ) -> Result<Unsolved, AllocError>
+        requires tables { known globals.now ≡ known_of (erased (source_of source.now)) }
+        requires lists { integers (source_of source.now) ≡ Named lists.0 (AndTyped Int NoTypeds) }
+        ensures { IfOk result (IsUnsolvedOf (source_of source.now)) }
+    {
+        let context = Context::new(alloc, source, globals, lists)?;
+        let builder = constrained(alloc, &context)?;
+        let pairs = builder.pairs.as_slice();
+        let number = first_unsolved(alloc, builder.nodes.terms.as_slice(), pairs)?;
+        Ok(Unsolved { builder, number })
+    }
+}
+
+/// The place of the constraint of this number.
+fn place_of(builder: &Builder, number: usize) -> Option<u32>
+    ensures { result ≡ slice_get builder.now.places.items number }
+{
+    builder.places.as_slice().get(number).copied()
+}
+
+/// The place of the first constraint of a program that has no solution with those before it. Lists
+/// are of the type of this name.
+pub fn mismatch(
+    alloc: Global,
+    globals: &Globals,
+    source: &Source,
+    lists: NameId,
+) -> Result<Option<u32>, AllocError>
+    requires tables { known globals.now ≡ known_of (erased (source_of source.now)) }
+    requires lists { integers (source_of source.now) ≡ Named lists.0 (AndTyped Int NoTypeds) }
+    ensures { IfOk result (IsFirstMismatch (source_of source.now)) }
+{
+    let unsolved = Unsolved::new(alloc, globals, source, lists)?;
+    match unsolved.number {
+        Some(number) => Ok(place_of(&unsolved.builder, number)),
+        None => Ok(None),
+    }
+}

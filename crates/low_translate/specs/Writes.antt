@@ -1,0 +1,43 @@
+-- How many words of its cells a program writes: those that lie past them are zeros for ever.
+use Rattle.std.specs.Prelude.{ℕ, ◌+◌, ◌-◌, max, min, List, [], ◌∷◌, length}
+use Rattle.grin_syntax.specs.declared.program.Val as V
+use Rattle.grin_syntax.specs.declared.program.Val.TheVariants as val
+use Rattle.grin_syntax.specs.declared.program.Cell as C
+use Rattle.grin_syntax.specs.Tree.{Code, end, store, bind, Act, update, case, nested, Arms, no_arm, arm, Procedure, Program}
+use Rattle.grin_meaning.specs.Ready.{most_fields}
+
+-- how many words a value has behind the first one
+abbrev pub fields_in : V.Val → ℕ
+fields_in (val.NodeVar x) = 0
+fields_in (val.Node t ws) = length ws
+fields_in (val.Vector ws) = length ws - 1
+fields_in (val.One w) = 0
+
+-- the most fields that stores and updates write
+abbrev pub cells_write : List C.Cell → ℕ
+cells_write [] = 0
+cells_write (c ∷ cs) = max (fields_in c.val) (cells_write cs)
+
+unfoldable mutual
+  pub act_writes : Act → ℕ
+  act_writes (update w v) = fields_in v
+  act_writes (case v as') = arms_write as'
+  act_writes (nested b) = code_writes b
+  act_writes _ = 0
+
+  pub code_writes : Code → ℕ
+  code_writes (end o) = act_writes o
+  code_writes (store cs b) = max (cells_write cs) (code_writes b)
+  code_writes (bind t o b) = max (act_writes o) (code_writes b)
+
+  pub arms_write : Arms → ℕ
+  arms_write no_arm = 0
+  arms_write (arm s b as') = max (code_writes b) (arms_write as')
+
+abbrev pub procs_write : List Procedure → ℕ
+procs_write [] = 0
+procs_write (q ∷ qs) = max (code_writes q.body) (procs_write qs)
+
+-- the tag, and as many fields as are written and a tag has
+abbrev pub reach : Program → ℕ
+reach g = 1 + min (procs_write g.procs) (most_fields g.tags)

@@ -1,0 +1,9 @@
+pub mod Picks
+pub mod Tagged
+pub mod Same
+pub mod Well
+pub mod Shape
+pub mod Sizes
+pub mod PassContract
+pub mod Backward
+pub mod Loops

@@ -1,0 +1,10 @@
+//! A pass over programs of vectors: words of a vector that nobody reads go, from the target that
+//! takes it and from each unit that gives it.
+#![tactic(auto)]
+
+mod blocks;
+mod fit;
+mod pass;
+mod picked;
+
+pub use pass::{NarrowVectors, with_narrow_vectors};

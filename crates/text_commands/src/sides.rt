@@ -1,0 +1,64 @@
+//! The two sides of the types that do not fit in a text with types.
+
+ghost use Rattle.std.specs.Prelude.{◌≡◌, ◌++◌, ℕ, List, codes, IfOk, IfErr};
+ghost use Rattle.core_types.specs.Source.{Source};
+ghost use Rattle.core_types.specs.Text.{IsText};
+ghost use Rattle.core_types.specs.Refused.{IsRefusal};
+ghost use Rattle.core_types.specs.Sides.{type_of};
+ghost use Rattle.core_types.specs.Shown.{shown_sides};
+ghost use Rattle.text_commands.specs.Typing.{IsSidesText, BreaksAnother};
+ghost use Rattle.text_commands.specs.Writing.{IsUnwritten};
+
+use crate::status::Status;
+use crate::types::untyped;
+use crate::writing::Maker;
+use core_types::{Ty, TypeRefusal, read_source, shown_sides, typed};
+use std::alloc::{AllocError, Global};
+
+/// What makes the line of the two sides of the types that do not fit in a text, and nothing where
+/// the text breaks no rule.
+pub struct Sides;
+
+impl Maker for Sides {
+    ghost made = { λ _ text bytes. IsSidesText text bytes };
+
+    ghost refused = { λ _ text rule number. BreaksAnother text rule number };
+
+    fn make(&self, alloc: Global, text: &[u8]) -> Result<Vec<u8>, Status> {
+        match typed(alloc, text) {
+            Ok(_) => Ok(Vec::new(alloc)),
+            Err(refusal) => sided(alloc, text, &refusal),
+        }
+    }
+
+    fn refuses_long(&self) {}
+}
+
+/// The line of a text whose types do not fit, or the status for one that breaks another rule.
+fn sided(alloc: Global, text: &[u8], refusal: &TypeRefusal) -> Result<Vec<u8>, Status>
+    requires { IsRefusal text.now refusal.now }
+    ensures made { IfOk result (λ bytes. IsSidesText text.now bytes.items) }
+    ensures refused { IfErr result (IsUnwritten BreaksAnother text.now) }
+{
+    let (left, right) = match refusal {
+        TypeRefusal::Mismatch(_, left, right) => (left, right),
+        TypeRefusal::Fault(fault) => return Err(untyped(fault)),
+    };
+    match line(alloc, text, left, right) {
+        Ok(bytes) => Ok(bytes),
+        Err(_) => Err(Status::OutOfMemory),
+    }
+}
+
+/// The line of two sides, with the names of a text.
+fn line(alloc: Global, text: &[u8], left: &Ty, right: &Ty) -> Result<Vec<u8>, AllocError>
+    ensures { IfOk result (λ bytes. (s : Source) → IsText text.now s
+        → bytes.items ≡ shown_sides s.names (type_of left.now) (type_of right.now) ++ codes "\n") }
+{
+    let Ok(source) = read_source(alloc, text) else {
+        return Err(AllocError);
+    };
+    let mut bytes = shown_sides(alloc, source.core.names.texts(), left, right)?;
+    bytes.push(b'\n')?;
+    Ok(bytes)
+}
