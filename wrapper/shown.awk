@@ -19,9 +19,12 @@ END {
     line = before
     width = length(before)
     if (bytes && byte[bytes - 1] == 13) bytes--
-    for (i = 0; i < bytes; i += count) {
+    # Of a character that the line's cut goes through nothing is shown.
+    for (i = 0; before != "" && i < 3 && byte[i] >= 128 && byte[i] < 192; ) i++
+    for (; i < bytes; i += count) {
         if (i == mark) caret = width
         count = byte[i] == 9 ? 1 : length_at(i)
+        if (!count && behind != "" && byte[i] >= 194 && i + 3 >= bytes && byte[bytes - 1] >= 128) break
         if (byte[i] == 9) line = line " "
         else for (j = 0; j < count; j++) line = line sprintf("%c", byte[i + j])
         width += count ? 1 : 4

@@ -4,6 +4,8 @@
 #[cfg(test)]
 mod both;
 #[cfg(test)]
+mod listed;
+#[cfg(test)]
 mod solutions;
 #[cfg(test)]
 mod translations;

@@ -4,7 +4,7 @@ use Rattle.std.specs.List.{list_any}
 use Rattle.std.specs.Option.{option_map, option_and_then}
 use Rattle.std.specs.Str.{bytes_eq}
 use Rattle.std.proofs.lemmas.Slice.Eq.{bytes_eq-Decides}
-use Rattle.command_line.specs.Commands.{CommandLine, RunFile, BuildFile, GenRun, Given, Form, only, option_number, cells_of, stack_of, steps_of, run_form, list_form, build_form, exec_form, gen_form, file_form, of_operand, without_operand, seed_of, size_of}
+use Rattle.command_line.specs.Commands.{CommandLine, RunFile, BuildFile, ExecImage, GenRun, Given, Form, only, option_number, option_stands, cells_of, stack_of, steps_of, stats_of, run_form, list_form, build_form, exec_form, gen_form, file_form, of_operand, without_operand, seed_of, size_of}
 use Rattle.command_line.specs.Walk.{option_names}
 
 -- A form has no option but those that there are, and asks for nothing where there are two operands or one of its options has
@@ -24,6 +24,11 @@ number_two : (default least most : ℕ) (values : List (List ℕ)) → 2 ≤ len
 number_two default least most [] two = absurd (omega arith)
 number_two default least most (x ∷ []) two = absurd (omega arith)
 number_two default least most (x ∷ y ∷ rest) two = refl
+
+stands_two : (values : List (List ℕ)) → 2 ≤ length values → option_stands values ≡ None
+stands_two [] two = absurd (omega arith)
+stands_two (x ∷ []) two = absurd (omega arith)
+stands_two (x ∷ y ∷ rest) two = refl
 
 -- an option of a list is the first or one of the others
 first_or_other : (name first : List ℕ) (others : List (List ℕ)) → list_any (bytes_eq name) (first ∷ others) ≡ true
@@ -46,27 +51,39 @@ of_two asks operands two = rw (only_two operands two) refl
 of_none : (asks : List ℕ → Option CommandLine) (operands : List (List ℕ)) → ((operand : List ℕ) → asks operand ≡ None) → of_operand asks operands ≡ None
 of_none asks operands none = then_none (only operands) asks none
 
--- the numbers of `run` where one is none
-module _ (file : List ℕ) (cells stack steps : Option ℕ) where
+-- what is said to `run` where one of it is none
+module _ (file : List ℕ) (cells stack steps : Option ℕ) (stats : Option Bool) where
+  abbrev counted : (c s : ℕ) → Option CommandLine
+  counted c s = option_and_then (λ n. option_map (RunFile file c s n) stats) steps
+
   abbrev run_asks : Option CommandLine
-  run_asks = option_and_then (λ c. option_and_then (λ s. option_map (RunFile file c s) steps) stack) cells
+  run_asks = option_and_then (λ c. option_and_then (λ s. counted c s) stack) cells
 
   no_stack : stack ≡ None → run_asks ≡ None
-  no_stack none = then_none cells (λ c. option_and_then (λ s. option_map (RunFile file c s) steps) stack) (λ c. rw none refl)
+  no_stack none = then_none cells (λ c. option_and_then (λ s. counted c s) stack) (λ c. rw none refl)
+
+  not_counted : ((c s : ℕ) → counted c s ≡ None) → run_asks ≡ None
+  not_counted none =
+      then_none cells (λ c. option_and_then (λ s. counted c s) stack)
+      (λ c. then_none stack (λ s. counted c s) (λ s. none c s))
 
   no_steps : steps ≡ None → run_asks ≡ None
-  no_steps none =
-      then_none cells (λ c. option_and_then (λ s. option_map (RunFile file c s) steps) stack)
-      (λ c. then_none stack (λ s. option_map (RunFile file c s) steps) (λ s. rw none refl))
+  no_steps none = not_counted (λ c s. rw none refl)
+
+  no_stats : stats ≡ None → run_asks ≡ None
+  no_stats none = not_counted (λ c s. then_none steps (λ n. option_map (RunFile file c s n) stats) (λ n. rw none refl))
 
 run_once : (given : Given) (name : List ℕ) (operands : List (List ℕ)) → list_any (bytes_eq name) run_form.options ≡ true → 2 ≤ length (given name) → run_form.asks given operands ≡ None
-run_once given name operands is two = of_none _ operands (λ file. elim (first_or_other name (codes "heap") (codes "stack" ∷ codes "steps" ∷ []) is) [
+run_once given name operands is two = of_none _ operands (λ file. elim (first_or_other name (codes "heap") (codes "stack" ∷ codes "steps" ∷ codes "stats" ∷ []) is) [
   | inl heap ↦ rw (number_two 1000000 1 8000000 (given (codes "heap")) (rw heap at two)) refl
-  | inr other ↦ elim (first_or_other name (codes "stack") (codes "steps" ∷ []) other) [
-    | inl stack ↦ no_stack file (cells_of given) (stack_of given) (steps_of given) (number_two 1048576 1024 67108864 (given (codes "stack")) (rw stack at two))
-    | inr last ↦ elim (first_or_other name (codes "steps") [] last) [
-      | inl steps ↦ no_steps file (cells_of given) (stack_of given) (steps_of given) (number_two 1000000000 1 1000000000000 (given (codes "steps")) (rw steps at two))
-      | inr none ↦ absurd (cc none)
+  | inr other ↦ elim (first_or_other name (codes "stack") (codes "steps" ∷ codes "stats" ∷ []) other) [
+    | inl stack ↦ no_stack file (cells_of given) (stack_of given) (steps_of given) (stats_of given) (number_two 1048576 1024 67108864 (given (codes "stack")) (rw stack at two))
+    | inr third ↦ elim (first_or_other name (codes "steps") (codes "stats" ∷ []) third) [
+      | inl steps ↦ no_steps file (cells_of given) (stack_of given) (steps_of given) (stats_of given) (number_two 1000000000 1 1000000000000 (given (codes "steps")) (rw steps at two))
+      | inr last ↦ elim (first_or_other name (codes "stats") [] last) [
+        | inl stats ↦ no_stats file (cells_of given) (stack_of given) (steps_of given) (stats_of given) (stands_two (given (codes "stats")) (rw stats at two))
+        | inr none ↦ absurd (cc none)
+      ]
     ]
   ]
 ])
@@ -90,10 +107,17 @@ build_once given name operands is two = of_none _ operands (λ file. elim (first
   ]
 ])
 
+-- what is said to `exec` where the second is none
+executed_none : (image : List ℕ) (steps : Option ℕ) (stats : Option Bool) → stats ≡ None → option_and_then (λ n. option_map (ExecImage image n) stats) steps ≡ None
+executed_none image steps stats none = then_none steps (λ n. option_map (ExecImage image n) stats) (λ n. rw none refl)
+
 exec_once : (given : Given) (name : List ℕ) (operands : List (List ℕ)) → list_any (bytes_eq name) exec_form.options ≡ true → 2 ≤ length (given name) → exec_form.asks given operands ≡ None
-exec_once given name operands is two = of_none _ operands (λ image. elim (first_or_other name (codes "steps") [] is) [
+exec_once given name operands is two = of_none _ operands (λ image. elim (first_or_other name (codes "steps") (codes "stats" ∷ []) is) [
   | inl steps ↦ rw (number_two 1000000000 1 1000000000000 (given (codes "steps")) (rw steps at two)) refl
-  | inr none ↦ absurd (cc none)
+  | inr other ↦ elim (first_or_other name (codes "stats") [] other) [
+    | inl stats ↦ executed_none image (steps_of given) (stats_of given) (stands_two (given (codes "stats")) (rw stats at two))
+    | inr none ↦ absurd (cc none)
+  ]
 ])
 
 -- nothing is asked for of no operand

@@ -2,7 +2,7 @@
 use Rattle.std.proofs.Common.{◌≡◌, ℕ, Bool, true, false, List, [], ◌∷◌, ◌++◌, map, codes, Option, Some, None, if◌then◌else◌, refl, sym, ap, ◌∙◌, append_assoc, append-nil}
 use Rattle.std.specs.Option.{option_map, option_and_then}
 use Rattle.std.specs.Str.{bytes_eq}
-use Rattle.command_line.specs.Parts.{Part, Setting, Operand, Word, Plain, Joined, Named, End, Unknown, begins_with_dash, word_of, with_part, parts_of, parts_from_value}
+use Rattle.command_line.specs.Parts.{Part, Setting, Operand, Word, Plain, Joined, Flag, Named, End, Unknown, begins_with_dash, word_of, with_part, parts_of, parts_from_value}
 use Rattle.command_line.specs.Commands.{operands, takes_only, operands_alone, command_from}
 use Rattle.command_line.specs.Walk.{nothing_said, gathered, chosen}
 use Rattle.command_line.proofs.Walks.{parts_from}
@@ -49,6 +49,7 @@ files_from front [] = Some front
 files_from front (text ∷ words) = elim (word_of text) [
   | Plain operand ↦ files_from (front ++ (text ∷ [])) words
   | Joined name value ↦ None
+  | Flag name ↦ None
   | Named name ↦ None
   | End ↦ Some (front ++ words)
   | Unknown ↦ None
@@ -71,6 +72,7 @@ files_are (text ∷ words) front = by_word (word_of text) (word_is text) (λ mor
       → elim word [
         | Plain operand ↦ files_from (front ++ (text ∷ [])) words
         | Joined name value ↦ None
+        | Flag name ↦ None
         | Named name ↦ None
         | End ↦ Some (front ++ words)
         | Unknown ↦ None
@@ -82,6 +84,7 @@ files_are (text ∷ words) front = by_word (word_of text) (word_is text) (λ mor
       ∙ ap (option_map (λ texts. front ++ texts)) (sym (one_operand text (parts_of words)))
       ∙ ap (λ t. option_map (λ texts. front ++ texts) (option_and_then operands_alone (with_part (Operand t) (parts_of words)))) same
   by_word (Joined name value) is rest = ap (option_map (λ texts. front ++ texts)) (sym (no_setting name value (parts_of words)))
+  by_word (Flag name) is rest = ap (option_map (λ texts. front ++ texts)) (sym (no_setting name [] (parts_of words)))
   by_word (Named name) is rest = ap (option_map (λ texts. front ++ texts)) (sym (no_value name words))
   by_word End is rest = ap (option_map (λ texts. front ++ texts)) (sym (all_alone words))
   by_word Unknown is rest = refl

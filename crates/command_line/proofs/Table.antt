@@ -7,7 +7,7 @@ use Rattle.std.specs.Str.{bytes_eq}
 use Rattle.std.proofs.lemmas.Slice.Eq.{bytes_eq-Decides}
 use Rattle.std.proofs.lemmas.Bool.Decides.{nat_tests}
 use Rattle.command_line.specs.Parts.{Part, Setting, Operand}
-use Rattle.command_line.specs.Commands.{CommandLine, CheckFile, LiftFile, MatchFile, TypesFile, SidesFile, Form, operands, values, takes_only, run_form, check_form, list_form, build_form, exec_form, gen_form, lift_form, match_form, types_form, sides_form, by_name, asked}
+use Rattle.command_line.specs.Commands.{CommandLine, CheckFile, LiftFile, MatchFile, TypesFile, SidesFile, PointsFile, Form, operands, values, takes_only, run_form, check_form, list_form, build_form, exec_form, gen_form, lift_form, match_form, types_form, sides_form, points_form, by_name, asked}
 use Rattle.command_line.specs.Walk.{Said, nothing_said, option_names, value_of, sets_only, gathered, asked_said, chosen}
 use Rattle.command_line.proofs.Entries.{unset_value, unset_sets}
 use Rattle.command_line.proofs.Gathering.{Grown, Refused, TwoOperands, TwoValues, OneUnknown, gathers, and_false}
@@ -88,9 +88,10 @@ chosen_from name parts = by_result (gathered nothing_said parts) (gathers parts 
         ← refused_asks match_form (file_strict MatchFile) parts refused,
         ← refused_asks types_form (file_strict TypesFile) parts refused,
         ← refused_asks sides_form (file_strict SidesFile) parts refused,
+        ← refused_asks points_form (file_strict PointsFile) parts refused,
       ) (simp if_same)
   by_result (Some s) has =
-      rw (grown_asks run_form parts s has, grown_asks check_form parts s has, grown_asks list_form parts s has, grown_asks build_form parts s has, grown_asks exec_form parts s has, grown_asks gen_form parts s has, grown_asks lift_form parts s has, grown_asks match_form parts s has, grown_asks types_form parts s has, grown_asks sides_form parts s has) refl
+      rw (grown_asks run_form parts s has, grown_asks check_form parts s has, grown_asks list_form parts s has, grown_asks build_form parts s has, grown_asks exec_form parts s has, grown_asks gen_form parts s has, grown_asks lift_form parts s has, grown_asks match_form parts s has, grown_asks types_form parts s has, grown_asks sides_form parts s has, grown_asks points_form parts s has) refl
 
 -- The command of what is gathered is that of the parts.
 pub chosen_from_parts : (name : List ℕ) (parts : Option (List Part)) → option_and_then (chosen name) (option_and_then (gathered nothing_said) parts) ≡ option_and_then (λ parts. by_name (asked parts) name) parts

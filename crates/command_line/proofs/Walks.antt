@@ -2,7 +2,7 @@
 use Rattle.std.proofs.Common.{◌≡◌, ℕ, Bool, true, false, List, [], ◌∷◌, map, Option, Some, None, if◌then◌else◌, refl, sym, ◌∙◌}
 use Rattle.std.specs.Option.{option_map, option_and_then}
 use Rattle.command_line.specs.Parts as parts
-use Rattle.command_line.specs.Parts.{Part, Setting, Operand, Word, Plain, Joined, Named, End, Unknown, begins_with_dash, word_of, parts_of, parts_from_value}
+use Rattle.command_line.specs.Parts.{Part, Setting, Operand, Word, Plain, Joined, Flag, Named, End, Unknown, begins_with_dash, word_of, parts_of, parts_from_value}
 use Rattle.command_line.specs.Walk.{Said, with_setting, with_part, gathered, Next, Any, Value, Rest, Place, before, begun, walked}
 
 -- what is said at the end of a line
@@ -50,6 +50,7 @@ abbrev pub parts_from : Word → List (List ℕ) → Option (List Part)
 parts_from w words = elim w [
   | Plain operand ↦ parts.with_part (Operand operand) (parts_of words)
   | Joined name value ↦ parts.with_part (Setting name value) (parts_of words)
+  | Flag name ↦ parts.with_part (Setting name []) (parts_of words)
   | Named name ↦ parts_from_value name words
   | End ↦ Some (map Operand words)
   | Unknown ↦ None
@@ -61,6 +62,7 @@ mutual
   walk_gathers (text ∷ words) s = elim (word_of text) as (λ w. option_and_then (λ q. finished q words) (begun s w) ≡ option_and_then (gathered s) (parts_from w words)) [
     | Plain operand ↦ walk_after s (Operand operand) Any words (parts_of words) (λ t. walk_gathers words t)
     | Joined name value ↦ walk_after s (Setting name value) Any words (parts_of words) (λ t. walk_gathers words t)
+    | Flag name ↦ walk_after s (Setting name []) Any words (parts_of words) (λ t. walk_gathers words t)
     | Named name ↦ value_gathers words name s
     | End ↦ rest_gathers words s
     | Unknown ↦ refl

@@ -1,5 +1,5 @@
 -- The commands, and the one that the words of a command line stand for.
-use Rattle.std.specs.Prelude.{ℕ, ◌&&◌, ◌==◌, Bool, true, List, [], ◌∷◌, ◌++◌, length, map, codes, string_bytes, nat_le, Option, Some, None, if◌then◌else◌}
+use Rattle.std.specs.Prelude.{ℕ, ◌&&◌, ◌==◌, Bool, true, false, List, [], ◌∷◌, ◌++◌, length, map, codes, string_bytes, nat_le, Option, Some, None, if◌then◌else◌}
 use Rattle.std.specs.List.{list_any}
 use Rattle.std.specs.Option.{option_map, option_and_then}
 use Rattle.std.specs.Str.{bytes_eq}
@@ -9,21 +9,22 @@ use Rattle.command_line.specs.declared.command.Listing.{Listing}
 use Rattle.command_line.specs.declared.command.Listing.TheVariants.{Read, Translate, Eval, Apply, Vectorise, Simplify, Fetch, Copy, Update, Unbox, Raise, Flat, Known, Cells, Dead, Code}
 use Rattle.command_line.specs.declared.files.Files.{Files}
 use Rattle.command_line.specs.declared.command.Command.{Command}
-use Rattle.command_line.specs.declared.command.Command.TheVariants.{Run, Check, List as Listed, Build, Exec, Gen, Link, Lift, Match, Types, Sides}
+use Rattle.command_line.specs.declared.command.Command.TheVariants.{Run, Check, List as Listed, Build, Exec, Gen, Link, Lift, Match, Types, Sides, Points}
 
 -- what a command line asks for
 pub data CommandLine : Type 0 where
-  RunFile : (file : List ℕ) → (cells stack steps : ℕ) → CommandLine
+  RunFile : (file : List ℕ) → (cells stack steps : ℕ) → (stats : Bool) → CommandLine
   CheckFile : (file : List ℕ) → CommandLine
   ListFile : (file : List ℕ) → (after : Listing) → CommandLine
   BuildFile : (file : List ℕ) → (cells stack : ℕ) → CommandLine
-  ExecImage : (image : List ℕ) → (steps : ℕ) → CommandLine
+  ExecImage : (image : List ℕ) → (steps : ℕ) → (stats : Bool) → CommandLine
   GenRun : (seed size : ℕ) → CommandLine
   LinkFiles : (files : List (List ℕ)) → CommandLine
   LiftFile : (file : List ℕ) → CommandLine
   MatchFile : (file : List ℕ) → CommandLine
   TypesFile : (file : List ℕ) → CommandLine
   SidesFile : (file : List ℕ) → CommandLine
+  PointsFile : (file : List ℕ) → CommandLine
 
 -- the names of files, in their order
 abbrev pub names_of : Files → List (List ℕ)
@@ -31,17 +32,18 @@ names_of f = map string_bytes f.plain.now ++ map string_bytes f.rest.now
 
 -- what a command asks for
 abbrev pub asked_by : Command → CommandLine
-asked_by (Run file cells stack steps) = RunFile file.now cells stack steps
+asked_by (Run file cells stack steps stats) = RunFile file.now cells stack steps stats
 asked_by (Check file) = CheckFile file.now
 asked_by (Listed file after) = ListFile file.now after
 asked_by (Build file cells stack) = BuildFile file.now cells stack
-asked_by (Exec image steps) = ExecImage image.now steps
+asked_by (Exec image steps stats) = ExecImage image.now steps stats
 asked_by (Gen seed size) = GenRun seed size
 asked_by (Link files) = LinkFiles (names_of files)
 asked_by (Lift file) = LiftFile file.now
 asked_by (Match file) = MatchFile file.now
 asked_by (Types file) = TypesFile file.now
 asked_by (Sides file) = SidesFile file.now
+asked_by (Points file) = PointsFile file.now
 
 -- the passes that a listing can follow
 abbrev pub listing_of : List ℕ → Option Listing
@@ -100,6 +102,12 @@ option_number default least most [] = Some default
 option_number default least most (value ∷ []) = number_within least most value
 option_number default least most (value ∷ other ∷ rest) = None
 
+-- whether an option without a value stands, at most once
+abbrev pub option_stands : List (List ℕ) → Option Bool
+option_stands [] = Some false
+option_stands (value ∷ []) = Some true
+option_stands (value ∷ other ∷ rest) = None
+
 -- the values that are given to each option
 abbrev pub Given : Type 0
 Given = (option : List ℕ) → List (List ℕ)
@@ -115,6 +123,10 @@ stack_of given = option_number 1048576 1024 67108864 (given (codes "stack"))
 -- the number of instructions, by `--steps`
 abbrev pub steps_of : Given → Option ℕ
 steps_of given = option_number 1000000000 1 1000000000000 (given (codes "steps"))
+
+-- whether the cost is asked for, by `--stats`
+abbrev pub stats_of : Given → Option Bool
+stats_of given = option_stands (given (codes "stats"))
 
 -- the seed of a generated text, by `--seed`, which has to stand
 abbrev pub seed_of : Given → Option ℕ
@@ -139,12 +151,13 @@ abbrev pub without_operand : Option CommandLine → (operands : List (List ℕ))
 without_operand asked [] = asked
 without_operand asked (operand ∷ operands) = None
 
--- `run FILE`, with or without `--heap N`, `--stack N` and `--steps N`
+-- `run FILE`, with or without `--heap N`, `--stack N`, `--steps N` and `--stats`
 abbrev pub run_form : Form
 run_form = record {
-  options = codes "heap" ∷ codes "stack" ∷ codes "steps" ∷ [];
+  options = codes "heap" ∷ codes "stack" ∷ codes "steps" ∷ codes "stats" ∷ [];
   asks = λ given. of_operand (λ file. option_and_then (λ cells. option_and_then (λ stack.
-      option_map (RunFile file cells stack) (steps_of given)) (stack_of given)) (cells_of given));
+      option_and_then (λ steps. option_map (RunFile file cells stack steps) (stats_of given))
+      (steps_of given)) (stack_of given)) (cells_of given));
 }
 
 -- a form with a file and without options
@@ -173,11 +186,12 @@ build_form = record {
       option_map (BuildFile file cells) (stack_of given)) (cells_of given));
 }
 
--- `exec IMAGE`, with or without `--steps N`
+-- `exec IMAGE`, with or without `--steps N` and `--stats`
 abbrev pub exec_form : Form
 exec_form = record {
-  options = codes "steps" ∷ [];
-  asks = λ given. of_operand (λ image. option_map (ExecImage image) (steps_of given));
+  options = codes "steps" ∷ codes "stats" ∷ [];
+  asks = λ given. of_operand (λ image. option_and_then (λ steps.
+      option_map (ExecImage image steps) (stats_of given)) (steps_of given));
 }
 
 -- `gen --seed N --size N`
@@ -205,6 +219,10 @@ types_form = file_form TypesFile
 abbrev pub sides_form : Form
 sides_form = file_form SidesFile
 
+-- `points FILE`
+abbrev pub points_form : Form
+points_form = file_form PointsFile
+
 -- `link FILE..`, with 1 to 64 files
 abbrev pub link_form : Form
 link_form = record {
@@ -228,7 +246,8 @@ by_name ask name =
     else (if bytes_eq name (codes "match") then ask match_form
     else (if bytes_eq name (codes "types") then ask types_form
     else (if bytes_eq name (codes "sides") then ask sides_form
-    else None)))))))))
+    else (if bytes_eq name (codes "points") then ask points_form
+    else None))))))))))
 
 -- what parts with options of the form alone ask for
 abbrev pub asked : List Part → Form → Option CommandLine

@@ -1,9 +1,10 @@
 -- What the words behind a command say: options with their values, and operands.
-use Rattle.std.specs.Prelude.{ℕ, ◌==◌, Bool, true, false, nat_lt, List, [], ◌∷◌, length, map, Option, Some, None, if◌then◌else◌}
+use Rattle.std.specs.Prelude.{ℕ, ◌==◌, Bool, true, false, nat_lt, List, [], ◌∷◌, length, map, codes, Option, Some, None, if◌then◌else◌}
 use Rattle.std.specs.List.{position_or_len, before_first, after_first}
 use Rattle.std.specs.Option.{option_map}
+use Rattle.std.specs.Str.{bytes_eq}
 
--- an option with its value, or an operand
+-- an option with its value, which is empty where it takes none, or an operand
 pub data Part : Type 0 where
   Setting : (name value : List ℕ) → Part
   Operand : (text : List ℕ) → Part
@@ -14,6 +15,8 @@ pub data Word : Type 0 where
   Plain : (text : List ℕ) → Word
   -- `--name=value`
   Joined : (name value : List ℕ) → Word
+  -- `--name`, of an option that takes no value
+  Flag : (name : List ℕ) → Word
   -- `--name`, whose value is the next word
   Named : (name : List ℕ) → Word
   -- `--`, behind which every word is an operand
@@ -34,13 +37,25 @@ abbrev pub begins_with_dash : List ℕ → Bool
 begins_with_dash [] = false
 begins_with_dash (b ∷ bs) = is_dash b
 
+-- the options that take no value
+abbrev pub is_flag : List ℕ → Bool
+is_flag name = bytes_eq name (codes "stats")
+
+-- an option with a value in the same word
+abbrev pub joined : (name value : List ℕ) → Word
+joined name value = if is_flag name then Unknown else Joined name value
+
+-- an option without one in its word
+abbrev pub named : (name : List ℕ) → Word
+named name = if is_flag name then Flag name else Named name
+
 -- the word that is two dashes and then this text; a name ends at the first `=`
 abbrev pub option_of : List ℕ → Word
 option_of [] = End
 option_of (b ∷ bs) =
     if nat_lt (position_or_len is_equals (b ∷ bs)) (length (b ∷ bs))
-    then Joined (before_first is_equals (b ∷ bs)) (after_first is_equals (b ∷ bs))
-    else Named (b ∷ bs)
+    then joined (before_first is_equals (b ∷ bs)) (after_first is_equals (b ∷ bs))
+    else named (b ∷ bs)
 
 -- what a word is
 abbrev pub word_of : List ℕ → Word
@@ -60,6 +75,7 @@ abbrev mutual
   parts_of (text ∷ words) = elim (word_of text) [
     | Plain operand ↦ with_part (Operand operand) (parts_of words)
     | Joined name value ↦ with_part (Setting name value) (parts_of words)
+    | Flag name ↦ with_part (Setting name []) (parts_of words)
     | Named name ↦ parts_from_value name words
     | End ↦ Some (map Operand words)
     | Unknown ↦ None

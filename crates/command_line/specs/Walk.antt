@@ -4,7 +4,7 @@ use Rattle.std.specs.Prelude.{ℕ, ◌&&◌, ◌||◌, Bool, true, List, [], ◌
 use Rattle.std.specs.List.{list_any}
 use Rattle.std.specs.Option.{option_map, option_and_then, option_copied}
 use Rattle.std.specs.Str.{bytes_eq}
-use Rattle.command_line.specs.Parts.{Part, Setting, Operand, Word, Plain, Joined, Named, End, Unknown, begins_with_dash, word_of}
+use Rattle.command_line.specs.Parts.{Part, Setting, Operand, Word, Plain, Joined, Flag, Named, End, Unknown, begins_with_dash, word_of}
 use Rattle.command_line.specs.Commands.{CommandLine, Form, by_name}
 use Rattle.command_line.specs.declared.word.Word as code
 use Rattle.command_line.specs.declared.word.Word.TheVariants as word
@@ -17,6 +17,7 @@ use Rattle.command_line.specs.declared.arguments.Expected.TheVariants as expects
 abbrev pub word_seen : code.Word → Word
 word_seen (word.Plain text) = Plain text.now
 word_seen (word.Joined name value) = Joined name.now value.now
+word_seen (word.Flag name) = Flag name.now
 word_seen (word.Named name) = Named name.now
 word_seen word.End = End
 word_seen word.Unknown = Unknown
@@ -38,7 +39,8 @@ unset name = record { name = name; value = None }
 -- the options of all commands
 abbrev pub option_names : List (List ℕ)
 option_names =
-    codes "after" ∷ codes "heap" ∷ codes "stack" ∷ codes "steps" ∷ codes "seed" ∷ codes "size" ∷ []
+    codes "after" ∷ codes "heap" ∷ codes "stack" ∷ codes "steps" ∷ codes "seed" ∷ codes "size"
+    ∷ codes "stats" ∷ []
 
 abbrev pub nothing_said : Said
 nothing_said = record { operand = None; entries = map unset option_names }
@@ -52,6 +54,7 @@ said a = record {
       ∷ record { name = codes "steps"; value = option_copied a.steps }
       ∷ record { name = codes "seed"; value = option_copied a.seed }
       ∷ record { name = codes "size"; value = option_copied a.size }
+      ∷ record { name = codes "stats"; value = option_copied a.stats }
       ∷ [];
 }
 
@@ -114,6 +117,7 @@ before next s = record { arguments = s; next = next }
 abbrev pub begun : Said → Word → Option Place
 begun s (Plain text) = option_map (before Any) (with_operand s text)
 begun s (Joined name value) = option_map (before Any) (with_setting s name value)
+begun s (Flag name) = option_map (before Any) (with_setting s name [])
 begun s (Named name) = Some (before (Value name) s)
 begun s End = Some (before Rest s)
 begun s Unknown = None

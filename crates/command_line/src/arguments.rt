@@ -23,6 +23,8 @@ pub(crate) struct Arguments<'a> {
     pub(crate) seed: Option<&'a str>,
     /// The value of `--size`.
     pub(crate) size: Option<&'a str>,
+    /// The value of `--stats`, which takes none.
+    pub(crate) stats: Option<&'a str>,
 }
 
 impl<'a> Arguments<'a> {
@@ -41,6 +43,7 @@ impl<'a> Arguments<'a> {
                 steps: None,
                 seed: None,
                 size: None,
+                stats: None,
             },
             expected: Expected::Any,
         };
@@ -93,6 +96,10 @@ impl<'a> Arguments<'a> {
             }),
             "size" if self.size.is_none() => Some(Arguments {
                 size: Some(value),
+                ..self
+            }),
+            "stats" if self.stats.is_none() => Some(Arguments {
+                stats: Some(value),
                 ..self
             }),
             _ => None,
@@ -154,6 +161,10 @@ impl<'a> Walk<'a> {
             }),
             Word::Joined { name, value } => Some(Walk {
                 arguments: arguments.with_setting(name, value)?,
+                expected: Expected::Any,
+            }),
+            Word::Flag(name) => Some(Walk {
+                arguments: arguments.with_setting(name, "")?,
                 expected: Expected::Any,
             }),
             Word::Named(name) => Some(Walk {

@@ -2,7 +2,7 @@
 
 ghost use Rattle.std.specs.Prelude.{◌≡◌, ℕ, List, map, string_bytes};
 ghost use Rattle.std.specs.Option.{option_map, option_and_then};
-ghost use Rattle.command_line.specs.Commands.{asked_by, asked, command_from, listing_of, run_form, check_form, list_form, build_form, exec_form, gen_form, file_form, lift_form, match_form, types_form, sides_form, link_form, CommandLine};
+ghost use Rattle.command_line.specs.Commands.{asked_by, asked, command_from, listing_of, run_form, check_form, list_form, build_form, exec_form, gen_form, file_form, lift_form, match_form, types_form, sides_form, points_form, link_form, CommandLine};
 ghost use Rattle.command_line.specs.Parts.{parts_of};
 ghost use Rattle.command_line.specs.Walk.{said, asked_said, chosen};
 
@@ -50,14 +50,15 @@ pub enum Listing {
 /// A command. Its file or its image is the operand as it stands in the line.
 #[derive(Clone, Copy, Debug, PartialEq, Eq)]
 pub enum Command<'a> {
-    /// `run FILE --heap N --stack N --steps N`: compile the file and run it with a heap of so many
-    /// cells and a stack of so many bytes, for at most so many instructions. The stack is as the
-    /// line says, a multiple of four or not.
+    /// `run FILE --heap N --stack N --steps N --stats`: compile the file and run it with a heap of
+    /// so many cells and a stack of so many bytes, for at most so many instructions, and say what
+    /// it cost. The stack is as the line says, a multiple of four or not.
     Run {
         file: &'a str,
         cells: u32,
         stack: u32,
         steps: u64,
+        stats: bool,
     },
     /// `check FILE`: say whether the file breaks a rule.
     Check {
@@ -75,10 +76,12 @@ pub enum Command<'a> {
         cells: u32,
         stack: u32,
     },
-    /// `exec IMAGE --steps N`: run an executable for at most so many instructions.
+    /// `exec IMAGE --steps N --stats`: run an executable for at most so many instructions, and say
+    /// what it cost.
     Exec {
         image: &'a str,
         steps: u64,
+        stats: bool,
     },
     /// `gen --seed N --size N`: compile and run the text that is generated from the seed in so many
     /// rounds.
@@ -104,6 +107,10 @@ pub enum Command<'a> {
     },
     /// `sides FILE`: write the two sides of the types that do not fit in a text with types.
     Sides {
+        file: &'a str,
+    },
+    /// `points FILE`: write what the analysis finds of the translation of the file.
+    Points {
         file: &'a str,
     },
 }
@@ -166,6 +173,7 @@ impl<'a> Command<'a> {
             "match" => Command::equations(arguments),
             "types" => Command::types(arguments),
             "sides" => Command::sides(arguments),
+            "points" => Command::points(arguments),
             _ => None,
         }
     }
@@ -182,6 +190,7 @@ impl<'a> Command<'a> {
             steps,
             seed: None,
             size: None,
+            stats,
         } = arguments
         else {
             return None;
@@ -191,6 +200,7 @@ impl<'a> Command<'a> {
             cells: CELLS.read_u32(heap)?,
             stack: STACK.read_u32(stack)?,
             steps: STEPS.read(steps)?,
+            stats: stats.is_some(),
         })
     }
 
@@ -207,6 +217,7 @@ impl<'a> Command<'a> {
             steps: None,
             seed: None,
             size: None,
+            stats: None,
         } = arguments
         else {
             return None;
@@ -254,6 +265,14 @@ impl<'a> Command<'a> {
         Some(Command::Sides { file })
     }
 
+    /// `points` with its arguments.
+    fn points(arguments: Arguments<'a>) -> Option<Command<'a>>
+        ensures { option_map asked_by result ≡ asked_said (said arguments.entry) points_form }
+    {
+        let file = Command::file_alone(arguments)?;
+        Some(Command::Points { file })
+    }
+
     /// `list` with its arguments.
     fn list(arguments: Arguments<'a>) -> Option<Command<'a>>
         ensures { option_map asked_by result ≡ asked_said (said arguments.entry) list_form }
@@ -266,6 +285,7 @@ impl<'a> Command<'a> {
             steps: None,
             seed: None,
             size: None,
+            stats: None,
         } = arguments
         else {
             return None;
@@ -288,6 +308,7 @@ impl<'a> Command<'a> {
             steps: None,
             seed: None,
             size: None,
+            stats: None,
         } = arguments
         else {
             return None;
@@ -309,6 +330,7 @@ impl<'a> Command<'a> {
             steps,
             seed: None,
             size: None,
+            stats,
         } = arguments
         else {
             return None;
@@ -316,6 +338,7 @@ impl<'a> Command<'a> {
         Some(Command::Exec {
             image,
             steps: STEPS.read(steps)?,
+            stats: stats.is_some(),
         })
     }
 
@@ -331,6 +354,7 @@ impl<'a> Command<'a> {
             steps: None,
             seed: Some(seed),
             size: Some(size),
+            stats: None,
         } = arguments
         else {
             return None;

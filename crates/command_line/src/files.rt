@@ -32,7 +32,10 @@ impl<'a> Files<'a> {
                         rest: &words[count + 1..],
                     });
                 }
-                Word::Joined { name: _, value: _ } | Word::Named(_) | Word::Unknown => return None,
+                Word::Joined { name: _, value: _ }
+                | Word::Flag(_)
+                | Word::Named(_)
+                | Word::Unknown => return None,
             }
         }
         Some(Files {

@@ -1,7 +1,7 @@
 //! The words of a command line, one by one.
 
 ghost use Rattle.std.specs.Prelude.{◌≡◌};
-ghost use Rattle.command_line.specs.Parts.{word_of};
+ghost use Rattle.command_line.specs.Parts.{word_of, joined, named, is_flag};
 ghost use Rattle.command_line.specs.Walk.{word_seen};
 
 /// What a word is while no `--` stands before it.
@@ -11,6 +11,8 @@ pub(crate) enum Word<'a> {
     Plain(&'a str),
     /// `--name=value`.
     Joined { name: &'a str, value: &'a str },
+    /// `--name`, of an option that takes no value.
+    Flag(&'a str),
     /// `--name`, whose value is the next word.
     Named(&'a str),
     /// `--`, after which every word is an operand.
@@ -37,8 +39,37 @@ impl<'a> Word<'a> {
             return Word::End;
         }
         match option.split_once('=') {
-            Some((name, value)) => Word::Joined { name, value },
-            None => Word::Named(option),
+            Some((name, value)) => Word::joined(name, value),
+            None => Word::named(option),
         }
     }
+
+    /// An option with a value in the same word.
+    fn joined(name: &'a str, value: &'a str) -> Word<'a>
+        ensures { word_seen result ≡ joined name.now value.now }
+    {
+        if is_flag(name) {
+            Word::Unknown
+        } else {
+            Word::Joined { name, value }
+        }
+    }
+
+    /// An option without one in its word.
+    fn named(name: &'a str) -> Word<'a>
+        ensures { word_seen result ≡ named name.now }
+    {
+        if is_flag(name) {
+            Word::Flag(name)
+        } else {
+            Word::Named(name)
+        }
+    }
+}
+
+/// Whether an option takes no value.
+fn is_flag(name: &str) -> bool
+    ensures { result ≡ is_flag name.now }
+{
+    name == "stats"
 }

@@ -1,6 +1,6 @@
 //! Texts whose images are put, and whose code is listed.
 
-use crate::outside::{Ended, LISTS, Object, Outside};
+use crate::outside::{LISTS, Object, Outside};
 use rv32_isa::{decode, show};
 use std::alloc::{AllocError, Global};
 use std::test::Fail;
@@ -12,14 +12,15 @@ const GREETS: &str = "data Nil 0; data Cons 2; main = Cons 72 (Cons 105 Nil);";
 /// The words that build an image with the default heap and stack.
 const BUILD: [&str; 3] = ["grinc", "build", "a"];
 
-/// What these words answer where the file holds this text.
-fn built(alloc: Global, text: &str, words: &[&str]) -> Result<Ended, AllocError> {
-    Outside::of(text.as_bytes()).run(alloc, words)
-}
-
-/// What `exec` of an image answers.
-fn executed(alloc: Global, image: &[u8]) -> Result<Ended, AllocError> {
-    Outside::of(image).run(alloc, &["grinc", "exec", "a"])
+/// What these words put out where the file holds this text and the status of the process is 0; else
+/// nothing.
+fn put_out(alloc: Global, text: &str, words: &[&str]) -> Result<Vec<u8>, AllocError> {
+    let ended = Outside::of(text.as_bytes()).run(alloc, words)?;
+    if ended.is_done() {
+        Vec::from_slice(alloc, ended.bytes())
+    } else {
+        Ok(Vec::new(alloc))
+    }
 }
 
 #[test]
@@ -39,10 +40,11 @@ fn images_that_are_executed(rt: HostRuntime) -> Result<(), Fail> {
     ];
     for (text, words, code, out, err) in rows {
         let text = format!(in rt.alloc(); "{LISTS}{text}")?;
-        let image = built(rt.alloc(), text.as_str(), words)?;
-        assert!(rt; image.is_done(), "{text}");
-        let shown = executed(rt.alloc(), image.bytes())?;
-        assert!(rt; shown.is(code, out, err), "{text}");
+        let image = put_out(rt.alloc(), text.as_str(), words)?;
+        // No image of no bytes is executed.
+        let exec = ["grinc", "exec", "a"];
+        let is_so = Outside::of(&image).answers(rt.alloc(), &exec, code, out, err)?;
+        assert!(rt; is_so, "{text}");
     }
     Ok(())
 }
@@ -50,7 +52,7 @@ fn images_that_are_executed(rt: HostRuntime) -> Result<(), Fail> {
 #[test]
 fn parts_of_an_image(rt: HostRuntime) -> Result<(), Fail> {
     let words = ["grinc", "build", "a", "--heap", "7", "--stack", "1027"];
-    let image = built(rt.alloc(), GREETS, &words)?;
+    let image = put_out(rt.alloc(), GREETS, &words)?;
     // The second and the third program header: a heap of 7 cells of three words each, and the stack
     // rounded down to whole words, which ends at 0x78000000.
     let rows: [(usize, &[u8]); 6] = [
@@ -62,7 +64,7 @@ fn parts_of_an_image(rt: HostRuntime) -> Result<(), Fail> {
         (136, &[0, 4, 0, 0, 6, 0, 0, 0]),
     ];
     for (at, bytes) in rows {
-        let part = image.bytes().get(at..).ok_or("a short image")?;
+        let part = image.get(at..).ok_or("a short image")?;
         assert!(rt; part.starts_with(bytes), "{at}");
     }
     // Each put takes 4,096 bytes or what is left.
@@ -72,9 +74,9 @@ fn parts_of_an_image(rt: HostRuntime) -> Result<(), Fail> {
             input: b"",
             failing: Some((Object::Out, call)),
         };
-        let shown = outside.run(rt.alloc(), &words)?;
-        let front = image.bytes().get(..bytes).ok_or("a short image")?;
-        assert!(rt; shown.is_bytes(10, front, "grinc: write fault\n"), "{call}");
+        let front = image.get(..bytes).ok_or("a short image")?;
+        let is_so = outside.answers_bytes(rt.alloc(), &words, 10, front, "grinc: write fault\n")?;
+        assert!(rt; is_so, "{call}");
     }
     Ok(())
 }
@@ -104,13 +106,11 @@ fn line_of(alloc: Global, address: u32, bytes: &[u8]) -> Result<Vec<u8>, Fail> {
 #[test]
 fn code_of_the_default_image(rt: HostRuntime) -> Result<(), Fail> {
     for (text, first) in [(GREETS, FIRST_LINES), (QUEENS, "")] {
-        let image = built(rt.alloc(), text, &BUILD)?;
-        let words = ["grinc", "list", "a", "--after", "code"];
-        let listing = Outside::of(text.as_bytes()).run(rt.alloc(), &words)?;
-        assert!(rt; listing.is_done());
-        assert!(rt; listing.bytes().starts_with(first.as_bytes()));
-        let mut lines = listing.bytes().split(|byte| *byte == b'\n');
-        let code = image.bytes().get(4096..).ok_or("an image without code")?;
+        let image = put_out(rt.alloc(), text, &BUILD)?;
+        let listing = put_out(rt.alloc(), text, &["grinc", "list", "a", "--after", "code"])?;
+        assert!(rt; listing.starts_with(first.as_bytes()));
+        let mut lines = listing.split(|byte| *byte == b'\n');
+        let code = image.get(4096..).ok_or("an image without code")?;
         let mut address: u32 = 0x0001_0000;
         for word in code.chunks(4) {
             let line = line_of(rt.alloc(), address, word)?;

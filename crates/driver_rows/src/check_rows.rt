@@ -1,34 +1,10 @@
 //! Texts that are checked: the line of those that are accepted, and the refusals of the others.
 
-use crate::outside::{Ended, LISTS, Outside};
-use std::alloc::{AllocError, Global};
+use crate::outside::{LISTS, Outside, nested, program_answers};
 use std::test::Fail;
 
-/// What `check` of a text answers.
-fn checked(alloc: Global, text: &[u8]) -> Result<Ended, AllocError> {
-    Outside::of(text).run(alloc, &["grinc", "check", "a"])
-}
-
-/// A text whose `main` has a body behind so many opening words, and as many closing ones behind it.
-fn nested(
-    alloc: Global,
-    times: usize,
-    open: &str,
-    body: &str,
-    close: &str,
-) -> Result<String, AllocError> {
-    let mut text = String::from_str(alloc, LISTS)?;
-    text.push_str("main = ")?;
-    for _ in 0..times {
-        text.push_str(open)?;
-    }
-    text.push_str(body)?;
-    for _ in 0..times {
-        text.push_str(close)?;
-    }
-    text.push_str(";")?;
-    Ok(text)
-}
+/// The words that check the file.
+const CHECK: [&str; 3] = ["grinc", "check", "a"];
 
 #[test]
 fn refused_texts(rt: HostRuntime) -> Result<(), Fail> {
@@ -54,8 +30,8 @@ fn refused_texts(rt: HostRuntime) -> Result<(), Fail> {
         (&spaces, "grinc: refused 5 at 1048576\n"),
     ];
     for (text, err) in rows {
-        let shown = checked(rt.alloc(), text)?;
-        assert!(rt; shown.is(1, "", err), "{err}");
+        let is_refused = Outside::of(text).answers(rt.alloc(), &CHECK, 1, "", err)?;
+        assert!(rt; is_refused, "{err}");
     }
     Ok(())
 }
@@ -86,9 +62,10 @@ fn deepest_texts(rt: HostRuntime) -> Result<(), Fail> {
         (201, binding, "a", "", 1, "", "grinc: refused 4 at 2632\n"),
     ];
     for (times, open, body, close, code, out, err) in rows {
-        let text = nested(rt.alloc(), times, open, body, close)?;
-        let shown = checked(rt.alloc(), text.as_bytes())?;
-        assert!(rt; shown.is(code, out, err), "{times} {open}");
+        let text = nested(rt.alloc(), LISTS, times, open, body, close)?;
+        let outside = Outside::of(text.as_bytes());
+        let is_so = outside.answers(rt.alloc(), &CHECK, code, out, err)?;
+        assert!(rt; is_so, "{times} {open}");
     }
     Ok(())
 }
@@ -113,9 +90,8 @@ fn accepted_texts(rt: HostRuntime) -> Result<(), Fail> {
         ),
     ];
     for (text, out) in rows {
-        let text = format!(in rt.alloc(); "{LISTS}{text}")?;
-        let shown = checked(rt.alloc(), text.as_bytes())?;
-        assert!(rt; shown.is(0, out, ""), "{text}");
+        let is_accepted = program_answers(rt.alloc(), text, &CHECK, 0, out, "")?;
+        assert!(rt; is_accepted, "{text}");
     }
     Ok(())
 }

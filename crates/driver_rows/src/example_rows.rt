@@ -1,6 +1,6 @@
 //! Longer programs: what they print.
 
-use crate::outside::Outside;
+use crate::outside::{Outside, RUN};
 use std::test::Fail;
 use worked_texts::{INTERPRETER, LIFE};
 
@@ -18,8 +18,8 @@ fn longer_programs(rt: HostRuntime) -> Result<(), Fail> {
         (INTERPRETER, "120\n"),
     ];
     for (text, out) in rows {
-        let shown = Outside::of(text.as_bytes()).run(rt.alloc(), &["grinc", "run", "a"])?;
-        assert!(rt; shown.is(0, out, ""));
+        let outside = Outside::of(text.as_bytes());
+        assert!(rt; outside.answers(rt.alloc(), &RUN, 0, out, "")?);
     }
     Ok(())
 }

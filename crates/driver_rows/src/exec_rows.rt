@@ -5,6 +5,9 @@ use crate::outside::{Object, Outside};
 use std::alloc::{AllocError, Global};
 use std::test::Fail;
 
+/// The words that execute the file.
+const EXEC: [&str; 3] = ["grinc", "exec", "a"];
+
 /// The image that exits with 7, with other bytes from an offset on.
 fn changed(alloc: Global, offset: usize, bytes: &[u8]) -> Result<Vec<u8>, AllocError> {
     let mut image = Vec::new(alloc);
@@ -65,8 +68,8 @@ fn lines_of_traps_and_exits(rt: HostRuntime) -> Result<(), Fail> {
     ];
     for (offset, bytes, code, err) in rows {
         let image = changed(rt.alloc(), offset, bytes)?;
-        let shown = Outside::of(&image).run(rt.alloc(), &["grinc", "exec", "a"])?;
-        assert!(rt; shown.is(code, "", err), "{err}");
+        let is_so = Outside::of(&image).answers(rt.alloc(), &EXEC, code, "", err)?;
+        assert!(rt; is_so, "{err}");
     }
     Ok(())
 }
@@ -82,8 +85,8 @@ fn other_images(rt: HostRuntime) -> Result<(), Fail> {
         (&CAPITALS, 0, ""),
     ];
     for (image, code, err) in rows {
-        let shown = Outside::of(image).run(rt.alloc(), &["grinc", "exec", "a"])?;
-        assert!(rt; shown.is(code, "", err), "{err}");
+        let is_so = Outside::of(image).answers(rt.alloc(), &EXEC, code, "", err)?;
+        assert!(rt; is_so, "{err}");
     }
     Ok(())
 }
@@ -99,8 +102,76 @@ fn steps_of_an_image(rt: HostRuntime) -> Result<(), Fail> {
     ];
     for (image, steps, code, err) in rows {
         let words = ["grinc", "exec", "a", "--steps", steps];
-        let shown = Outside::of(image).run(rt.alloc(), &words)?;
-        assert!(rt; shown.is(code, "", err), "{steps}");
+        let is_so = Outside::of(image).answers(rt.alloc(), &words, code, "", err)?;
+        assert!(rt; is_so, "{steps}");
+    }
+    Ok(())
+}
+
+#[test]
+fn what_an_image_cost(rt: HostRuntime) -> Result<(), Fail> {
+    let trap = changed(rt.alloc(), 88, &[0x00, 0x00, 0x00, 0x00])?;
+    let ends = changed(rt.alloc(), 88, &[0x13, 0x05, 0x00, 0x00])?;
+    let rows: [(&[u8], &[&str], u8, &str); 6] = [
+        (
+            &EXITS_WITH_7,
+            &["grinc", "exec", "a", "--stats"],
+            7,
+            "grinc: exited 7\ngrinc: instructions 3\n",
+        ),
+        (
+            &EXITS_WITH_7,
+            &["grinc", "exec", "--stats", "a", "--steps", "2"],
+            6,
+            "grinc: step limit\ngrinc: instructions 2\n",
+        ),
+        (
+            &trap,
+            &["grinc", "exec", "a", "--stats"],
+            7,
+            "grinc: trap illegal-instruction 0 at 65624\ngrinc: instructions 2\n",
+        ),
+        (
+            &ends,
+            &["grinc", "exec", "a", "--stats"],
+            0,
+            "grinc: instructions 3\n",
+        ),
+        (
+            &[],
+            &["grinc", "exec", "a", "--stats"],
+            1,
+            "grinc: refused 41 at 0\n",
+        ),
+        (
+            &EXITS_WITH_7,
+            &["grinc", "exec", "a", "--stats=3"],
+            2,
+            "grinc: usage\n",
+        ),
+    ];
+    for (image, words, code, err) in rows {
+        let is_so = Outside::of(image).answers(rt.alloc(), words, code, "", err)?;
+        assert!(rt; is_so, "{err}");
+    }
+    Ok(())
+}
+
+#[test]
+fn no_cost_of_a_run_that_broke_off(rt: HostRuntime) -> Result<(), Fail> {
+    let rows = [
+        (Some((Object::Input, 1)), 9, "A", "grinc: read fault\n"),
+        (Some((Object::Out, 2)), 10, "AB", "grinc: write fault\n"),
+    ];
+    for (failing, code, out, err) in rows {
+        let outside = Outside {
+            file: &CAPITALS,
+            input: b"abc",
+            failing,
+        };
+        let words = ["grinc", "exec", "a", "--stats"];
+        let is_so = outside.answers(rt.alloc(), &words, code, out, err)?;
+        assert!(rt; is_so, "{err}");
     }
     Ok(())
 }
@@ -118,8 +189,8 @@ fn an_image_that_reads_and_writes(rt: HostRuntime) -> Result<(), Fail> {
             input: b"abc",
             failing,
         };
-        let shown = outside.run(rt.alloc(), &["grinc", "exec", "a"])?;
-        assert!(rt; shown.is(code, out, err), "{err}");
+        let is_so = outside.answers(rt.alloc(), &EXEC, code, out, err)?;
+        assert!(rt; is_so, "{err}");
     }
     Ok(())
 }

@@ -83,17 +83,19 @@ fn failing_objects(rt: HostRuntime) -> Result<(), Fail> {
             input: b"",
             failing: Some(failing),
         };
-        let shown = outside.run(rt.alloc(), &["grinc", command, "a"])?;
-        assert!(rt; shown.is(code, out, err), "{command} {err}");
+        let words = ["grinc", command, "a"];
+        let is_so = outside.answers(rt.alloc(), &words, code, out, err)?;
+        assert!(rt; is_so, "{command} {err}");
     }
     Ok(())
 }
 
 #[test]
 fn files_that_are_not_there(rt: HostRuntime) -> Result<(), Fail> {
-    for command in ["run", "check", "build", "exec"] {
-        let shown = Outside::of(b"").run(rt.alloc(), &["grinc", command, "b"])?;
-        assert!(rt; shown.is(9, "", "grinc: read fault\n"), "{command}");
+    for command in ["run", "check", "points", "build", "exec"] {
+        let words = ["grinc", command, "b"];
+        let is_so = Outside::of(b"").answers(rt.alloc(), &words, 9, "", "grinc: read fault\n")?;
+        assert!(rt; is_so, "{command}");
     }
     Ok(())
 }
@@ -128,8 +130,8 @@ fn words_that_are_no_command(rt: HostRuntime) -> Result<(), Fail> {
             input: b"",
             failing: Some((Object::Shelf, 0)),
         };
-        let shown = outside.run(rt.alloc(), words)?;
-        assert!(rt; shown.is(2, "", "grinc: usage\n"));
+        let is_so = outside.answers(rt.alloc(), words, 2, "", "grinc: usage\n")?;
+        assert!(rt; is_so);
     }
     Ok(())
 }

@@ -24,8 +24,8 @@ fn summaries_of_generated_texts(rt: HostRuntime) -> Result<(), Fail> {
     for (seed, size, summary) in rows {
         let words = ["grinc", "gen", "--seed", seed, "--size", size];
         for _ in 0..2 {
-            let shown = Outside::of(b"").run(rt.alloc(), &words)?;
-            assert!(rt; shown.is(0, summary, ""), "{seed} {size}");
+            let is_so = Outside::of(b"").answers(rt.alloc(), &words, 0, summary, "")?;
+            assert!(rt; is_so, "{seed} {size}");
         }
     }
     Ok(())

@@ -1,6 +1,6 @@
 //! Programs that read their input.
 
-use crate::outside::{LISTS, Object, Outside};
+use crate::outside::{LISTS, Object, Outside, RUN, program_answers};
 use std::test::Fail;
 use worked_texts::SORT;
 
@@ -39,8 +39,8 @@ fn programs_of_their_input(rt: HostRuntime) -> Result<(), Fail> {
     for (text, input, code, out, err) in rows {
         let text = format!(in rt.alloc(); "{LISTS}{text}")?;
         let outside = Outside::with_input(text.as_bytes(), input.as_bytes());
-        let shown = outside.run(rt.alloc(), &["grinc", "run", "a"])?;
-        assert!(rt; shown.is(code, out, err), "{text}");
+        let is_so = outside.answers(rt.alloc(), &RUN, code, out, err)?;
+        assert!(rt; is_so, "{text}");
     }
     Ok(())
 }
@@ -55,17 +55,17 @@ fn an_input_that_fails(rt: HostRuntime) -> Result<(), Fail> {
             input: b"abc",
             failing: Some((Object::Input, call)),
         };
-        let shown = outside.run(rt.alloc(), &["grinc", "run", "a"])?;
-        assert!(rt; shown.is(9, out, "grinc: read fault\n"));
+        let is_so = outside.answers(rt.alloc(), &RUN, 9, out, "grinc: read fault\n")?;
+        assert!(rt; is_so, "{out}");
     }
     Ok(())
 }
 
 #[test]
 fn a_main_of_two_parameters(rt: HostRuntime) -> Result<(), Fail> {
-    let text = format!(in rt.alloc(); "{LISTS}main a b = a;")?;
-    let shown = Outside::of(text.as_bytes()).run(rt.alloc(), &["grinc", "check", "a"])?;
-    assert!(rt; shown.is(1, "", "grinc: refused 20 at 25\n"));
+    let words = ["grinc", "check", "a"];
+    let err = "grinc: refused 20 at 25\n";
+    assert!(rt; program_answers(rt.alloc(), "main a b = a;", &words, 1, "", err)?);
     Ok(())
 }
 
@@ -73,8 +73,7 @@ fn a_main_of_two_parameters(rt: HostRuntime) -> Result<(), Fail> {
 fn an_input_that_is_sorted(rt: HostRuntime) -> Result<(), Fail> {
     for (input, out) in [("", ""), ("hello", "ehllo"), ("zyxw", "wxyz")] {
         let outside = Outside::with_input(SORT.as_bytes(), input.as_bytes());
-        let shown = outside.run(rt.alloc(), &["grinc", "run", "a"])?;
-        assert!(rt; shown.is(0, out, ""));
+        assert!(rt; outside.answers(rt.alloc(), &RUN, 0, out, "")?);
     }
     Ok(())
 }

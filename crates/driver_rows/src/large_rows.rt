@@ -1,6 +1,6 @@
 //! Texts whose programs are long, or nest or bind much.
 
-use crate::outside::{LISTS, Outside};
+use crate::outside::{LISTS, Outside, RUN, program_answers};
 use std::alloc::{AllocError, Global};
 use std::test::Fail;
 use worked_texts::{QUEENS, many_delayed};
@@ -32,29 +32,37 @@ fn many_branches(alloc: Global, count: u32) -> Result<String, AllocError> {
     Ok(text)
 }
 
+/// The bytes of the image of a function with so many branches.
+fn image_size(alloc: Global, count: u32) -> Result<Option<usize>, AllocError> {
+    let text = many_branches(alloc, count)?;
+    let ended = Outside::of(text.as_bytes()).run(alloc, &["grinc", "build", "a"])?;
+    if ended.is_done() {
+        Ok(Some(ended.bytes().len()))
+    } else {
+        Ok(None)
+    }
+}
+
 #[test]
 fn deep_and_long_evaluations(rt: HostRuntime) -> Result<(), Fail> {
     let words = ["grinc", "run", "a", "--stack", "65536"];
-    let text = format!(in rt.alloc(); "{LISTS}{UPTO}{SUM}")?;
-    let shown = Outside::of(text.as_bytes()).run(rt.alloc(), &words)?;
-    assert!(rt; shown.is(5, "", "grinc: stack full\n"));
-    let text = format!(in rt.alloc(); "{LISTS}{UPTO}{COUNT}")?;
-    let shown = Outside::of(text.as_bytes()).run(rt.alloc(), &words)?;
-    assert!(rt; shown.is(0, "O", ""));
+    for (main, code, out, err) in [(SUM, 5, "", "grinc: stack full\n"), (COUNT, 0, "O", "")] {
+        let text = format!(in rt.alloc(); "{UPTO}{main}")?;
+        let is_so = program_answers(rt.alloc(), text.as_str(), &words, code, out, err)?;
+        assert!(rt; is_so, "{main}");
+    }
     Ok(())
 }
 
 #[test]
 fn a_function_longer_than_a_branch_reaches(rt: HostRuntime) -> Result<(), Fail> {
     let text = many_branches(rt.alloc(), 300)?;
-    let shown = Outside::of(text.as_bytes()).run(rt.alloc(), &["grinc", "run", "a"])?;
-    assert!(rt; shown.is_bytes(0, &[0x2B], ""));
+    let outside = Outside::of(text.as_bytes());
+    assert!(rt; outside.answers_bytes(rt.alloc(), &RUN, 0, &[0x2B], "")?);
     // With one branch all the other code is there too.
-    let long = Outside::of(text.as_bytes()).run(rt.alloc(), &["grinc", "build", "a"])?;
-    let text = many_branches(rt.alloc(), 1)?;
-    let short = Outside::of(text.as_bytes()).run(rt.alloc(), &["grinc", "build", "a"])?;
-    assert!(rt; long.is_done() && short.is_done());
-    let longer = long.bytes().len().saturating_sub(short.bytes().len());
+    let long = image_size(rt.alloc(), 300)?.ok_or("no image")?;
+    let short = image_size(rt.alloc(), 1)?.ok_or("no image")?;
+    let longer = long.saturating_sub(short);
     assert!(rt; longer > 4096, "{longer}");
     Ok(())
 }
@@ -66,41 +74,48 @@ fn eight_queens(rt: HostRuntime) -> Result<(), Fail> {
         &["grinc", "run", "a", "--heap", "300000"],
     ];
     for words in lines {
-        let shown = Outside::of(QUEENS.as_bytes()).run(rt.alloc(), words)?;
-        assert!(rt; shown.is(0, "92\n", ""));
+        let outside = Outside::of(QUEENS.as_bytes());
+        assert!(rt; outside.answers(rt.alloc(), words, 0, "92\n", "")?);
     }
     Ok(())
 }
 
 #[test]
 fn twelve_fields(rt: HostRuntime) -> Result<(), Fail> {
-    let text = format!(in rt.alloc(); "{LISTS}data T 12; main = Nil;")?;
-    let shown = Outside::of(text.as_bytes()).run(rt.alloc(), &["grinc", "check", "a"])?;
-    assert!(rt; shown.is(0, "ok functions 1 constructors 3 size 8\n", ""));
-    let text = format!(in rt.alloc();
-        "{LISTS}data T 12; f x = case x of {{ T a b c d e g h i j k l m -> Cons l Nil }}; \
-         main = f (T 65 66 67 68 69 70 71 72 73 74 75 76);"
-    )?;
-    let shown = Outside::of(text.as_bytes()).run(rt.alloc(), &["grinc", "run", "a"])?;
-    assert!(rt; shown.is(0, "K", ""));
+    let check = ["grinc", "check", "a"];
+    let rows: [(&str, &[&str], &str); 2] = [
+        (
+            "data T 12; main = Nil;",
+            &check,
+            "ok functions 1 constructors 3 size 8\n",
+        ),
+        (
+            "data T 12; f x = case x of { T a b c d e g h i j k l m -> Cons l Nil }; \
+             main = f (T 65 66 67 68 69 70 71 72 73 74 75 76);",
+            &RUN,
+            "K",
+        ),
+    ];
+    for (text, words, out) in rows {
+        let is_so = program_answers(rt.alloc(), text, words, 0, out, "")?;
+        assert!(rt; is_so, "{text}");
+    }
     Ok(())
 }
 
 #[test]
 fn programs_about_the_largest_size(rt: HostRuntime) -> Result<(), Fail> {
-    let text = many_delayed(rt.alloc(), 119)?;
-    let shown = Outside::of(text.as_bytes()).run(rt.alloc(), &["grinc", "run", "a"])?;
-    assert!(rt; shown.is(0, "", ""));
-    let text = many_delayed(rt.alloc(), 120)?;
-    let shown = Outside::of(text.as_bytes()).run(rt.alloc(), &["grinc", "run", "a"])?;
-    assert!(rt; shown.is(1, "", "grinc: refused 36 at 131322\n"));
-    Ok(())
-}
-
-#[test]
-fn a_program_far_too_large(rt: HostRuntime) -> Result<(), Fail> {
-    let text = many_delayed(rt.alloc(), 1000)?;
-    let shown = Outside::of(text.as_bytes()).run(rt.alloc(), &["grinc", "run", "a"])?;
-    assert!(rt; shown.is(1, "", "grinc: refused 36 at 9014042\n"));
+    let rows = [
+        (119, 0, ""),
+        (120, 1, "grinc: refused 36 at 131322\n"),
+        // Far too large.
+        (1000, 1, "grinc: refused 36 at 9014042\n"),
+    ];
+    for (count, code, err) in rows {
+        let text = many_delayed(rt.alloc(), count)?;
+        let outside = Outside::of(text.as_bytes());
+        let is_so = outside.answers(rt.alloc(), &RUN, code, "", err)?;
+        assert!(rt; is_so, "{count}");
+    }
     Ok(())
 }

@@ -30,6 +30,8 @@ mod match_rows;
 #[cfg(test)]
 mod outside;
 #[cfg(test)]
+mod points_rows;
+#[cfg(test)]
 mod quiet_rows;
 #[cfg(test)]
 mod run_rows;

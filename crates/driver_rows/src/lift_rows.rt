@@ -1,8 +1,11 @@
 //! Texts with lambdas and local functions that are lifted: the text of Core, what a run of it puts
 //! out, and the refusals of the others.
 
-use crate::outside::{LISTS, Object, Outside};
+use crate::outside::{LISTS, Object, Outside, nested, program_answers, written_answers};
 use std::test::Fail;
+
+/// The words that lift the file.
+const LIFT: [&str; 3] = ["grinc", "lift", "a"];
 
 /// The constructors of lists as `lift` writes them.
 const WRITTEN: &str = "data Nil 0;\ndata Cons 2;\n";
@@ -49,11 +52,12 @@ fn lifted_texts(rt: HostRuntime) -> Result<(), Fail> {
     ];
     for (text, wanted, output) in rows {
         let whole = format!(in rt.alloc(); "{LISTS}{text}")?;
-        let shown = Outside::of(whole.as_bytes()).run(rt.alloc(), &["grinc", "lift", "a"])?;
         let lifted = format!(in rt.alloc(); "{WRITTEN}{wanted}")?;
-        assert!(rt; shown.is(0, lifted.as_str(), ""), "{text}");
-        let ran = Outside::of(shown.bytes()).run(rt.alloc(), &["grinc", "run", "a"])?;
-        assert!(rt; ran.is(0, output, ""), "{text}");
+        let outside = Outside::of(whole.as_bytes());
+        let is_so = outside.answers(rt.alloc(), &LIFT, 0, lifted.as_str(), "")?;
+        assert!(rt; is_so, "{text}");
+        let runs = written_answers(rt.alloc(), "lift", whole.as_str(), "", 0, output, "")?;
+        assert!(rt; runs, "{text}");
     }
     Ok(())
 }
@@ -73,10 +77,9 @@ fn refused_lambdas(rt: HostRuntime) -> Result<(), Fail> {
         ("main = (\\lift' -> 1) Nil;", "62 at 34"),
     ];
     for (text, rule) in rows {
-        let whole = format!(in rt.alloc(); "{LISTS}{text}")?;
         let err = format!(in rt.alloc(); "grinc: refused {rule}\n")?;
-        let shown = Outside::of(whole.as_bytes()).run(rt.alloc(), &["grinc", "lift", "a"])?;
-        assert!(rt; shown.is(1, "", err.as_str()), "{rule}");
+        let is_so = program_answers(rt.alloc(), text, &LIFT, 1, "", err.as_str())?;
+        assert!(rt; is_so, "{rule}");
     }
     Ok(())
 }
@@ -84,18 +87,9 @@ fn refused_lambdas(rt: HostRuntime) -> Result<(), Fail> {
 #[test]
 fn lambdas_nest_two_hundred_deep(rt: HostRuntime) -> Result<(), Fail> {
     for (count, code, err) in [(200, 0, ""), (201, 1, "grinc: refused 4 at 1432\n")] {
-        let mut text = String::from_str(rt.alloc(), LISTS)?;
-        text.push_str("main = ")?;
-        for _ in 0..count {
-            text.push_str("(\\x -> ")?;
-        }
-        text.push_str("x")?;
-        for _ in 0..count {
-            text.push_str(")")?;
-        }
-        text.push_str(";")?;
-        let shown = Outside::of(text.as_bytes()).run(rt.alloc(), &["grinc", "lift", "a"])?;
-        assert!(rt; shown.ends(code, err), "{count}");
+        let text = nested(rt.alloc(), LISTS, count, "(\\x -> ", "x", ")")?;
+        let outside = Outside::of(text.as_bytes());
+        assert!(rt; outside.ends(rt.alloc(), &LIFT, code, err)?, "{count}");
     }
     Ok(())
 }
@@ -113,8 +107,8 @@ fn failures_while_lifting(rt: HostRuntime) -> Result<(), Fail> {
             input: b"",
             failing: Some((object, call)),
         };
-        let shown = outside.run(rt.alloc(), &["grinc", "lift", "a"])?;
-        assert!(rt; shown.is(code, "", err), "{call}");
+        let is_so = outside.answers(rt.alloc(), &LIFT, code, "", err)?;
+        assert!(rt; is_so, "{call}");
     }
     Ok(())
 }

@@ -1,7 +1,6 @@
 //! Modules that are linked: the text of those that go together, and the refusals of the others.
 
-use crate::outside::{Ended, Object, Outside};
-use grin_driver::Line;
+use crate::outside::{Ended, Object, Outside, RUN, file_of, line_of, nested};
 use grin_io::MemFile;
 use std::alloc::{AllocError, Global};
 use std::test::Fail;
@@ -27,31 +26,61 @@ const LISTS: &str = "module P; export Nil Cons; data Nil 0; data Cons 2;";
 /// Adds a file with these bytes behind the others.
 fn add(alloc: Global, files: &mut Vec<MemFile>, bytes: &[u8]) -> Result<(), AllocError> {
     let number = files.len();
-    files.push(MemFile {
-        name: format!(in alloc; "file {number}")?,
-        bytes: Vec::from_slice(alloc, bytes)?,
-    })?;
+    let name = format!(in alloc; "file {number}")?;
+    let file = file_of(alloc, name.as_str(), bytes)?;
+    files.push(file)?;
     Ok(())
 }
 
-/// What `link` of files answers.
-fn answer(alloc: Global, outside: &Outside<'_>, files: Vec<MemFile>) -> Result<Ended, AllocError> {
-    let mut line = Line::new(alloc);
-    line.add("grinc")?;
-    line.add("link")?;
+/// Files with these texts.
+fn files_of(alloc: Global, texts: &[&str]) -> Result<Vec<MemFile>, AllocError> {
+    let mut files = Vec::new(alloc);
+    for text in texts {
+        add(alloc, &mut files, text.as_bytes())?;
+    }
+    Ok(files)
+}
+
+/// How `link` of files ends.
+fn linked(alloc: Global, outside: &Outside<'_>, files: Vec<MemFile>) -> Result<Ended, AllocError> {
+    let mut line = line_of(alloc, &["grinc", "link"])?;
     for file in files.iter() {
         line.add(file.name.as_str())?;
     }
     outside.run_over(alloc, &line, files)
 }
 
-/// What `link` of files with these texts answers.
-fn linked(alloc: Global, outside: &Outside<'_>, texts: &[&str]) -> Result<Ended, AllocError> {
-    let mut files = Vec::new(alloc);
-    for text in texts {
-        add(alloc, &mut files, text.as_bytes())?;
-    }
-    answer(alloc, outside, files)
+/// Whether `link` of files is answered so where nothing fails.
+fn files_answer(
+    alloc: Global,
+    files: Vec<MemFile>,
+    code: u8,
+    out: &str,
+    err: &str,
+) -> Result<bool, AllocError> {
+    let ended = linked(alloc, &Outside::of(b""), files)?;
+    Ok(ended.is(code, out, err))
+}
+
+/// Whether `link` of files with these texts is answered so.
+fn texts_answer(
+    alloc: Global,
+    outside: &Outside<'_>,
+    texts: &[&str],
+    code: u8,
+    out: &str,
+    err: &str,
+) -> Result<bool, AllocError> {
+    let files = files_of(alloc, texts)?;
+    let ended = linked(alloc, outside, files)?;
+    Ok(ended.is(code, out, err))
+}
+
+/// Whether a run of what files with these texts are together puts out this text.
+fn linked_runs(alloc: Global, texts: &[&str], out: &str) -> Result<bool, AllocError> {
+    let files = files_of(alloc, texts)?;
+    let whole = linked(alloc, &Outside::of(b""), files)?;
+    Outside::of(whole.bytes()).answers(alloc, &RUN, 0, out, "")
 }
 
 #[test]
@@ -73,17 +102,10 @@ fn linked_texts(rt: HostRuntime) -> Result<(), Fail> {
         ),
     ];
     for (texts, out) in rows {
-        let shown = linked(rt.alloc(), &Outside::of(b""), texts)?;
-        assert!(rt; shown.is(0, out, ""), "{out}");
+        let is_so = texts_answer(rt.alloc(), &Outside::of(b""), texts, 0, out, "")?;
+        assert!(rt; is_so, "{out}");
     }
-    Ok(())
-}
-
-#[test]
-fn linked_text_runs(rt: HostRuntime) -> Result<(), Fail> {
-    let shown = linked(rt.alloc(), &Outside::of(b""), &[MAIN, LIST])?;
-    let ran = Outside::of(shown.bytes()).run(rt.alloc(), &["grinc", "run", "a"])?;
-    assert!(rt; ran.is(0, "A", ""));
+    assert!(rt; linked_runs(rt.alloc(), &[MAIN, LIST], "A")?);
     Ok(())
 }
 
@@ -126,8 +148,9 @@ fn refused_modules(rt: HostRuntime) -> Result<(), Fail> {
     ];
     for (texts, rule) in rows {
         let err = format!(in rt.alloc(); "grinc: refused {rule}\n")?;
-        let shown = linked(rt.alloc(), &Outside::of(b""), texts)?;
-        assert!(rt; shown.is(1, "", err.as_str()), "{rule}");
+        let outside = Outside::of(b"");
+        let is_refused = texts_answer(rt.alloc(), &outside, texts, 1, "", err.as_str())?;
+        assert!(rt; is_refused, "{rule}");
     }
     Ok(())
 }
@@ -142,34 +165,25 @@ fn first_file_that_breaks_a_rule_by_itself(rt: HostRuntime) -> Result<(), Fail> 
         ("module Main; main = 1;", "grinc: refused 1 at 2097152\n"),
     ];
     for (text, err) in rows {
-        let mut files = Vec::new(rt.alloc());
-        add(rt.alloc(), &mut files, text.as_bytes())?;
+        let mut files = files_of(rt.alloc(), &[text])?;
         add(rt.alloc(), &mut files, b"\xFF")?;
-        let shown = answer(rt.alloc(), &Outside::of(b""), files)?;
-        assert!(rt; shown.is(1, "", err), "{text}");
+        let is_refused = files_answer(rt.alloc(), files, 1, "", err)?;
+        assert!(rt; is_refused, "{text}");
     }
     Ok(())
 }
 
 #[test]
 fn limits_of_a_module(rt: HostRuntime) -> Result<(), Fail> {
-    let mut files = Vec::new(rt.alloc());
-    add(rt.alloc(), &mut files, LIST.as_bytes())?;
     let spaces = vec![in rt.alloc(); b' '; 1_048_577]?;
+    let mut files = files_of(rt.alloc(), &[LIST])?;
     add(rt.alloc(), &mut files, &spaces)?;
-    let shown = answer(rt.alloc(), &Outside::of(b""), files)?;
-    assert!(rt; shown.is(1, "", "grinc: refused 5 at 3145728\n"));
-    let mut text = String::from_str(rt.alloc(), "module Main; main = ")?;
-    for _ in 0..201 {
-        text.push_str("(")?;
-    }
-    text.push_str("1")?;
-    for _ in 0..201 {
-        text.push_str(")")?;
-    }
-    text.push_str(";")?;
-    let shown = linked(rt.alloc(), &Outside::of(b""), &[text.as_str()])?;
-    assert!(rt; shown.is(1, "", "grinc: refused 4 at 220\n"));
+    let err = "grinc: refused 5 at 3145728\n";
+    assert!(rt; files_answer(rt.alloc(), files, 1, "", err)?);
+    let text = nested(rt.alloc(), "module Main; ", 201, "(", "1", ")")?;
+    let files = files_of(rt.alloc(), &[text.as_str()])?;
+    let err = "grinc: refused 4 at 220\n";
+    assert!(rt; files_answer(rt.alloc(), files, 1, "", err)?);
     Ok(())
 }
 
@@ -191,33 +205,37 @@ fn failures_while_linking(rt: HostRuntime) -> Result<(), Fail> {
             input: b"",
             failing: Some((object, call)),
         };
-        let shown = linked(rt.alloc(), &outside, &[MAIN, LIST])?;
-        assert!(rt; shown.is(code, "", err), "{call}");
+        let is_so = texts_answer(rt.alloc(), &outside, &[MAIN, LIST], code, "", err)?;
+        assert!(rt; is_so, "{call}");
         // A rule that the first file breaks is looked at once all files are read.
         if object == Object::Shelf {
-            let shown = linked(rt.alloc(), &outside, &["module", LIST])?;
-            assert!(rt; shown.is(code, "", err), "{call}");
+            let is_so = texts_answer(rt.alloc(), &outside, &["module", LIST], code, "", err)?;
+            assert!(rt; is_so, "{call}");
         }
     }
-    let shown = Outside::of(b"module Main; main = 1;").run(
-        rt.alloc(),
-        &["grinc", "link", "a", "b"],
-    )?;
-    assert!(rt; shown.is(9, "", "grinc: read fault\n"));
+    let words = ["grinc", "link", "a", "b"];
+    let outside = Outside::of(b"module Main; main = 1;");
+    assert!(rt; outside.answers(rt.alloc(), &words, 9, "", "grinc: read fault\n")?);
     Ok(())
+}
+
+/// So many files, the last of which holds `main`.
+fn modules(alloc: Global, count: usize) -> Result<Vec<MemFile>, AllocError> {
+    let mut files = Vec::new(alloc);
+    for number in 1..count {
+        let text = format!(in alloc; "module M{number};")?;
+        add(alloc, &mut files, text.as_bytes())?;
+    }
+    add(alloc, &mut files, b"module Main; main = 1;")?;
+    Ok(files)
 }
 
 #[test]
 fn sixty_four_files(rt: HostRuntime) -> Result<(), Fail> {
     for (count, code, out, err) in [(64, 0, "main = 1;\n", ""), (65, 2, "", "grinc: usage\n")] {
-        let mut files = Vec::new(rt.alloc());
-        for number in 1..count {
-            let text = format!(in rt.alloc(); "module M{number};")?;
-            add(rt.alloc(), &mut files, text.as_bytes())?;
-        }
-        add(rt.alloc(), &mut files, b"module Main; main = 1;")?;
-        let shown = answer(rt.alloc(), &Outside::of(b""), files)?;
-        assert!(rt; shown.is(code, out, err), "{count}");
+        let files = modules(rt.alloc(), count)?;
+        let is_so = files_answer(rt.alloc(), files, code, out, err)?;
+        assert!(rt; is_so, "{count}");
     }
     Ok(())
 }

@@ -1,14 +1,34 @@
 //! Texts that are listed: their canonical text, their stages, and the refusals of the others.
 
-use crate::outside::{Ended, LISTS, Object, Outside};
+use crate::outside::{Ended, LISTS, Object, Outside, program_answers};
 use std::alloc::{AllocError, Global};
 use std::fmt::Write;
 use std::test::Fail;
 use worked_texts::many_delayed;
 
-/// What `list` of a text after a pass answers.
+/// What `list` of a text behind `LISTS` after a pass answers.
 fn listed(alloc: Global, text: &str, after: &str) -> Result<Ended, AllocError> {
+    let text = format!(in alloc; "{LISTS}{text}")?;
     Outside::of(text.as_bytes()).run(alloc, &["grinc", "list", "a", "--after", after])
+}
+
+/// Whether `list` of a text behind `LISTS` after a pass puts out this text.
+fn lists(alloc: Global, text: &str, after: &str, out: &str) -> Result<bool, AllocError> {
+    let ended = listed(alloc, text, after)?;
+    Ok(ended.is(0, out, ""))
+}
+
+/// Whether the listing of a text behind `LISTS` after a pass has the first of these lines, and not
+/// the second one.
+fn has_line_alone(
+    alloc: Global,
+    text: &str,
+    after: &str,
+    line: &str,
+    no_line: &str,
+) -> Result<bool, AllocError> {
+    let ended = listed(alloc, text, after)?;
+    Ok(ended.is_done() && ended.has_line(line) && !ended.has_line(no_line))
 }
 
 /// What all programs print with: the list is evaluated, then its head, which is written, and then
@@ -405,40 +425,6 @@ main =
 const TAKES_TEXT: &str =
     "take xs = case xs of { Nil -> Nil; Cons h t -> Cons h (take t) }; main = take (take (Cons 65 Nil));";
 
-#[test]
-fn listings(rt: HostRuntime) -> Result<(), Fail> {
-    let rows = [
-        (
-            "main = Cons 72 (Cons 105 Nil);",
-            "read",
-            "data Nil 0;\ndata Cons 2;\nmain = Cons 72 (Cons 105 Nil);\n",
-        ),
-        (
-            "main = foo;",
-            "read",
-            "data Nil 0;\ndata Cons 2;\nmain = foo;\n",
-        ),
-        ("main = Nil;", "translate", EMPTY),
-        (TAKES_TEXT, "eval", TAKES),
-        (TAKES_TEXT, "apply", TAKES),
-        (TAKES_TEXT, "vectorise", TAKES_IN_VECTORS),
-        (TAKES_TEXT, "fetch", TAKES_BY_WORDS),
-        (TAKES_TEXT, "copy", TAKES_WITHOUT_COPIES),
-        (TAKES_TEXT, "update", TAKES_WITH_TAGS),
-        // No procedure gives numbers alone, and each parameter's cell is updated.
-        (TAKES_TEXT, "unbox", TAKES_WITH_TAGS),
-        (TAKES_TEXT, "raise", TAKES_WITH_TAGS),
-        // It has no nested block.
-        (TAKES_TEXT, "flat", TAKES_WITH_TAGS),
-    ];
-    for (text, after, out) in rows {
-        let text = format!(in rt.alloc(); "{LISTS}{text}")?;
-        let shown = listed(rt.alloc(), text.as_str(), after)?;
-        assert!(rt; shown.is(0, out, ""), "{text} {after}");
-    }
-    Ok(())
-}
-
 /// What prints a list of one element after the cases were simplified: the case over a number, whose
 /// one alternative gives back what it is over, is a unit.
 const ONE_SIMPLER: &str = "global main = (Fmain)
@@ -477,10 +463,35 @@ main =
 ";
 
 #[test]
-fn a_listing_with_simpler_cases(rt: HostRuntime) -> Result<(), Fail> {
-    let text = format!(in rt.alloc(); "{LISTS}main = Cons 65 Nil;")?;
-    let shown = listed(rt.alloc(), text.as_str(), "simplify")?;
-    assert!(rt; shown.is(0, ONE_SIMPLER, ""));
+fn listings(rt: HostRuntime) -> Result<(), Fail> {
+    let rows = [
+        (
+            "main = Cons 72 (Cons 105 Nil);",
+            "read",
+            "data Nil 0;\ndata Cons 2;\nmain = Cons 72 (Cons 105 Nil);\n",
+        ),
+        (
+            "main = foo;",
+            "read",
+            "data Nil 0;\ndata Cons 2;\nmain = foo;\n",
+        ),
+        ("main = Nil;", "translate", EMPTY),
+        ("main = Cons 65 Nil;", "simplify", ONE_SIMPLER),
+        (TAKES_TEXT, "eval", TAKES),
+        (TAKES_TEXT, "apply", TAKES),
+        (TAKES_TEXT, "vectorise", TAKES_IN_VECTORS),
+        (TAKES_TEXT, "fetch", TAKES_BY_WORDS),
+        (TAKES_TEXT, "copy", TAKES_WITHOUT_COPIES),
+        (TAKES_TEXT, "update", TAKES_WITH_TAGS),
+        // No procedure gives numbers alone, and each parameter's cell is updated.
+        (TAKES_TEXT, "unbox", TAKES_WITH_TAGS),
+        (TAKES_TEXT, "raise", TAKES_WITH_TAGS),
+        // It has no nested block.
+        (TAKES_TEXT, "flat", TAKES_WITH_TAGS),
+    ];
+    for (text, after, out) in rows {
+        assert!(rt; lists(rt.alloc(), text, after, out)?, "{text} {after}");
+    }
     Ok(())
 }
 
@@ -488,31 +499,16 @@ fn a_listing_with_simpler_cases(rt: HostRuntime) -> Result<(), Fail> {
 const HEAD_TEXT: &str =
     "hd c = case c of { Cons h t -> h }; main = case hd (Cons 65 Nil) of { x -> Cons x Nil };";
 
+/// A line that a stage of `HEAD_TEXT` has, and one that it doesn't have. The parameter of `hd` gives
+/// place to its two fields. Then its call is in a nested block with the cell of which they are
+/// fetched; the number that it gives gets its tag; the fields are the two cells stored before; and
+/// nobody fetches from the cell.
 #[test]
-fn a_parameter_gives_place_to_fields(rt: HostRuntime) -> Result<(), Fail> {
-    let text = format!(in rt.alloc(); "{LISTS}{HEAD_TEXT}")?;
+fn lines_of_each_stage(rt: HostRuntime) -> Result<(), Fail> {
     let rows = [
         ("update", "hd v0 =", "hd v0 v1 ="),
         ("unbox", "hd v0 =", "hd v0 v1 ="),
         ("raise", "hd v0 v1 =", "hd v0 ="),
-    ];
-    for (after, line, no_line) in rows {
-        let shown = listed(rt.alloc(), text.as_str(), after)?;
-        assert!(rt; shown.is_done(), "{after}");
-        assert!(rt; shown.has_line(line), "{after}");
-        assert!(rt; !shown.has_line(no_line), "{after}");
-    }
-    Ok(())
-}
-
-/// A line that a stage of `HEAD_TEXT` has, and one that it doesn't have. Once the fields are given
-/// to `hd`, its call is in a nested block with the cell of which they are fetched; the number that
-/// it gives gets its tag; the fields are the two cells stored before; and nobody fetches from the
-/// cell.
-#[test]
-fn what_raising_left_goes(rt: HostRuntime) -> Result<(), Fail> {
-    let text = format!(in rt.alloc(); "{LISTS}{HEAD_TEXT}")?;
-    let rows = [
         ("raise", "  v0 <- do", "  v5 <- call hd v3 v4"),
         ("flat", "  v5 <- call hd v3 v4", "  v0 <- do"),
         (
@@ -531,66 +527,73 @@ fn what_raising_left_goes(rt: HostRuntime) -> Result<(), Fail> {
         ("dead", "  v1 <- call hd v0 0", "    v2 = (CCons v0 v1)"),
     ];
     for (after, line, no_line) in rows {
-        let shown = listed(rt.alloc(), text.as_str(), after)?;
-        assert!(rt; shown.is_done(), "{after}");
-        assert!(rt; shown.has_line(line), "{after}: {line}");
-        assert!(rt; !shown.has_line(no_line), "{after}: {no_line}");
+        let is_so = has_line_alone(rt.alloc(), HEAD_TEXT, after, line, no_line)?;
+        assert!(rt; is_so, "{after}: {line} and not {no_line}");
     }
     Ok(())
 }
 
+/// A program that stores two cells which nothing reads.
+const UNREAD_TEXT: &str = "main = let a = 65; b = Cons a a in Nil;";
+
+/// Whether the listing of `UNREAD_TEXT` after a pass gives the empty list, and has all the lines of
+/// its two cells or none of them.
+fn stores(alloc: Global, after: &str, is_stored: bool) -> Result<bool, AllocError> {
+    let ended = listed(alloc, UNREAD_TEXT, after)?;
+    let mut is_so = ended.is_done() && ended.has_line("  unit (CNil)");
+    for line in ["  store", "    v0 = (CInt 65)", "    v1 = (CCons v0 v0)"] {
+        is_so = is_so && ended.has_line(line) == is_stored;
+    }
+    Ok(is_so)
+}
+
 #[test]
 fn cells_that_nothing_reads_are_not_stored(rt: HostRuntime) -> Result<(), Fail> {
-    let text = format!(in rt.alloc(); "{LISTS}main = let a = 65; b = Cons a a in Nil;")?;
     for (after, is_stored) in [("raise", true), ("dead", false)] {
-        let shown = listed(rt.alloc(), text.as_str(), after)?;
-        assert!(rt;
-            shown.is_done() && shown.has_line("  unit (CNil)"),
-            "{after}"
-        );
-        assert_eq!(rt; shown.has_line("    v0 = (CInt 65)"), is_stored);
-        assert_eq!(rt; shown.has_line("    v1 = (CCons v0 v0)"), is_stored);
-        assert_eq!(rt; shown.has_line("  store"), is_stored);
+        assert!(rt; stores(rt.alloc(), after, is_stored)?, "{after}");
     }
     Ok(())
 }
 
 #[test]
 fn refused_listings(rt: HostRuntime) -> Result<(), Fail> {
-    let large = many_delayed(rt.alloc(), 120)?;
-    let unbound = format!(in rt.alloc(); "{LISTS}main = foo;")?;
-    let unread = format!(in rt.alloc(); "{LISTS}main = - 1;")?;
     let rows = [
-        (&large, "eval", "grinc: refused 36 at 131322\n"),
-        (&unbound, "translate", "grinc: refused 14 at 32\n"),
-        (&unbound, "eval", "grinc: refused 14 at 32\n"),
-        (&unread, "read", "grinc: refused 1 at 32\n"),
+        ("main = foo;", "translate", "grinc: refused 14 at 32\n"),
+        ("main = foo;", "eval", "grinc: refused 14 at 32\n"),
+        ("main = - 1;", "read", "grinc: refused 1 at 32\n"),
     ];
     for (text, after, err) in rows {
-        let shown = listed(rt.alloc(), text.as_str(), after)?;
-        assert!(rt; shown.is(1, "", err), "{after}");
+        let words = ["grinc", "list", "a", "--after", after];
+        let is_refused = program_answers(rt.alloc(), text, &words, 1, "", err)?;
+        assert!(rt; is_refused, "{after}");
     }
+    let large = many_delayed(rt.alloc(), 120)?;
+    let words = ["grinc", "list", "a", "--after", "eval"];
+    let err = "grinc: refused 36 at 131322\n";
+    let outside = Outside::of(large.as_bytes());
+    assert!(rt; outside.answers(rt.alloc(), &words, 1, "", err)?);
     Ok(())
 }
 
-#[test]
-fn pieces_up_to_a_failure(rt: HostRuntime) -> Result<(), Fail> {
-    let mut text = String::from_str(rt.alloc(), LISTS)?;
-    let mut lines = String::from_str(rt.alloc(), "data Nil 0;\ndata Cons 2;\n")?;
+/// A text with a thousand functions, and its listing as it was read.
+fn thousand(alloc: Global) -> Result<(String, String), AllocError> {
+    let mut text = String::from_str(alloc, LISTS)?;
+    let mut lines = String::from_str(alloc, "data Nil 0;\ndata Cons 2;\n")?;
     for i in 0..1000 {
         write!(text, "f{i} = 1; ")?;
         writeln!(lines, "f{i} = 1;")?;
     }
-    let words = ["grinc", "list", "--after=read", "a"];
-    let outside = Outside {
-        file: text.as_bytes(),
-        input: b"",
-        failing: Some((Object::Out, 1)),
-    };
-    let shown = outside.run(rt.alloc(), &words)?;
+    Ok((text, lines))
+}
+
+#[test]
+fn pieces_up_to_a_failure(rt: HostRuntime) -> Result<(), Fail> {
+    let (text, lines) = thousand(rt.alloc())?;
     let piece = lines.as_bytes().get(..4096).ok_or("a short listing")?;
-    assert!(rt; shown.is_bytes(10, piece, "grinc: write fault\n"));
-    let shown = listed(rt.alloc(), text.as_str(), "read")?;
-    assert!(rt; shown.is(0, lines.as_str(), ""));
+    let words = ["grinc", "list", "--after=read", "a"];
+    let mut outside = Outside::of(text.as_bytes());
+    assert!(rt; outside.answers(rt.alloc(), &words, 0, lines.as_str(), "")?);
+    outside.failing = Some((Object::Out, 1));
+    assert!(rt; outside.answers_bytes(rt.alloc(), &words, 10, piece, "grinc: write fault\n")?);
     Ok(())
 }

@@ -1,8 +1,11 @@
 //! Texts of pattern equations: the text of Core that is written, what a run of it puts out, and the
 //! refusals of the others.
 
-use crate::outside::{LISTS, Object, Outside, written_and_run};
+use crate::outside::{LISTS, Object, Outside, program_answers, written_answers};
 use std::test::Fail;
+
+/// The words that make a text of Core of the equations in the file.
+const MATCH: [&str; 3] = ["grinc", "match", "a"];
 
 /// Two lists, added place by place.
 const ZIP: &str =
@@ -14,9 +17,8 @@ const ZIPPED: &str =
 
 #[test]
 fn simple_functions_are_one_case(rt: HostRuntime) -> Result<(), Fail> {
-    let whole = format!(in rt.alloc(); "{LISTS}{ZIP}")?;
-    let shown = Outside::of(whole.as_bytes()).run(rt.alloc(), &["grinc", "match", "a"])?;
-    assert!(rt; shown.is(0, ZIPPED, ""), "the text of zip");
+    let is_one_case = program_answers(rt.alloc(), ZIP, &MATCH, 0, ZIPPED, "")?;
+    assert!(rt; is_one_case, "the text of zip");
     Ok(())
 }
 
@@ -54,8 +56,9 @@ fn runs_of_equations(rt: HostRuntime) -> Result<(), Fail> {
     ];
     for (text, input, code, output, err) in rows {
         let whole = format!(in rt.alloc(); "{LISTS}{text}")?;
-        let ran = written_and_run(rt.alloc(), "match", whole.as_str(), input)?;
-        assert!(rt; ran.is(code, output, err), "{text}");
+        let file = whole.as_str();
+        let runs = written_answers(rt.alloc(), "match", file, input, code, output, err)?;
+        assert!(rt; runs, "{text}");
     }
     Ok(())
 }
@@ -74,10 +77,9 @@ fn refused_equations(rt: HostRuntime) -> Result<(), Fail> {
         ("main = let match'x = 1 in Nil;", "74 at 36"),
     ];
     for (text, rule) in rows {
-        let whole = format!(in rt.alloc(); "{LISTS}{text}")?;
         let err = format!(in rt.alloc(); "grinc: refused {rule}\n")?;
-        let shown = Outside::of(whole.as_bytes()).run(rt.alloc(), &["grinc", "match", "a"])?;
-        assert!(rt; shown.is(1, "", err.as_str()), "{rule}");
+        let is_refused = program_answers(rt.alloc(), text, &MATCH, 1, "", err.as_str())?;
+        assert!(rt; is_refused, "{rule}");
     }
     Ok(())
 }
@@ -95,8 +97,8 @@ fn failures_while_matching(rt: HostRuntime) -> Result<(), Fail> {
             input: b"",
             failing: Some((object, call)),
         };
-        let shown = outside.run(rt.alloc(), &["grinc", "match", "a"])?;
-        assert!(rt; shown.is(code, "", err), "{call}");
+        let is_so = outside.answers(rt.alloc(), &MATCH, code, "", err)?;
+        assert!(rt; is_so, "{call}");
     }
     Ok(())
 }

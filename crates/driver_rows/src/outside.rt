@@ -7,6 +7,9 @@ use std::alloc::{AllocError, Global};
 /// `Nil` and `Cons`, 25 bytes.
 pub(crate) const LISTS: &str = "data Nil 0; data Cons 2; ";
 
+/// The words that run the file.
+pub(crate) const RUN: [&str; 3] = ["grinc", "run", "a"];
+
 /// The bytes that an output takes.
 const CAPACITY: usize = 1_048_576;
 
@@ -42,12 +45,12 @@ impl Ended {
     }
 
     /// Whether this is the status of the process, and whether the error output took this text.
-    pub(crate) fn ends(&self, code: u8, err: &str) -> bool {
+    fn ends(&self, code: u8, err: &str) -> bool {
         self.status.code() == code && self.err.taken() == err.as_bytes()
     }
 
     /// Whether this is the status of the process, and whether the two outputs took these bytes.
-    pub(crate) fn is_bytes(&self, code: u8, out: &[u8], err: &str) -> bool {
+    fn is_bytes(&self, code: u8, out: &[u8], err: &str) -> bool {
         self.status.code() == code && self.out.taken() == out && self.err.taken() == err.as_bytes()
     }
 
@@ -69,7 +72,7 @@ impl Ended {
 
     /// Whether this is the status of the process, whether the output took this byte and no other,
     /// at least once, and whether the error output took this text.
-    pub(crate) fn is_repeated(&self, code: u8, byte: u8, err: &str) -> bool {
+    fn is_repeated(&self, code: u8, byte: u8, err: &str) -> bool {
         let out = self.out.taken();
         self.is_bytes(code, out, err) && !out.is_empty() && out.iter().all(|other| *other == byte)
     }
@@ -113,17 +116,25 @@ impl<'a> Outside<'a> {
         Ok(calls)
     }
 
+    /// An output that takes so many bytes.
+    fn sink(&self, alloc: Global, object: Object, capacity: usize) -> Result<MemSink, AllocError> {
+        let calls = self.failing_calls(alloc, object)?;
+        MemSink::new(alloc, capacity, calls)
+    }
+
+    /// The input.
+    fn source(&self, alloc: Global) -> Result<MemSource, AllocError> {
+        let bytes = Vec::from_slice(alloc, self.input)?;
+        let calls = self.failing_calls(alloc, Object::Input)?;
+        Ok(MemSource::new(bytes, calls))
+    }
+
     /// Runs the command line of these words.
     pub(crate) fn run(&self, alloc: Global, words: &[&str]) -> Result<Ended, AllocError> {
-        let mut line = Line::new(alloc);
-        for word in words {
-            line.add(word)?;
-        }
+        let line = line_of(alloc, words)?;
+        let file = file_of(alloc, "a", self.file)?;
         let mut files = Vec::new(alloc);
-        files.push(MemFile {
-            name: String::from_str(alloc, "a")?,
-            bytes: Vec::from_slice(alloc, self.file)?,
-        })?;
+        files.push(file)?;
         self.run_over(alloc, &line, files)
     }
 
@@ -134,24 +145,140 @@ impl<'a> Outside<'a> {
         line: &Line,
         files: Vec<MemFile>,
     ) -> Result<Ended, AllocError> {
-        let mut shelf = MemShelf::new(files, self.failing_calls(alloc, Object::Shelf)?);
-        let bytes = Vec::from_slice(alloc, self.input)?;
-        let mut input = MemSource::new(bytes, self.failing_calls(alloc, Object::Input)?);
-        let mut out = MemSink::new(alloc, CAPACITY, self.failing_calls(alloc, Object::Out)?)?;
-        let mut err = MemSink::new(alloc, 64, self.failing_calls(alloc, Object::Err)?)?;
+        let calls = self.failing_calls(alloc, Object::Shelf)?;
+        let mut shelf = MemShelf::new(files, calls);
+        let mut input = self.source(alloc)?;
+        let mut out = self.sink(alloc, Object::Out, CAPACITY)?;
+        let mut err = self.sink(alloc, Object::Err, 256)?;
         let status = status_of(alloc, line, &mut shelf, &mut input, &mut out, &mut err);
         Ok(Ended { status, out, err })
     }
+
+    /// Whether these words end with this status of the process, and the two outputs take these
+    /// texts. How a line ended is dropped in functions such as this one, and not in tests, since a
+    /// proof goes over each part of what a function drops, once for each of its ends.
+    pub(crate) fn answers(
+        &self,
+        alloc: Global,
+        words: &[&str],
+        code: u8,
+        out: &str,
+        err: &str,
+    ) -> Result<bool, AllocError> {
+        self.answers_bytes(alloc, words, code, out.as_bytes(), err)
+    }
+
+    /// Whether these words end with this status of the process, and the two outputs take these
+    /// bytes.
+    pub(crate) fn answers_bytes(
+        &self,
+        alloc: Global,
+        words: &[&str],
+        code: u8,
+        out: &[u8],
+        err: &str,
+    ) -> Result<bool, AllocError> {
+        let ended = self.run(alloc, words)?;
+        Ok(ended.is_bytes(code, out, err))
+    }
+
+    /// Whether these words end with this status of the process, and the error output takes this
+    /// text.
+    pub(crate) fn ends(
+        &self,
+        alloc: Global,
+        words: &[&str],
+        code: u8,
+        err: &str,
+    ) -> Result<bool, AllocError> {
+        let ended = self.run(alloc, words)?;
+        Ok(ended.ends(code, err))
+    }
+
+    /// Whether these words end with this status of the process, the output takes this byte and no
+    /// other, at least once, and the error output takes this text.
+    pub(crate) fn repeats(
+        &self,
+        alloc: Global,
+        words: &[&str],
+        code: u8,
+        byte: u8,
+        err: &str,
+    ) -> Result<bool, AllocError> {
+        let ended = self.run(alloc, words)?;
+        Ok(ended.is_repeated(code, byte, err))
+    }
 }
 
-/// How a run ends of the text that a command writes for the text of a file. Where the command
-/// refuses it, an empty text is run, which `run` refuses.
-pub(crate) fn written_and_run(
+/// A command line of these words.
+pub(crate) fn line_of(alloc: Global, words: &[&str]) -> Result<Line, AllocError> {
+    let mut line = Line::new(alloc);
+    for word in words {
+        line.add(word)?;
+    }
+    Ok(line)
+}
+
+/// A file under a name.
+pub(crate) fn file_of(alloc: Global, name: &str, bytes: &[u8]) -> Result<MemFile, AllocError> {
+    let name = String::from_str(alloc, name)?;
+    let bytes = Vec::from_slice(alloc, bytes)?;
+    Ok(MemFile { name, bytes })
+}
+
+/// Whether these words are answered so where the file holds this text behind `LISTS`.
+pub(crate) fn program_answers(
+    alloc: Global,
+    text: &str,
+    words: &[&str],
+    code: u8,
+    out: &str,
+    err: &str,
+) -> Result<bool, AllocError> {
+    let text = format!(in alloc; "{LISTS}{text}")?;
+    Outside::of(text.as_bytes()).answers(alloc, words, code, out, err)
+}
+
+/// A text whose `main` has a body behind so many opening words, and as many closing ones behind it.
+pub(crate) fn nested(
+    alloc: Global,
+    front: &str,
+    times: usize,
+    open: &str,
+    body: &str,
+    close: &str,
+) -> Result<String, AllocError> {
+    let mut text = String::from_str(alloc, front)?;
+    text.push_str("main = ")?;
+    for _ in 0..times {
+        text.push_str(open)?;
+    }
+    text.push_str(body)?;
+    for _ in 0..times {
+        text.push_str(close)?;
+    }
+    text.push_str(";")?;
+    Ok(text)
+}
+
+/// The bytes that a command writes for the text of a file; none where it refuses it.
+fn written(alloc: Global, command: &str, file: &str) -> Result<Vec<u8>, AllocError> {
+    let ended = Outside::of(file.as_bytes()).run(alloc, &["grinc", command, "a"])?;
+    Vec::from_slice(alloc, ended.bytes())
+}
+
+/// Whether a run of the text that a command writes for the text of a file is answered so. Where the
+/// command refuses it, an empty text is run, which `run` refuses.
+pub(crate) fn written_answers(
     alloc: Global,
     command: &str,
     file: &str,
     input: &str,
-) -> Result<Ended, AllocError> {
-    let written = Outside::of(file.as_bytes()).run(alloc, &["grinc", command, "a"])?;
-    Outside::with_input(written.bytes(), input.as_bytes()).run(alloc, &["grinc", "run", "a"])
+    code: u8,
+    out: &str,
+    err: &str,
+) -> Result<bool, AllocError> {
+    let written = written(alloc, command, file)?;
+    let outside = Outside::with_input(&written, input.as_bytes());
+    outside.answers(alloc, &RUN, code, out, err)
 }

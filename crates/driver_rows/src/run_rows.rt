@@ -1,8 +1,9 @@
 //! Texts that are run: programs that end, one that doesn't, and refusals.
 
-use crate::outside::{LISTS, Outside};
+use crate::outside::{LISTS, Outside, RUN, program_answers};
 use grin_driver::run_text;
 use grin_io::{MemSink, MemSource};
+use std::alloc::{AllocError, Global};
 use std::test::Fail;
 
 #[test]
@@ -45,9 +46,8 @@ fn programs_that_end(rt: HostRuntime) -> Result<(), Fail> {
         ),
     ];
     for (text, out) in rows {
-        let text = format!(in rt.alloc(); "{LISTS}{text}")?;
-        let shown = Outside::of(text.as_bytes()).run(rt.alloc(), &["grinc", "run", "a"])?;
-        assert!(rt; shown.is(0, out, ""), "{text}");
+        let is_so = program_answers(rt.alloc(), text, &RUN, 0, out, "")?;
+        assert!(rt; is_so, "{text}");
     }
     Ok(())
 }
@@ -72,9 +72,8 @@ fn programs_that_stop(rt: HostRuntime) -> Result<(), Fail> {
         ("main = main;", 5, "", "grinc: stack full\n"),
     ];
     for (text, code, out, err) in rows {
-        let text = format!(in rt.alloc(); "{LISTS}{text}")?;
-        let shown = Outside::of(text.as_bytes()).run(rt.alloc(), &["grinc", "run", "a"])?;
-        assert!(rt; shown.is(code, out, err), "{text}");
+        let is_so = program_answers(rt.alloc(), text, &RUN, code, out, err)?;
+        assert!(rt; is_so, "{text}");
     }
     Ok(())
 }
@@ -87,10 +86,10 @@ fn texts_that_are_refused(rt: HostRuntime) -> Result<(), Fail> {
         ("main = Cons 2147483648 Nil;", "grinc: refused 3 at 37\n"),
     ];
     for (text, err) in rows {
-        let text = format!(in rt.alloc(); "{LISTS}{text}")?;
         for command in ["run", "build"] {
-            let shown = Outside::of(text.as_bytes()).run(rt.alloc(), &["grinc", command, "a"])?;
-            assert!(rt; shown.is(1, "", err), "{command} {text}");
+            let words = ["grinc", command, "a"];
+            let is_refused = program_answers(rt.alloc(), text, &words, 1, "", err)?;
+            assert!(rt; is_refused, "{command} {text}");
         }
     }
     Ok(())
@@ -101,8 +100,8 @@ fn arithmetic_at_its_edges(rt: HostRuntime) -> Result<(), Fail> {
     let text = format!(in rt.alloc();
         "{LISTS}main = Cons (quot -2147483648 -1) (Cons (quot 7 0) (Cons (rem 7 0) Nil));"
     )?;
-    let shown = Outside::of(text.as_bytes()).run(rt.alloc(), &["grinc", "run", "a"])?;
-    assert!(rt; shown.is_bytes(0, &[0x00, 0xFF, 0x07], ""));
+    let outside = Outside::of(text.as_bytes());
+    assert!(rt; outside.answers_bytes(rt.alloc(), &RUN, 0, &[0x00, 0xFF, 0x07], "")?);
     Ok(())
 }
 
@@ -110,8 +109,7 @@ fn arithmetic_at_its_edges(rt: HostRuntime) -> Result<(), Fail> {
 fn lines_and_a_comment(rt: HostRuntime) -> Result<(), Fail> {
     let text =
         "data\r\nNil\r\n0;\r\ndata\r\nCons\r\n2;\r\nmain\r\n=\r\nCons\r\n72\r\n(Cons\r\n105\r\nNil);-- größer";
-    let shown = Outside::of(text.as_bytes()).run(rt.alloc(), &["grinc", "run", "a"])?;
-    assert!(rt; shown.is(0, "Hi", ""));
+    assert!(rt; Outside::of(text.as_bytes()).answers(rt.alloc(), &RUN, 0, "Hi", "")?);
     Ok(())
 }
 
@@ -124,8 +122,9 @@ fn endless_programs(rt: HostRuntime) -> Result<(), Fail> {
         "main = let c = Cons 46 c in Cons 46 c;",
     ] {
         let text = format!(in rt.alloc(); "{LISTS}{text}")?;
-        let shown = Outside::of(text.as_bytes()).run(rt.alloc(), &words)?;
-        assert!(rt; shown.is_repeated(6, b'.', "grinc: step limit\n"), "{text}");
+        let outside = Outside::of(text.as_bytes());
+        let is_so = outside.repeats(rt.alloc(), &words, 6, b'.', "grinc: step limit\n")?;
+        assert!(rt; is_so, "{text}");
     }
     Ok(())
 }
@@ -179,8 +178,8 @@ fn what_is_given_suffices_or_not(rt: HostRuntime) -> Result<(), Fail> {
         ),
     ];
     for (words, code, out, err) in rows {
-        let shown = Outside::of(text.as_bytes()).run(rt.alloc(), words)?;
-        assert!(rt; shown.is(code, out, err));
+        let outside = Outside::of(text.as_bytes());
+        assert!(rt; outside.answers(rt.alloc(), words, code, out, err)?);
     }
     Ok(())
 }
@@ -224,10 +223,12 @@ fn cells_that_nothing_reads(rt: HostRuntime) -> Result<(), Fail> {
     for (text, enough, less, out) in rows {
         let text = format!(in rt.alloc(); "{LISTS}{text}")?;
         let outside = Outside::of(text.as_bytes());
-        let shown = outside.run(rt.alloc(), &["grinc", "run", "a", "--heap", enough])?;
-        assert!(rt; shown.is(0, out, ""), "{text}");
-        let shown = outside.run(rt.alloc(), &["grinc", "run", "a", "--heap", less])?;
-        assert!(rt; shown.ends(4, "grinc: heap full\n"), "{text}");
+        let words = ["grinc", "run", "a", "--heap", enough];
+        let is_so = outside.answers(rt.alloc(), &words, 0, out, "")?;
+        assert!(rt; is_so, "{text}");
+        let words = ["grinc", "run", "a", "--heap", less];
+        let is_full = outside.ends(rt.alloc(), &words, 4, "grinc: heap full\n")?;
+        assert!(rt; is_full, "{text}");
     }
     // One cell is that of `main` itself, and each dot needs two more, beside that of n.
     let rows = [
@@ -248,10 +249,103 @@ fn cells_that_nothing_reads(rt: HostRuntime) -> Result<(), Fail> {
         ),
     ];
     for (text, heap, code, out, err) in rows {
-        let text = format!(in rt.alloc(); "{LISTS}{text}")?;
         let words = ["grinc", "run", "a", "--heap", heap];
-        let shown = Outside::of(text.as_bytes()).run(rt.alloc(), &words)?;
-        assert!(rt; shown.is(code, out, err), "{text}");
+        let is_so = program_answers(rt.alloc(), text, &words, code, out, err)?;
+        assert!(rt; is_so, "{text}");
     }
+    Ok(())
+}
+
+/// The least number of instructions with which a file doesn't meet their bound, up to 4,096.
+fn least_steps(alloc: Global, file: &[u8], heap: &str) -> Result<u32, AllocError> {
+    let mut least: u32 = 0;
+    for bit in [2048u32, 1024, 512, 256, 128, 64, 32, 16, 8, 4, 2, 1] {
+        let steps = least | bit;
+        let number = format!(in alloc; "{steps}")?;
+        let words = [
+            "grinc",
+            "run",
+            "a",
+            "--heap",
+            heap,
+            "--steps",
+            number.as_str(),
+        ];
+        if Outside::of(file).ends(alloc, &words, 6, "grinc: step limit\n")? {
+            least = steps;
+        }
+    }
+    Ok(least.saturating_add(1))
+}
+
+#[test]
+fn what_a_run_cost(rt: HostRuntime) -> Result<(), Fail> {
+    // Of one that ends it is the least heap with which it does; where the heap is full, all of it.
+    let rows = [
+        (
+            "main = let a = 65; b = Cons a a; c = Cons b b in Cons a Nil;",
+            "100",
+            0,
+            "A",
+            "",
+            3,
+        ),
+        (
+            "k x y = x; main = k Nil (Cons 65 Nil);",
+            "100",
+            0,
+            "",
+            "",
+            1,
+        ),
+        (
+            "bad = case 1 of { 2 -> Nil }; main = bad;",
+            "100",
+            3,
+            "",
+            "grinc: no alternative\n",
+            2,
+        ),
+        (
+            "go n = case add n 1 of { m -> Cons 46 (go n) }; main = go 1;",
+            "12",
+            4,
+            ".....",
+            "grinc: heap full\n",
+            12,
+        ),
+    ];
+    for (text, heap, code, out, line, cells) in rows {
+        let text = format!(in rt.alloc(); "{LISTS}{text}")?;
+        let steps = least_steps(rt.alloc(), text.as_bytes(), heap)?;
+        let err = format!(in rt.alloc(); "{line}grinc: instructions {steps} cells {cells}\n")?;
+        let words = ["grinc", "run", "a", "--stats", "--heap", heap];
+        let outside = Outside::of(text.as_bytes());
+        let is_so = outside.answers(rt.alloc(), &words, code, out, err.as_str())?;
+        assert!(rt; is_so, "{text}");
+    }
+    Ok(())
+}
+
+#[test]
+fn the_cost_up_to_the_last_step(rt: HostRuntime) -> Result<(), Fail> {
+    let text = format!(in rt.alloc(); "{LISTS}main = let c = Cons 46 c in c;")?;
+    let outside = Outside::of(text.as_bytes());
+    let rows: [(&[&str], u8, &str); 2] = [
+        (
+            &["grinc", "run", "a", "--steps", "2", "--stats"],
+            6,
+            "grinc: step limit\ngrinc: instructions 2 cells 0\n",
+        ),
+        (&["grinc", "check", "a", "--stats"], 2, "grinc: usage\n"),
+    ];
+    for (words, code, err) in rows {
+        let is_so = outside.answers(rt.alloc(), words, code, "", err)?;
+        assert!(rt; is_so, "{err}");
+    }
+    let words = ["grinc", "run", "a", "--stats"];
+    let err = "grinc: refused 14 at 7\n";
+    let is_refused = Outside::of(b"main = foo;").answers(rt.alloc(), &words, 1, "", err)?;
+    assert!(rt; is_refused, "{err}");
     Ok(())
 }

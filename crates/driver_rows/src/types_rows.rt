@@ -1,9 +1,15 @@
 //! Texts with types: the text of Core that is written, what a run of it puts out, the refusals of
 //! the others, and the two sides where types do not fit.
 
-use crate::outside::{Object, Outside, written_and_run};
+use crate::outside::{Object, Outside, written_answers};
 use std::alloc::{AllocError, Global};
 use std::test::Fail;
+
+/// The words that make a text of Core of the text with types in the file.
+const TYPES: [&str; 3] = ["grinc", "types", "a"];
+
+/// The words that write the two sides of the types that do not fit.
+const SIDES: [&str; 3] = ["grinc", "sides", "a"];
 
 /// The type of lists, 37 bytes.
 const LIST: &str = "type List a = Nil | Cons a (List a); ";
@@ -25,11 +31,12 @@ fn written_texts(rt: HostRuntime) -> Result<(), Fail> {
     ];
     for (text, wanted, output) in rows {
         let whole = format!(in rt.alloc(); "{LIST}{text}")?;
-        let shown = Outside::of(whole.as_bytes()).run(rt.alloc(), &["grinc", "types", "a"])?;
         let written = format!(in rt.alloc(); "data Nil 0;\ndata Cons 2;\n{wanted}")?;
-        assert!(rt; shown.is(0, written.as_str(), ""), "{text}");
-        let ran = written_and_run(rt.alloc(), "types", whole.as_str(), "")?;
-        assert!(rt; ran.is(0, output, ""), "{text}");
+        let outside = Outside::of(whole.as_bytes());
+        let is_so = outside.answers(rt.alloc(), &TYPES, 0, written.as_str(), "")?;
+        assert!(rt; is_so, "{text}");
+        let runs = written_answers(rt.alloc(), "types", whole.as_str(), "", 0, output, "")?;
+        assert!(rt; runs, "{text}");
     }
     Ok(())
 }
@@ -58,8 +65,9 @@ fn refused_types(rt: HostRuntime) -> Result<(), Fail> {
     for (text, rule) in rows {
         let whole = format!(in rt.alloc(); "{LIST}{text}")?;
         let err = format!(in rt.alloc(); "grinc: refused {rule}\n")?;
-        let shown = Outside::of(whole.as_bytes()).run(rt.alloc(), &["grinc", "types", "a"])?;
-        assert!(rt; shown.is(1, "", err.as_str()), "{rule}");
+        let outside = Outside::of(whole.as_bytes());
+        let is_refused = outside.answers(rt.alloc(), &TYPES, 1, "", err.as_str())?;
+        assert!(rt; is_refused, "{rule}");
     }
     Ok(())
 }
@@ -67,11 +75,9 @@ fn refused_types(rt: HostRuntime) -> Result<(), Fail> {
 #[test]
 fn other_lists(rt: HostRuntime) -> Result<(), Fail> {
     let text = b"type List a = Nil | Cons a (List a) | Foo; main = Nil;";
-    let shown = Outside::of(text).run(rt.alloc(), &["grinc", "types", "a"])?;
-    assert!(rt;
-        shown.is(1, "", "grinc: refused 86 at 0\n"),
-        "a third constructor"
-    );
+    let err = "grinc: refused 86 at 0\n";
+    let is_refused = Outside::of(text).answers(rt.alloc(), &TYPES, 1, "", err)?;
+    assert!(rt; is_refused, "a third constructor");
     Ok(())
 }
 
@@ -88,8 +94,8 @@ fn failures_while_typing(rt: HostRuntime) -> Result<(), Fail> {
             input: b"",
             failing: Some((object, call)),
         };
-        let shown = outside.run(rt.alloc(), &["grinc", "types", "a"])?;
-        assert!(rt; shown.is(code, "", err), "{call}");
+        let is_so = outside.answers(rt.alloc(), &TYPES, code, "", err)?;
+        assert!(rt; is_so, "{call}");
     }
     Ok(())
 }
@@ -120,8 +126,9 @@ fn two_sides(rt: HostRuntime) -> Result<(), Fail> {
     ];
     for (text, wanted) in rows {
         let whole = format!(in rt.alloc(); "{LIST}{text}")?;
-        let shown = Outside::of(whole.as_bytes()).run(rt.alloc(), &["grinc", "sides", "a"])?;
-        assert!(rt; shown.is(0, wanted, ""), "{text}");
+        let outside = Outside::of(whole.as_bytes());
+        let is_shown = outside.answers(rt.alloc(), &SIDES, 0, wanted, "")?;
+        assert!(rt; is_shown, "{text}");
     }
     Ok(())
 }
@@ -137,8 +144,9 @@ fn sides_under_another_rule(rt: HostRuntime) -> Result<(), Fail> {
     for (text, rule) in rows {
         let whole = format!(in rt.alloc(); "{LIST}{text}")?;
         let err = format!(in rt.alloc(); "grinc: refused {rule}\n")?;
-        let shown = Outside::of(whole.as_bytes()).run(rt.alloc(), &["grinc", "sides", "a"])?;
-        assert!(rt; shown.is(1, "", err.as_str()), "{rule}");
+        let outside = Outside::of(whole.as_bytes());
+        let is_refused = outside.answers(rt.alloc(), &SIDES, 1, "", err.as_str())?;
+        assert!(rt; is_refused, "{rule}");
     }
     Ok(())
 }
@@ -162,10 +170,10 @@ fn large_sides(rt: HostRuntime) -> Result<(), Fail> {
     text.push_str("x60;")?;
     let outside = Outside::of(text.as_bytes());
     let err = format!(in rt.alloc(); "grinc: refused 83 at {place}\n")?;
-    let refused = outside.run(rt.alloc(), &["grinc", "types", "a"])?;
-    assert!(rt; refused.is(1, "", err.as_str()), "the place");
-    let shown = outside.run(rt.alloc(), &["grinc", "sides", "a"])?;
-    assert!(rt; shown.is(8, "", "grinc: out of memory\n"), "the sides");
+    let is_refused = outside.answers(rt.alloc(), &TYPES, 1, "", err.as_str())?;
+    assert!(rt; is_refused, "the place");
+    let is_wanting = outside.answers(rt.alloc(), &SIDES, 8, "", "grinc: out of memory\n")?;
+    assert!(rt; is_wanting, "the sides");
     Ok(())
 }
 
@@ -193,8 +201,8 @@ fn deep_sides(rt: HostRuntime) -> Result<(), Fail> {
     let rows = [(63, 0, ""), (64, 8, "grinc: out of memory\n")];
     for (members, code, err) in rows {
         let text = nested(rt.alloc(), members)?;
-        let shown = Outside::of(text.as_bytes()).run(rt.alloc(), &["grinc", "sides", "a"])?;
-        assert!(rt; shown.ends(code, err), "{members}");
+        let is_so = Outside::of(text.as_bytes()).ends(rt.alloc(), &SIDES, code, err)?;
+        assert!(rt; is_so, "{members}");
     }
     Ok(())
 }

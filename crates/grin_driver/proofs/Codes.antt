@@ -1,12 +1,12 @@
 -- The code of a text's image, and its listing.
-use Rattle.std.proofs.Common.{◌≡◌, ℕ, ◌<◌, List, length, refl, sym, ap, ◌∙◌, subst}
+use Rattle.std.proofs.Common.{◌≡◌, ℕ, ◌<◌, ◌≤◌, ◌*◌, List, length, refl, sym, ap, ◌∙◌, subst, arith}
 use Rattle.core_reader.specs.Tree as tree
 use Rattle.arity_check.specs.Program.{Program}
 use Rattle.grin_stages.specs.Stage.{Fits}
 use Rattle.rv32_layout.specs.Places.{AllDecode}
 use Rattle.grin_io.specs.Changes.{SinkChange}
 use Rattle.grin_compile.specs.declared.compilation.Compiled.{Compiled}
-use Rattle.grin_compile.specs.Limits.{whole_words}
+use Rattle.grin_compile.specs.Limits.{whole_words, heap_bytes}
 use Rattle.grin_compile.specs.Stages.{passes, AreStages}
 use Rattle.grin_compile.specs.Made.{Made}
 use Rattle.grin_compile.specs.Compilation.{IsCompilation, later}
@@ -42,6 +42,21 @@ code_of text cells stack source p accepted fits c parts = record {
   is_code = refl;
   decode = parts.decode;
 }
+
+-- its image, and the bytes of a cell of it
+pub image_of : (text : List ℕ) (cells stack : ℕ) (source : tree.Program) (p : Program) → IsAccepted text source p → Fits p
+    → (c : Compiled) → IsCompilation p cells (whole_words stack) c → (width : ℕ) → width ≡ c.low.width
+    → (from : IsImageOf text cells stack c.image.items) × (1 ≤ width) × (heap_bytes from.made.g 1 ≡ 4 * width)
+unfolding made_of
+image_of text cells stack source p accepted fits c parts width is =
+    let words = parts.layers.lowers.width in
+    let some : 1 ≤ c.low.width = subst (λ w. 1 ≤ w) (sym words) (omega arith) in
+    let bytes : heap_bytes parts.g 1 ≡ 4 * c.low.width * 1 = ap (λ w. 4 * w * 1) (sym words) in
+    let kept : 4 * c.low.width * 1 ≡ 4 * width = omega (arith, is) in (
+      record { source = source; program = p; accepted = accepted; fits = fits; made = made_of p cells (whole_words stack) c parts },
+      omega (arith, is, some),
+      bytes ∙ kept,
+    )
 
 -- the listing of such words
 pub listing_of : (text : List ℕ) (cells stack : ℕ) (code bytes : List ℕ) → IsCodeOf text cells stack code → bytes ≡ code_listing code

@@ -1,7 +1,7 @@
 -- What a command line gives where nothing failed, and what it leaves where memory is wanting.
 use Rattle.std.proofs.Common.{◌≡◌, ℕ, List, Option, Some, None, refl}
 use mathlib.Core.Logic.{◌⊎◌, inl, inr}
-use Rattle.command_line.specs.Commands.{CommandLine, RunFile, CheckFile, ListFile, BuildFile, ExecImage, GenRun, LinkFiles, LiftFile, MatchFile, TypesFile, SidesFile}
+use Rattle.command_line.specs.Commands.{CommandLine, RunFile, CheckFile, ListFile, BuildFile, ExecImage, GenRun, LinkFiles, LiftFile, MatchFile, TypesFile, SidesFile, PointsFile}
 use Rattle.command_line.specs.declared.command.Listing.{Listing}
 use Rattle.command_line.specs.declared.command.Listing.TheVariants as listing
 use Rattle.generator.specs.Generated.{generated}
@@ -17,13 +17,14 @@ use Rattle.text_commands.specs.Linking.{Links}
 use Rattle.text_commands.specs.Lifting.{Lifts}
 use Rattle.text_commands.specs.Matching.{Matches}
 use Rattle.text_commands.specs.Typing.{Types, Sides}
+use Rattle.grin_driver.specs.Pointing.{Points}
 use Rattle.text_commands.specs.Checking.{Checks}
 use Rattle.grin_driver.specs.Execution.{IsUntouched, Execution}
 use Rattle.grin_driver.specs.Outcome.{Outcome}
 use Rattle.text_commands.specs.Text.{OneAccepted}
 use Rattle.grin_driver.specs.Completeness.{Or, NothingFailed, Gives}
 use Rattle.text_commands.proofs.Gives.{check_gives, link_gives, lift_gives, match_gives, types_gives, sides_gives}
-use Rattle.grin_driver.proofs.Complete.{list_gives, build_gives, generation_gives, exec_gives, run_gives}
+use Rattle.grin_driver.proofs.Complete.{list_gives, points_gives, build_gives, generation_gives, exec_gives, run_gives}
 
 module _ {F I K : Type 0} (f : ShelfChange F) (i : SourceChange I) (o : SinkChange K) where
   module _ (n : NothingFailed f i o) where
@@ -54,7 +55,7 @@ module _ {F I K : Type 0} (f : ShelfChange F) (i : SourceChange I) (o : SinkChan
 
     pub command_gives : OneAccepted → (command : Option CommandLine) (status : Status) → Answers f i o command status → Gives f command status
     command_gives one None status h = h.0
-    command_gives one (Some (RunFile file cells stack steps)) status h =
+    command_gives one (Some (RunFile file cells stack steps stats)) status h =
         of_bytes most_of_text (IsUntouched i o) file (λ text status. Outcome i o text cells stack steps status) status _ (λ text. run_gives i o n.input n.out one text cells stack steps status) h
     command_gives one (Some (CheckFile file)) status h =
         of_bytes most_of_text (o.new ≡ o.old) file (λ text status. Checks o text status) status _ (λ text. check_gives o n.out text status) h.0
@@ -62,7 +63,7 @@ module _ {F I K : Type 0} (f : ShelfChange F) (i : SourceChange I) (o : SinkChan
         of_bytes most_of_text (o.new ≡ o.old) file (λ text status. ListsAfter o text after status) status _ (λ text. list_gives o n.out text one after status) h.0
     command_gives one (Some (BuildFile file cells stack)) status h =
         of_bytes most_of_text (o.new ≡ o.old) file (λ text status. Builds o text cells stack status) status _ (λ text. build_gives o n.out text one cells stack status) h.0
-    command_gives one (Some (ExecImage image steps)) status h =
+    command_gives one (Some (ExecImage image steps stats)) status h =
         of_bytes most_of_image (IsUntouched i o) image (λ bytes status. Execution i o bytes steps status) status _ (λ bytes. exec_gives i o n.input n.out bytes steps status) h
     command_gives one (Some (GenRun seed size)) status h = generation_gives o n.out (generated seed size) one status h.0
     command_gives one (Some (LinkFiles files)) status h =
@@ -75,13 +76,15 @@ module _ {F I K : Type 0} (f : ShelfChange F) (i : SourceChange I) (o : SinkChan
         of_bytes most_of_text (o.new ≡ o.old) file (λ text status. Types o text status) status _ (λ text. types_gives o n.out text status) h.0
     command_gives one (Some (SidesFile file)) status h =
         of_bytes most_of_text (o.new ≡ o.old) file (λ text status. Sides o text status) status _ (λ text. sides_gives o n.out text status) h.0
+    command_gives one (Some (PointsFile file)) status h =
+        of_bytes most_of_text (o.new ≡ o.old) file (λ text status. Points o text status) status _ (λ text. points_gives o n.out text status) h.0
 
   -- ---- want of memory
 
   pub memory_untouched : (command : Option CommandLine) → Answers f i o command OutOfMemory → o.new ≡ o.old
   memory_untouched None h = h.3
-  memory_untouched (Some (RunFile file cells stack steps)) (inl h) = h.1.1
-  memory_untouched (Some (RunFile file cells stack steps)) (inr h) = h.2.1
+  memory_untouched (Some (RunFile file cells stack steps stats)) (inl h) = h.1.1
+  memory_untouched (Some (RunFile file cells stack steps stats)) (inr h) = h.2.1
   memory_untouched (Some (CheckFile file)) (inl h, same) = h.1
   memory_untouched (Some (CheckFile file)) (inr h, same) = h.2
   memory_untouched (Some (ListFile file after)) h = listed after h.0
@@ -106,8 +109,8 @@ module _ {F I K : Type 0} (f : ShelfChange F) (i : SourceChange I) (o : SinkChan
       listed listing.Code (inr h) = h.2
   memory_untouched (Some (BuildFile file cells stack)) (inl h, same) = h.1
   memory_untouched (Some (BuildFile file cells stack)) (inr h, same) = h.2
-  memory_untouched (Some (ExecImage image steps)) (inl h) = h.1.1
-  memory_untouched (Some (ExecImage image steps)) (inr h) = h.2.1
+  memory_untouched (Some (ExecImage image steps stats)) (inl h) = h.1.1
+  memory_untouched (Some (ExecImage image steps stats)) (inr h) = h.2.1
   memory_untouched (Some (GenRun seed size)) h = h.0.1
   memory_untouched (Some (LinkFiles files)) (inl h, same) = h.1
   memory_untouched (Some (LinkFiles files)) (inr h, same) = h.2
@@ -119,3 +122,5 @@ module _ {F I K : Type 0} (f : ShelfChange F) (i : SourceChange I) (o : SinkChan
   memory_untouched (Some (TypesFile file)) (inr h, same) = h.2
   memory_untouched (Some (SidesFile file)) (inl h, same) = h.1
   memory_untouched (Some (SidesFile file)) (inr h, same) = h.2
+  memory_untouched (Some (PointsFile file)) (inl h, same) = h.1
+  memory_untouched (Some (PointsFile file)) (inr h, same) = h.2

@@ -16,12 +16,13 @@ use Rattle.command_line.specs.declared.command.Listing.{Listing}
 use Rattle.command_line.specs.declared.command.Listing.TheVariants as listing
 use Rattle.text_commands.specs.declared.status.Status.{Status}
 use Rattle.text_commands.specs.declared.status.Status.TheVariants.{Done, Refused, NoAlternative, HeapFull, StackFull, StepLimit, OutOfMemory, ReadFault, WriteFault}
-use Rattle.text_commands.specs.Text.{IsAccepted, IsAcceptable, OneAccepted}
+use Rattle.text_commands.specs.Text.{IsRefusedBy, IsAccepted, IsAcceptable, OneAccepted}
 use Rattle.text_commands.proofs.Gives.{not_refused, print_gives}
 use Rattle.text_commands.proofs.Written.{writes_gives}
 use Rattle.grin_driver.specs.Listing.{IsListing, IsLargeText, IsNotListed, Lists}
 use Rattle.grin_driver.specs.CodeListing.{IsCodeListing, ListsCode}
 use Rattle.grin_driver.specs.After.{ListsAfter}
+use Rattle.grin_driver.specs.Pointing.{IsPointsText, Points}
 use Rattle.grin_driver.specs.Building.{Builds}
 use Rattle.grin_driver.specs.Execution.{status_of, Execution}
 use Rattle.grin_driver.specs.Outcome.{IsImageOf, IsNotRun, Outcome}
@@ -51,6 +52,9 @@ module _ {K : Type 0} (o : SinkChange K) (well : Rose (o.faults o.old) (o.faults
     listed : (k at : ℕ) → IsAcceptable text → IsNotListed text Translate k at → ⊥
     listed k at a (inl g) = not_refused text a.source a.program a.accepted k at g
     listed k at a (inr g) = g.1 refl
+
+  pub points_gives : (status : Status) → Points o text status → (status ≡ OutOfMemory) ⊎ (IsAcceptable text → status ≡ Done)
+  points_gives status h = writes_gives IsPointsText IsRefusedBy o well text (λ k at a. not_refused text a.source a.program a.accepted k at) status h
 
   module _ (one : OneAccepted) where
     stage_gives : (after : PassName) (status : Status) → Lists o text after status → (status ≡ OutOfMemory) ⊎ (IsCompilable text → status ≡ Done)

@@ -40,21 +40,14 @@ stop_is (Stopped kind s) stop m h = sym h.0
 
 module _ {I K : Type 0} (i : SourceChange I) (o : SinkChange K) where
   -- what the machine answers of a run from the start of a program
-  pub stopped : (program : Image) (m new : Stand) (steps : ℕ) (stop : Stop) → IsAt m (start_of program) false false
-      → Answered i o steps (state_of m) stop new → OfGiven i o (Stops i o program steps stop)
-  stopped program m new steps stop begins h =
-      let a : Answered i o steps (start_of program) stop new = subst (λ s. Answered i o steps s stop new) begins.0 h in (
-        a.given,
-        (
-          a.ended,
-          record {
-            gave = a.gave;
-            wanted = a.wanted;
-            stands = λ bytes b. let s = a.stays bytes b in (stop_is (run steps bytes (start_of program)).end stop new s.stands, s.used_is);
-            took = a.took;
-          },
-        ),
-      )
+  pub stops_as : (program : Image) (new : Stand) (steps : ℕ) (stop : Stop) → (a : Answered i o steps (start_of program) stop new)
+      → Stops i o program steps stop a.given a.ended
+  stops_as program new steps stop a = record {
+    gave = a.gave;
+    wanted = a.wanted;
+    stands = λ bytes b. let s = a.stays bytes b in (stop_is (run steps bytes (start_of program)).end stop new s.stands, s.used_is);
+    took = a.took;
+  }
 
   -- the status names the stop
   pub executes : (program : Image) (steps : ℕ) (stop : Stop) → OfGiven i o (Stops i o program steps stop) → Executes i o program steps (status_of stop)

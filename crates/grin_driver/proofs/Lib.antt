@@ -3,6 +3,7 @@ pub mod Unread
 pub mod Outcomes
 pub mod TypedRuns
 pub mod Execution
+pub mod Costs
 pub mod Stores
 pub mod Generations
 pub mod Summaries

@@ -7,7 +7,7 @@ use Rattle.std.specs.Str.Parse.{digits_value}
 use Rattle.std.proofs.lemmas.Bool.Decides.{nat_tests}
 use Rattle.command_line.specs.Numbers.{is_number}
 use Rattle.command_line.specs.Parts.{Part, parts_of}
-use Rattle.command_line.specs.Commands.{CommandLine, RunFile, CheckFile, ListFile, BuildFile, ExecImage, GenRun, LinkFiles, LiftFile, MatchFile, TypesFile, SidesFile, Form, Given, option_number, cells_of, stack_of, steps_of, run_form, file_form, check_form, list_form, build_form, exec_form, gen_form, lift_form, match_form, types_form, sides_form, link_form, of_operand, without_operand, asked, command_from, command_of, operands, values, takes_only, only, is_empty, seed_of, size_of}
+use Rattle.command_line.specs.Commands.{CommandLine, RunFile, CheckFile, ListFile, BuildFile, ExecImage, GenRun, LinkFiles, LiftFile, MatchFile, TypesFile, SidesFile, PointsFile, Form, Given, option_number, cells_of, stack_of, steps_of, stats_of, run_form, file_form, check_form, list_form, build_form, exec_form, gen_form, lift_form, match_form, types_form, sides_form, points_form, link_form, of_operand, without_operand, asked, command_from, command_of, operands, values, takes_only, only, is_empty, seed_of, size_of}
 use Rattle.grin_driver.specs.Answer.{IsWithin}
 
 -- ---- of what may be none
@@ -55,8 +55,9 @@ runs_within : (given : Given) (operands : List (List ℕ)) → IfSome (run_form.
 runs_within given operands = of_any _ operands (λ file.
     some_and_then _ (Within 1 8000000) IsWithin (cells_of given) (number_in_range 1000000 1 8000000 (omega arith) (omega arith) (given (codes "heap"))) (λ cells c.
     some_and_then _ (Within 1024 67108864) IsWithin (stack_of given) (number_in_range 1048576 1024 67108864 (omega arith) (omega arith) (given (codes "stack"))) (λ stack s.
-    some_map (RunFile file cells stack) (λ steps. Unit {0}) IsWithin (steps_of given) (some_any (steps_of given)) (λ steps n.
-    record { some_cells = c.0; few_cells = c.1; some_stack = s.0; small_stack = s.1 }))))
+    some_and_then _ (λ steps. Unit {0}) IsWithin (steps_of given) (some_any (steps_of given)) (λ steps n.
+    some_map (RunFile file cells stack steps) (λ stats. Unit {0}) IsWithin (stats_of given) (some_any (stats_of given)) (λ stats m.
+    record { some_cells = c.0; few_cells = c.1; some_stack = s.0; small_stack = s.1 })))))
 
 files_within : (ask : List ℕ → CommandLine) → ((file : List ℕ) → IsWithin (ask file)) → (given : Given) (operands : List (List ℕ)) → IfSome ((file_form ask).asks given operands) IsWithin
 files_within ask within given operands = of_any _ operands within
@@ -71,7 +72,9 @@ builds_within given operands = of_any _ operands (λ file.
     record { some_cells = c.0; few_cells = c.1; some_stack = s.0; small_stack = s.1 })))
 
 execs_within : (given : Given) (operands : List (List ℕ)) → IfSome (exec_form.asks given operands) IsWithin
-execs_within given operands = of_any _ operands (λ image. some_map (ExecImage image) (λ steps. Unit {0}) IsWithin _ (some_any _) (λ steps n. tt))
+execs_within given operands = of_any _ operands (λ image.
+    some_and_then _ (λ steps. Unit {0}) IsWithin (steps_of given) (some_any (steps_of given)) (λ steps n.
+    some_map (ExecImage image steps) (λ stats. Unit {0}) IsWithin (stats_of given) (some_any (stats_of given)) (λ stats m. tt)))
 
 without_any : (asked : Option CommandLine) (operands : List (List ℕ)) → IfSome asked IsWithin → IfSome (without_operand asked operands) IsWithin
 without_any asked [] h = h
@@ -103,7 +106,8 @@ from_within name parts =
     (some_either IsWithin (bytes_eq name (codes "lift")) _ _ (asked_within parts lift_form (files_within LiftFile (λ file. tt)))
     (some_either IsWithin (bytes_eq name (codes "match")) _ _ (asked_within parts match_form (files_within MatchFile (λ file. tt)))
     (some_either IsWithin (bytes_eq name (codes "types")) _ _ (asked_within parts types_form (files_within TypesFile (λ file. tt)))
-    (some_either IsWithin (bytes_eq name (codes "sides")) _ None (asked_within parts sides_form (files_within SidesFile (λ file. tt))) tt))))))))))
+    (some_either IsWithin (bytes_eq name (codes "sides")) _ _ (asked_within parts sides_form (files_within SidesFile (λ file. tt)))
+    (some_either IsWithin (bytes_eq name (codes "points")) _ None (asked_within parts points_form (files_within PointsFile (λ file. tt))) tt)))))))))))
 
 commands_within : (words : List (List ℕ)) → IfSome (command_of words) IsWithin
 commands_within [] = tt

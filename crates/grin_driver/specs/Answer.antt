@@ -1,6 +1,6 @@
 -- What each status says of the words of a command line.
 use Rattle.std.specs.Prelude.{◌≡◌, ℕ, List, Option, Some, None}
-use Rattle.command_line.specs.Commands.{CommandLine, RunFile, CheckFile, ListFile, BuildFile, ExecImage, GenRun, LinkFiles, LiftFile, MatchFile, TypesFile, SidesFile}
+use Rattle.command_line.specs.Commands.{CommandLine, RunFile, CheckFile, ListFile, BuildFile, ExecImage, GenRun, LinkFiles, LiftFile, MatchFile, TypesFile, SidesFile, PointsFile}
 use Rattle.grin_io.specs.Changes.{ShelfChange, SourceChange, SinkChange}
 use Rattle.text_commands.specs.declared.status.Status.{Status}
 use Rattle.text_commands.specs.declared.status.Status.TheVariants.{Usage}
@@ -16,6 +16,7 @@ use Rattle.text_commands.specs.Linking.{Links}
 use Rattle.text_commands.specs.Lifting.{Lifts}
 use Rattle.text_commands.specs.Matching.{Matches}
 use Rattle.text_commands.specs.Typing.{Types, Sides}
+use Rattle.grin_driver.specs.Pointing.{Points}
 use Rattle.generator.specs.Generated.{generated}
 use Rattle.grin_driver.specs.Generating.{Generates}
 
@@ -25,21 +26,22 @@ most_of_image = 1342177281
 
 -- this holds of the files that a command names
 abbrev pub OfNamed : (List ℕ → Type 0) → CommandLine → Type 0
-OfNamed Holds (RunFile file cells stack steps) = Holds file
+OfNamed Holds (RunFile file cells stack steps stats) = Holds file
 OfNamed Holds (CheckFile file) = Holds file
 OfNamed Holds (ListFile file after) = Holds file
 OfNamed Holds (BuildFile file cells stack) = Holds file
-OfNamed Holds (ExecImage image steps) = Holds image
+OfNamed Holds (ExecImage image steps stats) = Holds image
 OfNamed Holds (GenRun seed size) = Unit {0}
 OfNamed Holds (LinkFiles files) = OfEach Holds files
 OfNamed Holds (LiftFile file) = Holds file
 OfNamed Holds (MatchFile file) = Holds file
 OfNamed Holds (TypesFile file) = Holds file
 OfNamed Holds (SidesFile file) = Holds file
+OfNamed Holds (PointsFile file) = Holds file
 
 -- what `run` and `build` ask of an image is within the limits
 abbrev pub IsWithin : CommandLine → Type 0
-IsWithin (RunFile file cells stack steps) = InRange cells stack
+IsWithin (RunFile file cells stack steps stats) = InRange cells stack
 IsWithin (BuildFile file cells stack) = InRange cells stack
 IsWithin _ = Unit {0}
 
@@ -58,7 +60,7 @@ module _ {F I K : Type 0} (f : ShelfChange F) (i : SourceChange I) (o : SinkChan
   -- `exec` read the input.
   abbrev pub Answers : Option CommandLine → Status → Type 0
   Answers None status = IsUsage status
-  Answers (Some (RunFile file cells stack steps)) status =
+  Answers (Some (RunFile file cells stack steps stats)) status =
       OfOperand f most_of_text (IsUntouched i o) file
       (λ text status. Outcome i o text cells stack steps status) status
   Answers (Some (CheckFile file)) status =
@@ -67,7 +69,7 @@ module _ {F I K : Type 0} (f : ShelfChange F) (i : SourceChange I) (o : SinkChan
       FromText file (λ text status. ListsAfter o text after status) status
   Answers (Some (BuildFile file cells stack)) status =
       FromText file (λ text status. Builds o text cells stack status) status
-  Answers (Some (ExecImage image steps)) status =
+  Answers (Some (ExecImage image steps stats)) status =
       OfOperand f most_of_image (IsUntouched i o) image
       (λ bytes status. Execution i o bytes steps status) status
   Answers (Some (GenRun seed size)) status =
@@ -83,3 +85,5 @@ module _ {F I K : Type 0} (f : ShelfChange F) (i : SourceChange I) (o : SinkChan
       FromText file (λ text status. Types o text status) status
   Answers (Some (SidesFile file)) status =
       FromText file (λ text status. Sides o text status) status
+  Answers (Some (PointsFile file)) status =
+      FromText file (λ text status. Points o text status) status

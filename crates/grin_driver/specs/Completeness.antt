@@ -9,7 +9,7 @@ use Rattle.lambda_lift.specs.Rules as lifting
 use Rattle.match_compile.specs.Rules as matching
 use Rattle.core_types.specs.Refused as typing
 use Rattle.elf32.specs.Rules.{KeepsBelow}
-use Rattle.command_line.specs.Commands.{CommandLine, RunFile, CheckFile, ListFile, BuildFile, ExecImage, GenRun, LinkFiles, LiftFile, MatchFile, TypesFile, SidesFile}
+use Rattle.command_line.specs.Commands.{CommandLine, RunFile, CheckFile, ListFile, BuildFile, ExecImage, GenRun, LinkFiles, LiftFile, MatchFile, TypesFile, SidesFile, PointsFile}
 use Rattle.command_line.specs.declared.command.Listing.{Listing}
 use Rattle.command_line.specs.declared.command.Listing.TheVariants.{Read, Translate}
 use Rattle.generator.specs.Generated.{generated}
@@ -82,7 +82,7 @@ module _ {F I K : Type 0} (f : ShelfChange F) (i : SourceChange I) (o : SinkChan
 module _ {F : Type 0} (f : ShelfChange F) where
   abbrev pub Gives : Option CommandLine → Status → Type 0
   Gives None status = status ≡ Usage
-  Gives (Some (RunFile file cells stack steps)) status =
+  Gives (Some (RunFile file cells stack steps stats)) status =
       Or f most_of_text file status (λ text. IsCompilable text → IsEnd status)
   Gives (Some (CheckFile file)) status =
       Or f most_of_text file status (λ text. IsAcceptable text → status ≡ Done)
@@ -90,7 +90,7 @@ module _ {F : Type 0} (f : ShelfChange F) where
       Or f most_of_text file status (λ text. IsListable after text → status ≡ Done)
   Gives (Some (BuildFile file cells stack)) status =
       Or f most_of_text file status (λ text. IsCompilable text → status ≡ Done)
-  Gives (Some (ExecImage image steps)) status =
+  Gives (Some (ExecImage image steps stats)) status =
       Or f most_of_image image status (λ bytes. KeepsBelow 49 bytes → IsStop status)
   Gives (Some (GenRun seed size)) status =
       (status ≡ OutOfMemory) ⊎ (IsCompilable (generated seed size) → IsGenerationsEnd status)
@@ -105,3 +105,5 @@ module _ {F : Type 0} (f : ShelfChange F) where
       Or f most_of_text file status (λ text. typing.IsUnbrokenText text → status ≡ Done)
   Gives (Some (SidesFile file)) status =
       Or f most_of_text file status (λ text. HasSides text → status ≡ Done)
+  Gives (Some (PointsFile file)) status =
+      Or f most_of_text file status (λ text. IsAcceptable text → status ≡ Done)

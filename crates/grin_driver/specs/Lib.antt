@@ -3,8 +3,10 @@ pub mod TypedRuns
 pub mod Listing
 pub mod CodeListing
 pub mod After
+pub mod Pointing
 pub mod Building
 pub mod Generating
 pub mod Execution
 pub mod Answer
+pub mod Costs
 pub mod Completeness

@@ -1,6 +1,6 @@
 //! The command line as a whole.
 
-ghost use Rattle.std.specs.Prelude.{◌≡◌, ◌≤◌, Some, IfSome};
+ghost use Rattle.std.specs.Prelude.{◌≡◌, ◌≤◌, Option, Some, IfSome};
 ghost use Rattle.grin_io.specs.Changes.{of_shelf, of_source, of_sink};
 ghost use Rattle.command_line.specs.Commands.{command_of, asked_by};
 ghost use Rattle.core_link.specs.Laws.{OrderIsFree, StillUnbroken, OneModuleKeeps};
@@ -10,20 +10,23 @@ ghost use Rattle.grin_compile.specs.Limits.{InRange};
 ghost use Rattle.grin_driver.specs.Outcome.{Outcome};
 ghost use Rattle.grin_driver.specs.Building.{Builds};
 ghost use Rattle.grin_driver.specs.After.{ListsAfter};
+ghost use Rattle.grin_driver.specs.Costs.{OfRun, CostsRun, CostsExecution, CostOf, TellsBoth};
+ghost use Rattle.grin_driver.specs.declared.cost.Cost.{Cost};
 ghost use Rattle.grin_driver.specs.Execution.{Execution};
 ghost use Rattle.grin_driver.specs.TypedRuns.{TypedNeverExits};
 ghost use Rattle.text_commands.specs.Operands.{OfOperand, most_of_text};
 ghost use Rattle.grin_driver.specs.Answer.{Answers, IsWithin, OfNamed, most_of_image};
-ghost use Rattle.text_commands.specs.Telling.{IsTold};
 ghost use Rattle.grin_driver.specs.Completeness.{NothingFailed, Gives};
 ghost use Rattle.text_commands.specs.declared.status.Status.TheVariants.{OutOfMemory};
 
 use crate::build::build_text;
-use crate::exec::exec_image;
+use crate::cost::{Cost, Ended};
+use crate::exec::exec_counted;
 use crate::generate::generate;
 use crate::laws::typed_never_exits;
 use crate::list::list_after;
-use crate::run::run_text;
+use crate::points::Points;
+use crate::run::run_counted;
 use command_line::{Command, Line, Listing};
 use core_link::laws::{one_module_keeps, order_is_free, still_unbroken};
 use grin_compile::Options;
@@ -54,7 +57,7 @@ fn run_file<F: Shelf, I: Source, K: Sink>(
     shelf: &mut F,
     input: &mut I,
     out: &mut K,
-) -> Status
+) -> Ended
     requires permitted { F.permitted file.now }
     requires within { InRange options.cells options.stack }
     ensures answer { OfOperand (of_shelf F.content F.faults shelf.old shelf.new) most_of_text
@@ -62,16 +65,20 @@ fn run_file<F: Shelf, I: Source, K: Sink>(
         × (out.new ≡ out.old)) file.now (λ text status.
         Outcome (of_source I.read_gives I.left I.is_over I.faults input.old input.new)
         (of_sink K.put_gives K.taken K.faults out.old out.new) text options.cells options.stack
-        steps status) result }
+        steps status) result.status }
+    ensures cost { OfRun (of_shelf F.content F.faults shelf.old shelf.new)
+        (of_source I.read_gives I.left I.is_over I.faults input.old input.new)
+        (of_sink K.put_gives K.taken K.faults out.old out.new) most_of_text file.now
+        (λ text status cost.
+        CostsRun (of_source I.read_gives I.left I.is_over I.faults input.old input.new)
+        (of_sink K.put_gives K.taken K.faults out.old out.new) text options.cells options.stack
+        steps status cost) result.status result.cost }
     ensures later { (F.faults shelf.old ≤ F.faults shelf.new)
         × ((I.faults input.old ≤ I.faults input.new) × (K.faults out.old ≤ K.faults out.new)) }
 {
     match read_file(alloc, shelf, file, MOST_OF_TEXT) {
-        Ok(text) => {
-            let Options { cells, stack } = options;
-            run_text(alloc, text.as_slice(), cells, stack, steps, input, out)
-        }
-        Err(status) => status,
+        Ok(text) => run_counted(alloc, text.as_slice(), options, steps, input, out),
+        Err(status) => Ended::of(status),
     }
 }
 
@@ -128,19 +135,32 @@ fn exec_file<F: Shelf, I: Source, K: Sink>(
     shelf: &mut F,
     input: &mut I,
     out: &mut K,
-) -> Status
+) -> Ended
     requires { F.permitted file.now }
     ensures answer { OfOperand (of_shelf F.content F.faults shelf.old shelf.new) most_of_image
         ((input.new ≡ input.old)
         × (out.new ≡ out.old)) file.now (λ bytes status.
         Execution (of_source I.read_gives I.left I.is_over I.faults input.old input.new)
-        (of_sink K.put_gives K.taken K.faults out.old out.new) bytes steps status) result }
+        (of_sink K.put_gives K.taken K.faults out.old out.new) bytes steps status) result.status }
+    ensures cost { OfRun (of_shelf F.content F.faults shelf.old shelf.new)
+        (of_source I.read_gives I.left I.is_over I.faults input.old input.new)
+        (of_sink K.put_gives K.taken K.faults out.old out.new) most_of_image file.now
+        (λ bytes status cost.
+        CostsExecution (of_source I.read_gives I.left I.is_over I.faults input.old input.new)
+        (of_sink K.put_gives K.taken K.faults out.old out.new) bytes steps status cost)
+        result.status result.cost }
     ensures later { (F.faults shelf.old ≤ F.faults shelf.new)
         × ((I.faults input.old ≤ I.faults input.new) × (K.faults out.old ≤ K.faults out.new)) }
 {
     match read_file(alloc, shelf, file, MOST_OF_IMAGE) {
-        Ok(bytes) => exec_image(alloc, bytes.as_slice(), steps, input, out),
-        Err(status) => status,
+        Ok(bytes) => {
+            let ran = exec_counted(alloc, bytes.as_slice(), steps, input, out);
+            Ended {
+                status: ran.status,
+                cost: Cost::of_exec(ran.counts),
+            }
+        }
+        Err(status) => Ended::of(status),
     }
 }
 
@@ -151,13 +171,17 @@ fn run_command<F: Shelf, I: Source, K: Sink>(
     shelf: &mut F,
     input: &mut I,
     out: &mut K,
-) -> Status
+) -> Ended
     requires permitted { OfNamed F.permitted (asked_by command.now) }
     requires within { IsWithin (asked_by command.now) }
     ensures answer { Answers (of_shelf F.content F.faults shelf.old shelf.new)
         (of_source I.read_gives I.left I.is_over I.faults input.old input.new)
         (of_sink K.put_gives K.taken K.faults out.old out.new) (Some (asked_by command.now))
-        result }
+        result.status }
+    ensures cost { CostOf (of_shelf F.content F.faults shelf.old shelf.new)
+        (of_source I.read_gives I.left I.is_over I.faults input.old input.new)
+        (of_sink K.put_gives K.taken K.faults out.old out.new) (Some (asked_by command.now))
+        result.status result.cost }
     ensures later { (F.faults shelf.old ≤ F.faults shelf.new)
         × ((I.faults input.old ≤ I.faults input.new) × (K.faults out.old ≤ K.faults out.new)) }
 {
@@ -167,29 +191,35 @@ fn run_command<F: Shelf, I: Source, K: Sink>(
             cells,
             stack,
             steps,
+            stats,
         } => {
             let options = Options {
                 cells: *cells,
                 stack: *stack,
             };
-            run_file(alloc, file, options, *steps, shelf, input, out)
+            run_file(alloc, file, options, *steps, shelf, input, out).asked(*stats)
         }
-        Command::Check { file } => check_file(alloc, file, shelf, out),
-        Command::List { file, after } => list_file(alloc, file, *after, shelf, out),
+        Command::Exec {
+            image,
+            steps,
+            stats,
+        } => exec_file(alloc, image, *steps, shelf, input, out).asked(*stats),
+        Command::Check { file } => Ended::of(check_file(alloc, file, shelf, out)),
+        Command::List { file, after } => Ended::of(list_file(alloc, file, *after, shelf, out)),
         Command::Build { file, cells, stack } => {
             let options = Options {
                 cells: *cells,
                 stack: *stack,
             };
-            build_file(alloc, file, options, shelf, out)
+            Ended::of(build_file(alloc, file, options, shelf, out))
         }
-        Command::Exec { image, steps } => exec_file(alloc, image, *steps, shelf, input, out),
-        Command::Gen { seed, size } => generate(alloc, *seed, *size, out),
-        Command::Link { files } => link_files(alloc, files, shelf, out),
-        Command::Lift { file } => write_file(alloc, &Lift, file, shelf, out),
-        Command::Match { file } => write_file(alloc, &Equations, file, shelf, out),
-        Command::Types { file } => write_file(alloc, &Types, file, shelf, out),
-        Command::Sides { file } => write_file(alloc, &Sides, file, shelf, out),
+        Command::Gen { seed, size } => Ended::of(generate(alloc, *seed, *size, out)),
+        Command::Link { files } => Ended::of(link_files(alloc, files, shelf, out)),
+        Command::Lift { file } => Ended::of(write_file(alloc, &Lift, file, shelf, out)),
+        Command::Match { file } => Ended::of(write_file(alloc, &Equations, file, shelf, out)),
+        Command::Types { file } => Ended::of(write_file(alloc, &Types, file, shelf, out)),
+        Command::Sides { file } => Ended::of(write_file(alloc, &Sides, file, shelf, out)),
+        Command::Points { file } => Ended::of(write_file(alloc, &Points, file, shelf, out)),
     }
 }
 
@@ -200,16 +230,21 @@ fn run_line<F: Shelf, I: Source, K: Sink>(
     shelf: &mut F,
     input: &mut I,
     out: &mut K,
-) -> Status
+) -> Ended
     requires { IfSome (command_of line.now) (OfNamed F.permitted) }
     ensures answer { Answers (of_shelf F.content F.faults shelf.old shelf.new)
         (of_source I.read_gives I.left I.is_over I.faults input.old input.new)
-        (of_sink K.put_gives K.taken K.faults out.old out.new) (command_of line.now) result }
+        (of_sink K.put_gives K.taken K.faults out.old out.new) (command_of line.now)
+        result.status }
+    ensures cost { CostOf (of_shelf F.content F.faults shelf.old shelf.new)
+        (of_source I.read_gives I.left I.is_over I.faults input.old input.new)
+        (of_sink K.put_gives K.taken K.faults out.old out.new) (command_of line.now) result.status
+        result.cost }
     ensures later { (F.faults shelf.old ≤ F.faults shelf.new)
         × ((I.faults input.old ≤ I.faults input.new) × (K.faults out.old ≤ K.faults out.new)) }
 {
     match line.command() {
-        None => Status::Usage,
+        None => Ended::of(Status::Usage),
         Some(command) => run_command(alloc, &command, shelf, input, out),
     }
 }
@@ -221,8 +256,10 @@ fn run_line<F: Shelf, I: Source, K: Sink>(
 /// input; `gen` runs a generated text and puts its summary, `link FILE..` puts the text that
 /// modules are together, `lift FILE` the text of Core that a text with lambdas and local functions
 /// stands for, `match FILE` that of a text of equations, `types FILE` that of a text with types,
-/// which fit, and `sides FILE` the two sides where they do not. A file is read to its end, or up to
-/// the first byte past the longest one. A fault of `err` changes no status.
+/// which fit, and `sides FILE` the two sides where they do not; `points FILE` puts what the analysis
+/// finds. With `--stats` the cost of the run of `run` or `exec` is put behind that line, where the
+/// run stopped. A file is read to its end, or up to the first byte past the longest one. A fault of
+/// `err` changes no status.
 pub fn grinc_main<F: Shelf, I: Source, K: Sink, E: Sink>(
     alloc: Global,
     line: &Line,
@@ -235,7 +272,11 @@ pub fn grinc_main<F: Shelf, I: Source, K: Sink, E: Sink>(
     ensures answer { Answers (of_shelf F.content F.faults shelf.old shelf.new)
         (of_source I.read_gives I.left I.is_over I.faults input.old input.new)
         (of_sink K.put_gives K.taken K.faults out.old out.new) (command_of line.now) result }
-    ensures told { IsTold (of_sink E.put_gives E.taken E.faults err.old err.new) result }
+    ensures told { (cost : Option Cost)
+        × CostOf (of_shelf F.content F.faults shelf.old shelf.new)
+        (of_source I.read_gives I.left I.is_over I.faults input.old input.new)
+        (of_sink K.put_gives K.taken K.faults out.old out.new) (command_of line.now) result cost
+        × TellsBoth (of_sink E.put_gives E.taken E.faults err.old err.new) result cost }
     ensures complete { NothingFailed (of_shelf F.content F.faults shelf.old shelf.new)
         (of_source I.read_gives I.left I.is_over I.faults input.old input.new)
         (of_sink K.put_gives K.taken K.faults out.old out.new)
@@ -263,7 +304,7 @@ pub fn grinc_main<F: Shelf, I: Source, K: Sink, E: Sink>(
     means_its_equations();
     // A law of what is made of a text with types.
     typed_never_exits();
-    let status = run_line(alloc, line, shelf, input, out);
-    status.tell(err);
-    status
+    let ended = run_line(alloc, line, shelf, input, out);
+    ended.tell(err);
+    ended.status
 }

@@ -3,10 +3,13 @@
 ghost use Rattle.std.specs.Prelude.{◌≡◌, ℕ, ◌≤◌, List};
 ghost use Rattle.elf32.specs.Rules.{Refuses};
 ghost use Rattle.grin_io.specs.Changes.{of_source, of_sink};
+ghost use Rattle.grin_driver.specs.Costs.{CountsRun, CountsExecution};
 ghost use Rattle.grin_driver.specs.Execution.{Executes, Execution, IsUnloaded, status_of};
 
+use crate::cost::{Counted, Counts};
 use elf32::{ElfRefusal, Loaded, read};
 use grin_io::{Fault, Sink, Source};
+use rv32_isa::Reg;
 use rv32_machine::{Machine, Stop};
 use std::alloc::Global;
 use text_commands::status::{Status, refused};
@@ -48,23 +51,67 @@ fn execute<I: Source, K: Sink>(
     steps: u64,
     input: &mut I,
     out: &mut K,
-) -> Status
+) -> Counted
     ensures executes { Executes (of_source I.read_gives I.left I.is_over I.faults input.old input.new)
-        (of_sink K.put_gives K.taken K.faults out.old out.new) program.now steps result }
+        (of_sink K.put_gives K.taken K.faults out.old out.new) program.now steps result.status }
+    ensures counts { CountsRun (of_source I.read_gives I.left I.is_over I.faults input.old input.new)
+        (of_sink K.put_gives K.taken K.faults out.old out.new) program.now steps result.status
+        result.counts }
     ensures input_later { I.faults input.old ≤ I.faults input.new }
     ensures out_later { K.faults out.old ≤ K.faults out.new }
 {
     let Ok(mut machine) = Machine::load(alloc, program) else {
-        return Status::OutOfMemory;
+        return Counted {
+            status: Status::OutOfMemory,
+            counts: None,
+        };
     };
-    match machine.run(steps, input, out) {
-        Ok(stop) => ended(&stop),
-        Err(Fault::Read) => Status::ReadFault,
-        Err(Fault::Write) => Status::WriteFault,
+    match machine.run_counted(steps, input, out) {
+        Ok(ran) => Counted {
+            status: ended(&ran.stop),
+            counts: Some(Counts {
+                instructions: ran.done,
+                next_cell: machine.register(Reg(3)),
+            }),
+        },
+        Err(Fault::Read) => Counted {
+            status: Status::ReadFault,
+            counts: None,
+        },
+        Err(Fault::Write) => Counted {
+            status: Status::WriteFault,
+            counts: None,
+        },
     }
 }
 
 /// Loads the bytes of an executable, and runs it on the input for at most so many instructions.
+pub(crate) fn exec_counted<I: Source, K: Sink>(
+    alloc: Global,
+    bytes: &[u8],
+    steps: u64,
+    input: &mut I,
+    out: &mut K,
+) -> Counted
+    ensures executes { Execution (of_source I.read_gives I.left I.is_over I.faults input.old input.new)
+        (of_sink K.put_gives K.taken K.faults out.old out.new) bytes.now steps result.status }
+    ensures counts { CountsExecution
+        (of_source I.read_gives I.left I.is_over I.faults input.old input.new)
+        (of_sink K.put_gives K.taken K.faults out.old out.new) bytes.now steps result.status
+        result.counts }
+    ensures input_later { I.faults input.old ≤ I.faults input.new }
+    ensures out_later { K.faults out.old ≤ K.faults out.new }
+{
+    match read(alloc, bytes) {
+        Ok(program) => execute(alloc, &program, steps, input, out),
+        Err(refusal) => Counted {
+            status: unloadable(&refusal),
+            counts: None,
+        },
+    }
+}
+
+/// The status of `exec_counted` alone.
 pub(crate) fn exec_image<I: Source, K: Sink>(
     alloc: Global,
     bytes: &[u8],
@@ -77,8 +124,5 @@ pub(crate) fn exec_image<I: Source, K: Sink>(
     ensures input_later { I.faults input.old ≤ I.faults input.new }
     ensures out_later { K.faults out.old ≤ K.faults out.new }
 {
-    match read(alloc, bytes) {
-        Ok(program) => execute(alloc, &program, steps, input, out),
-        Err(refusal) => unloadable(&refusal),
-    }
+    exec_counted(alloc, bytes, steps, input, out).status
 }

@@ -1,7 +1,7 @@
 //! The image of a text: accepted, and compiled.
 
-ghost use Rattle.std.specs.Prelude.{◌≡◌, ◌≤◌, length, IfOk, IfErr};
-ghost use Rattle.grin_compile.specs.Limits.{InRange};
+ghost use Rattle.std.specs.Prelude.{◌≡◌, ◌≤◌, ◌*◌, length, IfOk, IfErr};
+ghost use Rattle.grin_compile.specs.Limits.{InRange, heap_bytes};
 ghost use Rattle.grin_driver.specs.Outcome.{IsImageOf, IsUnmade};
 ghost use Rattle.grin_driver.specs.CodeListing.{IsCodeOf};
 
@@ -17,24 +17,29 @@ pub(crate) const DEFAULTS: Options = Options {
     stack: 1_048_576,
 };
 
-/// What is kept of a compiled program: the words of its code, and its image.
+/// What is kept of a compiled program: the words of its code, its image, and the words of a cell.
 #[derive(Drop)]
 pub(crate) struct Built {
     /// The words of the code.
     pub(crate) code: Vec<u32>,
     /// The bytes of the image.
     pub(crate) image: Vec<u8>,
+    /// How many words a cell has.
+    pub(crate) width: u32,
 }
 
-/// Keeps the code and the image of a compiled program. All else of it is dropped here and nowhere
-/// else, since each place where all its stages are dropped takes minutes to prove.
+/// Keeps the code, the image and the width of a cell of a compiled program. All else of it is
+/// dropped here and nowhere else, since each place where all its stages are dropped takes minutes
+/// to prove.
 pub(crate) fn kept(compiled: Compiled) -> Built
     ensures code { result.code.items ≡ compiled.code.items }
     ensures image { result.image.items ≡ compiled.image.items }
+    ensures width { result.width ≡ compiled.low.width }
 {
     Built {
         code: compiled.code,
         image: compiled.image,
+        width: compiled.low.width,
     }
 }
 
@@ -43,6 +48,9 @@ pub(crate) fn compiled(alloc: Global, text: &[u8], options: Options) -> Result<B
     requires { InRange options.cells options.stack }
     ensures image { IfOk result (λ c.
         IsImageOf text.now options.cells options.stack c.image.items) }
+    ensures cell { IfOk result (λ c.
+        (from : IsImageOf text.now options.cells options.stack c.image.items)
+        × (1 ≤ c.width) × (heap_bytes from.made.g 1 ≡ 4 * c.width)) }
     ensures code { IfOk result (λ c. IsCodeOf text.now options.cells options.stack c.code.items) }
     ensures short { IfOk result (λ c. length c.code.items ≤ 268435456) }
     ensures unmade { IfErr result (IsUnmade text.now) }

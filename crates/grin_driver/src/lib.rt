@@ -4,11 +4,13 @@
 mod build;
 mod code;
 mod command;
+mod cost;
 mod exec;
 mod generate;
 mod image;
 pub mod laws;
 mod list;
+mod points;
 mod run;
 
 pub use command::grinc_main;

@@ -3,9 +3,11 @@
 ghost use Rattle.std.specs.Prelude.{◌≡◌, ◌≤◌};
 ghost use Rattle.grin_io.specs.Changes.{of_source, of_sink};
 ghost use Rattle.grin_compile.specs.Limits.{InRange};
+ghost use Rattle.grin_driver.specs.Costs.{CostsText};
 ghost use Rattle.grin_driver.specs.Outcome.{named, Outcome};
 
-use crate::exec::exec_image;
+use crate::cost::{Cost, Ended};
+use crate::exec::exec_counted;
 use crate::image::compiled;
 use grin_compile::Options;
 use grin_io::{Sink, Source};
@@ -27,7 +29,38 @@ pub(crate) fn named(status: Status) -> Status
 /// Compiles a text to an image with so many cells and bytes of stack, and runs it on the input for
 /// at most so many instructions. The stack is rounded down to a multiple of four. Whatever the input
 /// gives, the status says what the program does on the bytes that its reads gave; `Exited` and
-/// `Trapped` are no status of it.
+/// `Trapped` are no status of it. The cost is that of this run.
+pub(crate) fn run_counted<I: Source, K: Sink>(
+    alloc: Global,
+    text: &[u8],
+    options: Options,
+    steps: u64,
+    input: &mut I,
+    out: &mut K,
+) -> Ended
+    requires { InRange options.cells options.stack }
+    ensures outcome { Outcome (of_source I.read_gives I.left I.is_over I.faults input.old input.new)
+        (of_sink K.put_gives K.taken K.faults out.old out.new) text.now options.cells options.stack
+        steps result.status }
+    ensures cost { CostsText (of_source I.read_gives I.left I.is_over I.faults input.old input.new)
+        (of_sink K.put_gives K.taken K.faults out.old out.new) text.now options.cells options.stack
+        steps result.status result.cost }
+    ensures input_later { I.faults input.old ≤ I.faults input.new }
+    ensures out_later { K.faults out.old ≤ K.faults out.new }
+{
+    match compiled(alloc, text, options) {
+        Ok(built) => {
+            let ran = exec_counted(alloc, built.image.as_slice(), steps, input, out);
+            Ended {
+                status: named(ran.status),
+                cost: Cost::of_run(ran.counts, built.width, options.cells),
+            }
+        }
+        Err(status) => Ended { status, cost: None },
+    }
+}
+
+/// The status of the run of a text, with so many cells and bytes of stack.
 pub fn run_text<I: Source, K: Sink>(
     alloc: Global,
     text: &[u8],
@@ -43,8 +76,5 @@ pub fn run_text<I: Source, K: Sink>(
     ensures input_later { I.faults input.old ≤ I.faults input.new }
     ensures out_later { K.faults out.old ≤ K.faults out.new }
 {
-    match compiled(alloc, text, Options { cells, stack }) {
-        Ok(compiled) => named(exec_image(alloc, compiled.image.as_slice(), steps, input, out)),
-        Err(status) => status,
-    }
+    run_counted(alloc, text, Options { cells, stack }, steps, input, out).status
 }

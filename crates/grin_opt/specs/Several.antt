@@ -6,7 +6,7 @@ use Rattle.pass_ground.specs.OpenUpdates.{open_updates}
 use Rattle.case_simplify.specs.Simplified.{Simplified}
 use Rattle.copy_prop.specs.Copied.{Copied}
 use Rattle.flat_blocks.specs.Flattened.{Flattened}
-use Rattle.known_words.specs.KnownWords.{KnownWords}
+use Rattle.known_words.specs.KnownWords.{KnownWords, ToldWords}
 use Rattle.narrow_vectors.specs.NarrowVectors.{NarrowVectors}
 use Rattle.own_cells.specs.Unknown.{FetchesAnew}
 
@@ -31,13 +31,17 @@ Tidied = Then Simplified (Then Flattened Copied)
 abbrev pub Narrowed : Program → Program → Type 0
 Narrowed = Then Simplified (Then Flattened (Then NarrowVectors Copied))
 
--- literals stand for the words that are known; and then the program is tidied
+-- literals stand for the words that alternatives tell; and then the program is tidied
+abbrev pub Told : Program → Program → Type 0
+Told = Then ToldWords Tidied
+
+-- literals stand for the words that are known by the least solution too; and then it is tidied
 abbrev pub Settled : Program → Program → Type 0
 Settled = Then KnownWords Tidied
 
--- twice: more is known of what alternatives give once the literals stand there
+-- first those that are told: the solution says more of a program in which their literals stand
 abbrev pub OfKnownWords : Program → Program → Type 0
-OfKnownWords = MadeBy (Then Settled Settled)
+OfKnownWords = MadeBy (Then Told Settled)
 
 -- no word is fetched from a cell of the procedure's own that is known to hold it; and then the
 -- program is tidied, without the words of vectors that nobody reads

@@ -6,7 +6,7 @@ ghost use Rattle.grin_meaning.specs.Keeps.{Keeps};
 ghost use Rattle.pass_ground.specs.Vectors.{OfVectors};
 ghost use Rattle.case_simplify.specs.Simplified.{Simplified};
 ghost use Rattle.copy_prop.specs.Copied.{Copied};
-ghost use Rattle.grin_opt.specs.Several.{MadeBy, Tidied, Narrowed, Settled, OfKnownWords, OfOwnCells};
+ghost use Rattle.grin_opt.specs.Several.{MadeBy, Tidied, Narrowed, Told, Settled, OfKnownWords, OfOwnCells};
 ghost use Rattle.grin_opt.specs.Schedule.{IsAfterInlining, IsTaken, IsOfStage, Takes, before, IsPassedBy, IsOptimised};
 
 use crate::pass::PassName;
@@ -18,7 +18,7 @@ use fetch_passes::Fetches;
 use flat_blocks::Flatten;
 use grin_meaning::Pass;
 use grin_syntax::Grin;
-use known_words::KnownWords;
+use known_words::{KnownWords, ToldWords};
 use narrow_vectors::NarrowVectors;
 use own_cells::Remember;
 use std::alloc::{AllocError, Global};
@@ -72,7 +72,18 @@ fn narrowed(alloc: Global, g: Grin) -> Result<Grin, AllocError>
     Ok(made)
 }
 
-// Literals for the words that are known, and then what they settle.
+// Literals for the words that alternatives tell, and then what they settle.
+fn told(alloc: Global, g: Grin) -> Result<Grin, AllocError>
+    requires { OfVectors (program_of g) }
+    ensures shape { IfOk result (λ h. MadeBy Told (program_of g) (program_of h)) }
+    ensures meaning { IfOk result (λ h. Keeps (program_of g) (program_of h)) }
+{
+    let told = ToldWords.apply(alloc, g)?;
+    let made = tidied(alloc, told)?;
+    Ok(made)
+}
+
+// The same for the words that are known by the least solution too.
 fn settled(alloc: Global, g: Grin) -> Result<Grin, AllocError>
     requires { OfVectors (program_of g) }
     ensures shape { IfOk result (λ h. MadeBy Settled (program_of g) (program_of h)) }
@@ -83,13 +94,13 @@ fn settled(alloc: Global, g: Grin) -> Result<Grin, AllocError>
     Ok(made)
 }
 
-// The same twice: more is known of what alternatives give once the literals stand there.
+// First without a solution: of a program in which those literals stand it says more.
 fn with_literals(alloc: Global, g: Grin) -> Result<Grin, AllocError>
     requires { OfVectors (program_of g) }
     ensures shape { IfOk result (λ h. OfKnownWords (program_of g) (program_of h)) }
     ensures meaning { IfOk result (λ h. Keeps (program_of g) (program_of h)) }
 {
-    let once = settled(alloc, g)?;
+    let once = told(alloc, g)?;
     let made = settled(alloc, once)?;
     Ok(made)
 }

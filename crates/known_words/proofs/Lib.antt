@@ -1,4 +1,5 @@
 pub mod Literals
+pub mod Tells
 pub mod Words
 pub mod Sound
 pub mod Well

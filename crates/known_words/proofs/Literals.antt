@@ -1,14 +1,12 @@
--- What is told of a variable is what it holds, in states that lie in the solution.
+-- A sole tag of a variable is what it holds, in states that lie in the solution.
 use Rattle.std.proofs.Common.{◌≡◌, ℕ, Bool, true, false, cond, ◌&&◌, List, [], ◌∷◌, Option, Some, None, refl, sym, ap, ◌∙◌, arith}
 use Rattle.std.specs.Prelude.{◌||◌, nat_lt}
 use Rattle.std.proofs.lemmas.Bool.Decides.{nat_tests}
 use Rattle.seq.proofs.Lists.{none_is_some, some_is}
 use Rattle.seq.proofs.Truth.{and_left, and_right, true_not_false}
-use Rattle.grin_syntax.specs.declared.program.VarId.{VarId}
-use Rattle.grin_syntax.specs.declared.program.Word.TheVariants.{Var}
 use Rattle.grin_syntax.specs.Tags.{tag_id}
 use Rattle.grin_syntax.specs.Tree.{Program}
-use Rattle.grin_meaning.specs.Values.{Datum, number, tag as tag', cell, Value, node, words, State, and_then, only_word, word_of}
+use Rattle.grin_meaning.specs.Values.{Datum, number, tag as tag', cell, Value, node, words, State, and_then, only_word}
 use Rattle.flow_system.specs.declared.fact.Element.{Element as AbstractWord}
 use Rattle.flow_system.specs.declared.fact.Element.TheVariants.{Cell as cell_of, Tag as tag, Number as num}
 use Rattle.flow_system.specs.declared.fact.Place.TheVariants.{Var as var}
@@ -18,9 +16,8 @@ use Rattle.flow_system.specs.Covers.{Lies, ValueIn}
 use Rattle.flow_system.proofs.Lying.{from_some}
 use Rattle.case_simplify.specs.declared.known.Known.{Known}
 use Rattle.case_simplify.specs.declared.known.Known.TheVariants.{Tag}
-use Rattle.case_simplify.specs.Known.{Facts}
-use Rattle.case_simplify.proofs.Held.{some_and, datum_of, Holds}
-use Rattle.known_words.specs.Told.{all_are, sole, only_tag, or_else, told_of}
+use Rattle.case_simplify.proofs.Held.{some_and, datum_of}
+use Rattle.known_words.specs.Told.{all_are, sole, only_tag}
 
 -- ---- sets of one tag
 
@@ -76,7 +73,7 @@ module _ (g : Program) (A : Solution) (s : State) (lies : Lies g A s) where
       go (Some (node m)) q e = cc
       go (Some (words ds)) q e = one ds q e
 
-  only_datum : (count x : ℕ) (k : Known) (d : Datum) → only_tag count A x ≡ Some k → and_then (s.env x) only_word ≡ Some d → d ≡ datum_of g k
+  pub only_datum : (count x : ℕ) (k : Known) (d : Datum) → only_tag count A x ≡ Some k → and_then (s.env x) only_word ≡ Some d → d ≡ datum_of g k
   only_datum count x k d q e =
       let z : (t : ℕ) × (sole (A (var x) (word 0)) ≡ Some t) × (cond (nat_lt t count) (Some (Tag (tag_id t))) None ≡ Some k) = some_and (sole (A (var x) (word 0))) (λ t. cond (nat_lt t count) (Some (Tag (tag_id t))) None) k q in
       sole_variable x z.0 d z.1 e ∙ go z.0 (nat_lt z.0 count) z.2
@@ -84,11 +81,3 @@ module _ (g : Program) (A : Solution) (s : State) (lies : Lies g A s) where
       go : (t : ℕ) (b : Bool) → cond b (Some (Tag (tag_id t))) None ≡ Some k → tag' t ≡ datum_of g k
       go t true e = ap (datum_of g) (some_is e)
       go t false e = none_is_some e
-
-  -- a variable holds what is told of it
-  pub told_datum : (count : ℕ) (facts : Facts) → Holds g facts s.env → (x : VarId) (k : Known) (d : Datum) → told_of count A facts x.0 ≡ Some k → word_of g s.env (Var x) ≡ Some d → d ≡ datum_of g k
-  told_datum count facts holds x k d q e = go (facts x.0) refl q
-    where
-      go : (o : Option Known) → facts x.0 ≡ o → or_else o (only_tag count A x.0) ≡ Some k → d ≡ datum_of g k
-      go None r q = only_datum count x.0 k d q e
-      go (Some j) r q = some_is (sym e ∙ holds x.0 j r) ∙ ap (datum_of g) (some_is q)

@@ -11,18 +11,26 @@ use Rattle.flow_system.specs.System.{system}
 use Rattle.flow_system.specs.Solution.{Solution, IsLeast}
 use Rattle.pass_ground.specs.Vectors.{OfVectors}
 use Rattle.known_words.specs.Known.{known}
-use Rattle.known_words.specs.KnownWords.{ByLeast, KnownWords}
-use Rattle.known_words.proofs.Same.{known_kept}
+use Rattle.known_words.specs.KnownWords.{ByLeast, LiteralsBy, KnownWords, ToldWords}
+use Rattle.known_words.specs.Told.{silent}
+use Rattle.known_words.proofs.Tells.{all_silent}
+use Rattle.known_words.proofs.Same.{EachTells, each_tells, known_kept}
 use Rattle.known_words.proofs.Shape.{procs_inlined, procs_by_words, procs_vectorised, procs_narrow, procs_give, procs_params, procs_untold, procs_fewer}
 use Rattle.known_words.proofs.Sizes.{procs_lighter, procs_calls_fewer, procs_words}
 use Rattle.known_words.proofs.Well.{known_formed, known_outside}
 
-module _ (g : Program) (A : Solution) (of : OfVectors g) (least : IsLeast (tables g) (system g) A) where
+looks : (g : Program) → OfVectors g → LooksNeverMissing g
+looks g of = (looking_law g of.ready.inlined).sees of.ready.never_missing of.ready.runs
+
+abbrev AllTell : (g : Program) (A : Solution) → OfVectors g → Type 0
+AllTell g A of = EachTells g A of.formed of.vectorised of.ready.inlined (looks g of)
+
+module _ (g : Program) (A : Solution) (of : OfVectors g) (tells : AllTell g A of) where
   abbrev count : ℕ
   count = length g.tags
 
   kept : LooksNeverMissing (known A g) × Keeps g (known A g)
-  kept = known_kept g A of.formed of.vectorised of.ready.inlined ((looking_law g of.ready.inlined).sees of.ready.never_missing of.ready.runs) least.solves
+  kept = known_kept g A of.formed of.vectorised of.ready.inlined (looks g of) tells
 
   ready : Ready (known A g)
   ready = record {
@@ -41,7 +49,7 @@ module _ (g : Program) (A : Solution) (of : OfVectors g) (least : IsLeast (table
     few_words = procs_words count A (20 * most) g.procs s.few_words;
   }
 
-  whole : KnownWords g (known A g)
+  whole : LiteralsBy A g (known A g)
   whole = record {
     stays = record {
       of_vectors = record { formed = known_formed A g of.formed; ready = ready; vectorised = procs_vectorised count A g.procs of.vectorised };
@@ -49,18 +57,26 @@ module _ (g : Program) (A : Solution) (of : OfVectors g) (least : IsLeast (table
       narrow = λ most. procs_narrow count A most g.procs;
       by_words = procs_by_words count A g.procs;
     };
-    solution = A;
-    least = least;
     known = procs_untold count A g.procs of.vectorised;
     no_more_open = procs_fewer count A g.procs;
     slim = slim;
   }
 
+by_solution : (g : Program) (A : Solution) (of : OfVectors g) → IsLeast (tables g) (system g) A → AllTell g A of
+by_solution g A of least = each_tells g A of.formed of.vectorised of.ready.inlined (looks g of) least.solves
+
 pub is_known : (g h : Program) → OfVectors g → ByLeast g h → KnownWords g h
-is_known g h of m = subst (KnownWords g) (sym m.made) (whole g m.solution of m.least)
+is_known g h of m = record { solution = m.solution; least = m.least; by = subst (LiteralsBy m.solution g) (sym m.made) (whole g m.solution of (by_solution g m.solution of m.least)) }
 
 pub is_kept : (g h : Program) → OfVectors g → ByLeast g h → Keeps g h
-is_kept g h of m = subst (Keeps g) (sym m.made) (kept g m.solution of m.least).1
+is_kept g h of m = subst (Keeps g) (sym m.made) (kept g m.solution of (by_solution g m.solution of m.least)).1
 
 pub by_least : {g h : Program} {A : Solution} → IsLeast (tables g) (system g) A → h ≡ known A g → ByLeast g h
 by_least {A = A} least e = record { solution = A; least = least; made = e }
+
+-- by the alternatives alone
+pub is_told : (g h : Program) → OfVectors g → h ≡ known silent g → ToldWords g h
+is_told g h of e = subst (LiteralsBy silent g) (sym e) (whole g silent of (λ i n. all_silent g _))
+
+pub told_kept : (g h : Program) → OfVectors g → h ≡ known silent g → Keeps g h
+told_kept g h of e = subst (Keeps g) (sym e) (kept g silent of (λ i n. all_silent g _)).1

@@ -45,8 +45,9 @@ use Rattle.known_words.specs.Told.{known_word, known_words, known_val, known_cel
 use Rattle.pass_ground.specs.OpenUpdates.{tag_variable}
 use Rattle.grin_meaning.proofs.OneSided.{arm_left}
 use Rattle.known_words.specs.Needed.{needs, leaves, tags_at}
-use Rattle.known_words.proofs.Fitting.{Left, left_after, never_taken, at_first}
+use Rattle.known_words.proofs.Fitting.{Left, left_after, never_taken}
 use Rattle.known_words.specs.Known.{known_act, known_code, known_arms, known}
+use Rattle.known_words.proofs.Tells.{Tells, all_tell}
 use Rattle.known_words.proofs.Words.{word_too, words_too, value_too, node_too, cells_too, fills_too, node_fills, all_fill_too, places_stay}
 use Rattle.known_words.proofs.Sound.{AllSound, nothing_sound, noted_sound, after_sound}
 use Rattle.known_words.proofs.Well.{known_procedure, act_formed, val_formed}
@@ -57,11 +58,11 @@ module _ (g : Program) (A : Solution) (formed : Formed g) (procs : List Procedur
   abbrev count : ℕ
   count = length g.tags
 
-  -- looking runs, in states that lie in the solution
+  -- looking runs, in states of which the solution tells what holds there
   abbrev pub plan : Plan
-  plan = record { looks = true; K = no_deeper; P = Lies g A; Args = λ f. Same; Result = λ f. Same; g = g; procs = procs }
+  plan = record { looks = true; K = no_deeper; P = Tells g A; Args = λ f. Same; Result = λ f. Same; g = g; procs = procs }
 
-  module _ (c c' : Calls) (cb : CallsBack (Lies g A) c) (cf : CallsFollow plan c c') where
+  module _ (c c' : Calls) (cb : CallsBack (Tells g A) c) (cf : CallsFollow plan c c') where
     abbrev st : Setting
     st = side_by_side plan c c' cb cf
 
@@ -245,7 +246,7 @@ module _ (g : Program) (A : Solution) (formed : Formed g) (procs : List Procedur
     case_goes facts v as' bs' f = case_follows st {R = R facts} {U = OnBoth facts (known_val count A facts v) (lefts (known_val count A facts v))} v (known_val count A facts v) as' bs' f
         (λ x y e.
         let there : value_of g x.env (known_val count A facts v) ≡ Some y = value_too g A facts (at facts x) x.known x.related.1 x.env (λ z u ok h. h) v y e in
-        (y, value_goes facts v x y e, (same, (x.related, there), at_first g A (at facts x) x.known (known_val count A facts v) y there)))
+        (y, value_goes facts v x y e, (same, (x.related, there), x.known.values (known_val count A facts v) y there)))
 
     -- an alternative that stays, or one that no run takes
     module _ (facts : Facts) (v : Val) (s : Shape) (b b' : Code) (as' : Arms) (none : shape_vars s ≡ []) (f : CodeFollows st (Knowing g (noted v s facts)) Same b b') where
@@ -414,15 +415,19 @@ module _ (g : Program) (A : Solution) (formed : Formed g) (procs : List Procedur
 
 -- ---- the whole program
 
-module _ (g : Program) (A : Solution) (formed : Formed g) (vectorised : IsVectorised g) (inlined : IsInlined g) (never : LooksNeverMissing g) (solves : Solves (tables g) (system g) A) where
-  abbrev bodies : List Procedure
-  bodies = map (known_procedure (length g.tags) A) g.procs
+module _ (g : Program) (A : Solution) (formed : Formed g) (vectorised : IsVectorised g) (inlined : IsInlined g) (never : LooksNeverMissing g) where
+  abbrev pub EachTells : Type 0
+  EachTells = (i : List ℕ) (n : ℕ) → Every (Tells g A) (world_of (look g i n)).seen
 
-  all_lie : (i : List ℕ) (n : ℕ) → Every (Lies g A) (world_of (look g i n)).seen
-  all_lie i n = subst (λ a. Every (Lies g A) (world_of a).seen) (sym (look_agrees g i n (never i n))) ((covers g A (formed_is_started g formed) solves).passed i n)
+  pub each_tells : Solves (tables g) (system g) A → EachTells
+  each_tells solves i n = all_tell g A _ (subst (λ a. Every (Lies g A) (world_of a).seen) (sym (look_agrees g i n (never i n))) ((covers g A (formed_is_started g formed) solves).passed i n))
 
-  goes_likewise : (i : List ℕ) (n : ℕ) → Likewise no_deeper Same (look g i n) (look (known A g) i n)
-  goes_likewise i n = run_follows (plan g A formed bodies) (λ c c' cb cf. bodies_go g A formed bodies c c' cb cf 0 g.procs formed.procedures vectorised inlined formed.variables_once) i n same same (all_lie i n)
+  module _ (tells : EachTells) where
+    abbrev bodies : List Procedure
+    bodies = map (known_procedure (length g.tags) A) g.procs
 
-  pub known_kept : LooksNeverMissing (known A g) × Keeps g (known A g)
-  known_kept = looking_kept g (known A g) never (λ i n. likewise_kept no_deeper Same (look g i n) (look (known A g) i n) (goes_likewise i n))
+    goes_likewise : (i : List ℕ) (n : ℕ) → Likewise no_deeper Same (look g i n) (look (known A g) i n)
+    goes_likewise i n = run_follows (plan g A formed bodies) (λ c c' cb cf. bodies_go g A formed bodies c c' cb cf 0 g.procs formed.procedures vectorised inlined formed.variables_once) i n same same (tells i n)
+
+    pub known_kept : LooksNeverMissing (known A g) × Keeps g (known A g)
+    known_kept = looking_kept g (known A g) never (λ i n. likewise_kept no_deeper Same (look g i n) (look (known A g) i n) (goes_likewise i n))

@@ -13,19 +13,18 @@ use Rattle.grin_meaning.specs.Run.{places, cells_of}
 use Rattle.grin_meaning.proofs.Names.{Any}
 use Rattle.grin_meaning.proofs.Plain.{Has, then_has, word_has}
 use Rattle.flow_system.specs.Solution.{Solution}
-use Rattle.flow_system.specs.Covers.{Lies}
 use Rattle.case_simplify.specs.declared.known.Known.{Known}
 use Rattle.case_simplify.specs.declared.known.Known.TheVariants.{Tag, Number}
 use Rattle.case_simplify.specs.Known.{Facts}
 use Rattle.case_simplify.proofs.Held.{datum_of, Holds}
 use Rattle.known_words.specs.Told.{told_of, literal_of, literal_or, known_word, known_words, known_val, known_cells}
-use Rattle.known_words.proofs.Literals.{told_datum}
+use Rattle.known_words.proofs.Tells.{Tells, told_datum}
 
 literal_is : (g : Program) (env : Env) (k : Known) → word_of g env (literal_of k) ≡ Some (datum_of g k)
 literal_is g env (Tag t) = refl
 literal_is g env (Number k) = refl
 
-module _ (g : Program) (A : Solution) (facts : Facts) (s : State) (lies : Lies g A s) (holds : Holds g facts s.env) (env' : Env) (has : Has Any s.env env') where
+module _ (g : Program) (A : Solution) (facts : Facts) (s : State) (tells : Tells g A s) (holds : Holds g facts s.env) (env' : Env) (has : Has Any s.env env') where
   abbrev count : ℕ
   count = length g.tags
 
@@ -37,7 +36,7 @@ module _ (g : Program) (A : Solution) (facts : Facts) (s : State) (lies : Lies g
     where
       go : (o : Option Known) → told_of count A facts x.0 ≡ o → word_of g env' (literal_or x o) ≡ Some d
       go None q = word_has g Any s.env env' has (Var x) tt d e
-      go (Some k) q = literal_is g env' k ∙ ap Some (sym (told_datum g A s lies count facts holds x k d q e))
+      go (Some k) q = literal_is g env' k ∙ ap Some (sym (told_datum g A s tells facts holds x k d q e))
 
   pub words_too : (ws : List Word) (ds : List Datum) → words_of g s.env ws ≡ Some ds → words_of g env' (known_words count A facts ws) ≡ Some ds
   words_too [] ds e = e

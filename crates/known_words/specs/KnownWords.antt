@@ -11,7 +11,7 @@ use Rattle.flow_system.specs.Solution.{Solution, IsLeast}
 use Rattle.pass_ground.specs.OpenUpdates.{tag_variable, open_updates}
 use Rattle.pass_ground.specs.Vectors.{StaysOfVectors}
 use Rattle.case_simplify.specs.Known.{Facts, nothing_known, known_after, noted}
-use Rattle.known_words.specs.Told.{told_of}
+use Rattle.known_words.specs.Told.{silent, told_of}
 use Rattle.known_words.specs.Needed.{tags_at, AllNeeded}
 use Rattle.known_words.specs.Known.{known}
 
@@ -44,13 +44,21 @@ pub record ByLeast (g h : Program) : Type 0 where
   pub least : IsLeast (tables g) (system g) solution
   pub made : h ≡ known solution g
 
--- In h no variable is named of which the alternatives around it, or the least solution of g, tell
--- what it holds, and no alternative of a case is outside that solution. h is as good an input for a
--- pass as g, with no more updates without a literal tag, and no larger.
-pub record KnownWords (g h : Program) : Type 0 where
+-- In h no variable is named of which the alternatives around it, or the solution, tell what it
+-- holds, and no alternative of a case is outside the solution. h is as good an input for a pass as
+-- g, with no more updates without a literal tag, and no larger.
+pub record LiteralsBy (A : Solution) (g h : Program) : Type 0 where
   pub stays : StaysOfVectors g h
-  pub solution : Solution
-  pub least : IsLeast (tables g) (system g) solution
-  pub known : AllOf (λ q. KnownCode (length g.tags) solution nothing_known q.body) h.procs
+  pub known : AllOf (λ q. KnownCode (length g.tags) A nothing_known q.body) h.procs
   pub no_more_open : open_updates h ≤ open_updates g
   pub slim : (size most : ℕ) → Slim size most g → Slim size most h
+
+-- by the least solution of g
+pub record KnownWords (g h : Program) : Type 0 where
+  pub solution : Solution
+  pub least : IsLeast (tables g) (system g) solution
+  pub by : LiteralsBy solution g h
+
+-- by the alternatives alone
+abbrev pub ToldWords : Program → Program → Type 0
+ToldWords = LiteralsBy silent

@@ -14,9 +14,20 @@ use Rattle.flow_system.specs.declared.fact.Element.TheVariants.{Cell as cell_of,
 use Rattle.flow_system.specs.declared.fact.Place.TheVariants.{Var as var}
 use Rattle.flow_system.specs.declared.fact.Part.TheVariants.{Word as word}
 use Rattle.flow_system.specs.Solution.{Solution, same_word}
+use Rattle.points_to.specs.declared.flow.Flow.{Flow}
+use Rattle.points_to.specs.Found.{found}
 use Rattle.case_simplify.specs.declared.known.Known.{Known}
 use Rattle.case_simplify.specs.declared.known.Known.TheVariants.{Tag, Number}
 use Rattle.case_simplify.specs.Known.{Facts}
+
+-- a solution that is silent of all variables
+abbrev pub silent : Solution
+silent p q = []
+
+-- what is read of a solution, if there is one
+abbrev pub reading : Option Flow → Solution
+reading None = silent
+reading (Some flow) = found flow
 
 -- each word of a set is this tag
 abbrev pub all_are : ℕ → List AbstractWord → Bool

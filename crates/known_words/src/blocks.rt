@@ -4,10 +4,10 @@
 ghost use Rattle.std.specs.Prelude.{◌≡◌, map, IfOk, OnOk};
 ghost use Rattle.grin_syntax.specs.Tree.{Code, act_of, before_of, arm_of, arms_of, code_of};
 ghost use Rattle.pass_ground.specs.OpenUpdates.{tag_variable};
-ghost use Rattle.points_to.specs.Found.{found};
 ghost use Rattle.case_simplify.specs.Known.{facts_of};
 ghost use Rattle.case_simplify.specs.Table.{Adds};
 ghost use Rattle.known_words.specs.Needed.{tags_at};
+ghost use Rattle.known_words.specs.Telling.{telling};
 ghost use Rattle.known_words.specs.Known.{known_act, known_code, known_arms, known_arm};
 
 use crate::needed::{is_needed, left_after, tags_at};
@@ -19,7 +19,7 @@ use std::alloc::{AllocError, Global};
 
 #[cycle(known)]
 fn known_op(alloc: Global, told: &Told, facts: &mut FactTable, op: Op) -> Result<Op, AllocError>
-    ensures tree { IfOk result (λ o. act_of o ≡ known_act told.now.count (found told.now.flow.now)
+    ensures tree { IfOk result (λ o. act_of o ≡ known_act told.now.count (telling told.now)
         (facts_of facts.old) (act_of op)) }
     ensures facts { OnOk result (facts.new ≡ facts.old) }
 {
@@ -57,8 +57,8 @@ fn known_alts(
     alts: Seq<Alt>,
 ) -> Result<Seq<Alt>, AllocError>
     ensures tree { IfOk result (λ made. arms_of (map arm_of made) ≡ known_arms told.now.count
-        (found told.now.flow.now) (facts_of facts.old) v.now (tags_at told.now.count
-        (found told.now.flow.now) (tag_variable v.now)) (arms_of (map arm_of alts))) }
+        (telling told.now) (facts_of facts.old) v.now (tags_at told.now.count
+        (telling told.now) (tag_variable v.now)) (arms_of (map arm_of alts))) }
     ensures facts { OnOk result (facts.new ≡ facts.old) }
 {
     let mut left = tags_at(alloc, told, v)?;
@@ -82,7 +82,7 @@ fn known_alt(
     alt: Alt,
 ) -> Result<Alt, AllocError>
     ensures tree { IfOk result (λ a. arm_of a
-        ≡ known_arm told.now.count (found told.now.flow.now) (facts_of facts.old) v.now
+        ≡ known_arm told.now.count (telling told.now) (facts_of facts.old) v.now
         (arm_of alt)) }
     ensures facts { OnOk result (facts.new ≡ facts.old) }
 {
@@ -104,8 +104,8 @@ fn known_stmt(
     stmt: Stmt,
 ) -> Result<Stmt, AllocError>
     ensures tree { IfOk result (λ s. (c : Code) → before_of s (known_code told.now.count
-        (found told.now.flow.now) (facts_of facts.new) c) ≡ known_code told.now.count
-        (found told.now.flow.now) (facts_of facts.old) (before_of stmt c)) }
+        (telling told.now) (facts_of facts.new) c) ≡ known_code told.now.count
+        (telling told.now) (facts_of facts.old) (before_of stmt c)) }
     ensures adds { OnOk result (Adds facts.old facts.new) }
 {
     match stmt {
@@ -127,7 +127,7 @@ pub(crate) fn known_block(
     block: Block,
 ) -> Result<Block, AllocError>
     ensures tree { IfOk result (λ b. code_of b ≡ known_code told.now.count
-        (found told.now.flow.now) (facts_of facts.old) (code_of block)) }
+        (telling told.now) (facts_of facts.old) (code_of block)) }
     ensures facts { OnOk result (facts.new ≡ facts.old) }
 {
     let count = facts.count();

@@ -2,34 +2,45 @@
 #![tactic(auto)]
 
 ghost use Rattle.std.specs.Prelude.{◌≡◌, map, IfOk};
-ghost use Rattle.points_to.specs.Found.{found};
 ghost use Rattle.pass_ground.specs.OpenUpdates.{tag_variable};
-ghost use Rattle.known_words.specs.Needed.{may_fit, without, left_by, needs, leaves, tags_at, numbers_left};
+ghost use Rattle.points_to.specs.Found.{found};
+ghost use Rattle.update_special.specs.Updates.{tags_of};
+ghost use Rattle.known_words.specs.Needed.{may_fit, without, left_by, needs, leaves, if_any, tags_at, numbers_left};
+ghost use Rattle.known_words.specs.Telling.{telling};
 ghost use Rattle.seq.specs.Lists.{is_among};
 
 use crate::told::Told;
-use grin_syntax::{Shape, TagId, Val};
+use grin_syntax::{Shape, TagId, Val, VarId};
 use seq::Seq;
 use std::alloc::{AllocError, Global};
 use update_special::{Tags, tag_variable};
 
+// The tags in the set of a variable, where there are some.
+fn tags_of(alloc: Global, tags: &Tags, x: VarId) -> Result<Option<Seq<TagId>>, AllocError>
+    ensures { IfOk result (λ left. numbers_left left ≡ if_any (tags_of tags.now.count
+        (found tags.now.flow.now) x.0)) }
+{
+    let left = tags.tags_of(alloc, x)?;
+    if left.is_empty() {
+        return Ok(None);
+    }
+    Ok(Some(left))
+}
+
 /// The tags of a value whose tag word is a variable, where this may be a tag.
 pub(crate) fn tags_at(alloc: Global, told: &Told, v: &Val) -> Result<Option<Seq<TagId>>, AllocError>
-    ensures { IfOk result (λ left. numbers_left left ≡ tags_at told.now.count
-        (found told.now.flow.now) (tag_variable v.now)) }
+    ensures { IfOk result (λ left. numbers_left left ≡ tags_at told.now.count (telling told.now)
+        (tag_variable v.now)) }
 {
+    let Some(flow) = told.flow else {
+        return Ok(None);
+    };
+    let tags = Tags {
+        count: told.count,
+        flow,
+    };
     match tag_variable(v) {
-        Some(x) => {
-            let tags = Tags {
-                count: told.count,
-                flow: told.flow,
-            };
-            let left = tags.tags_of(alloc, x)?;
-            if left.is_empty() {
-                return Ok(None);
-            }
-            Ok(Some(left))
-        }
+        Some(x) => tags_of(alloc, &tags, x),
         None => Ok(None),
     }
 }

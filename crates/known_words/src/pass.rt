@@ -1,12 +1,12 @@
 // The pass.
 #![tactic(auto)]
 
-ghost use Rattle.std.specs.Prelude.{◌≡◌, IfOk};
+ghost use Rattle.std.specs.Prelude.{◌≡◌, option_copied, IfOk};
 ghost use Rattle.grin_syntax.specs.Tree.{program_of};
-ghost use Rattle.points_to.specs.Found.{found};
 ghost use Rattle.pass_ground.specs.Vectors.{OfVectors};
 ghost use Rattle.known_words.specs.Known.{known};
-ghost use Rattle.known_words.specs.KnownWords.{ByLeast, KnownWords};
+ghost use Rattle.known_words.specs.KnownWords.{ByLeast, KnownWords, ToldWords};
+ghost use Rattle.known_words.specs.Told.{silent, reading};
 
 use crate::blocks::known_block;
 use crate::told::Told;
@@ -35,17 +35,40 @@ impl Pass for KnownWords {
     }
 }
 
+/// A literal stands for each variable that an alternative around it tells the tag or the number of.
+/// It takes programs of vectors.
+pub struct ToldWords;
+
+impl Pass for ToldWords {
+    ghost takes = { λ g. OfVectors (program_of g) };
+
+    ghost gives = { λ g h. ToldWords (program_of g) (program_of h) };
+
+    fn apply(&self, alloc: Global, g: Grin) -> Result<Grin, AllocError> {
+        let h = with_told_words(alloc, g)?;
+        Ok(h)
+    }
+}
+
+/// What this pass makes of any program, whatever its runs do.
+pub fn with_told_words(alloc: Global, g: Grin) -> Result<Grin, AllocError>
+    ensures { IfOk result (λ h. program_of h ≡ known silent (program_of g)) }
+{
+    let h = with_literals(alloc, g, None)?;
+    Ok(h)
+}
+
 /// What the pass makes of any program, whatever its runs do.
 pub fn with_known_words(alloc: Global, g: Grin) -> Result<Grin, AllocError>
     ensures { IfOk result (λ h. ByLeast (program_of g) (program_of h)) }
 {
     let flow = least(alloc, &g)?;
-    let h = with_literals(alloc, g, &flow)?;
+    let h = with_literals(alloc, g, Some(&flow))?;
     Ok(h)
 }
 
-fn with_literals(alloc: Global, g: Grin, flow: &Flow) -> Result<Grin, AllocError>
-    ensures { IfOk result (λ h. program_of h ≡ known (found flow.now) (program_of g)) }
+fn with_literals(alloc: Global, g: Grin, flow: Option<&Flow>) -> Result<Grin, AllocError>
+    ensures { IfOk result (λ h. program_of h ≡ known (reading (option_copied flow.entry)) (program_of g)) }
 {
     let told = Told {
         count: g.tags.len(),

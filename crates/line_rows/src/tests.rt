@@ -15,7 +15,62 @@ fn line_of(alloc: Global, words: &str) -> Result<Line, AllocError> {
 
 /// `exec a` with a number of instructions.
 const fn exec_a(steps: u64) -> Option<Command<'static>> {
-    Some(Command::Exec { image: "a", steps })
+    Some(Command::Exec {
+        image: "a",
+        steps,
+        stats: false,
+    })
+}
+
+/// `exec a` whose cost is asked for, with a number of instructions.
+const fn cost_of_a(steps: u64) -> Option<Command<'static>> {
+    Some(Command::Exec {
+        image: "a",
+        steps,
+        stats: true,
+    })
+}
+
+#[test]
+fn lines_that_ask_for_the_cost(rt: HostRuntime) -> Result<(), Fail> {
+    let run_a = Some(Command::Run {
+        file: "a",
+        cells: 7,
+        stack: 1_048_576,
+        steps: 1_000_000_000,
+        stats: true,
+    });
+    let rows = [
+        ("grinc exec a --stats", cost_of_a(1_000_000_000)),
+        ("grinc exec --stats a", cost_of_a(1_000_000_000)),
+        ("grinc exec --stats --steps 7 -- a", cost_of_a(7)),
+        ("grinc exec --steps=7 --stats a", cost_of_a(7)),
+        ("grinc exec --stats a --steps 0", None),
+        ("grinc exec --stats", None),
+        ("grinc exec a --stats --stats", None),
+        ("grinc exec a --stats=", None),
+        ("grinc exec a --stats=1", None),
+        ("grinc exec a --stats 1", None),
+        ("grinc exec a --stat", None),
+        ("grinc exec a -stats", None),
+        ("grinc exec a --steps --stats", None),
+        ("grinc exec a -- --stats", None),
+        ("grinc run --stats a --heap 7", run_a),
+        ("grinc run --heap=7 a --stats", run_a),
+        ("grinc run --heap --stats 7 a", None),
+        ("grinc run a --stats=true --heap 7", None),
+        ("grinc build a --stats", None),
+        ("grinc check --stats a", None),
+        ("grinc list a --after read --stats", None),
+        ("grinc gen --seed 1 --size 1 --stats", None),
+        ("grinc lift --stats a", None),
+        ("grinc link --stats a", None),
+    ];
+    for (words, want) in rows {
+        let line = line_of(rt.alloc(), words)?;
+        assert_eq!(rt; line.command(), want, "{words}");
+    }
+    Ok(())
 }
 
 #[test]
@@ -69,6 +124,7 @@ const fn run(file: &'static str) -> Option<Command<'static>> {
         cells: 1_000_000,
         stack: 1_048_576,
         steps: 1_000_000_000,
+        stats: false,
     })
 }
 
@@ -79,6 +135,7 @@ const fn run_a(cells: u32, stack: u32, steps: u64) -> Option<Command<'static>> {
         cells,
         stack,
         steps,
+        stats: false,
     })
 }
 
@@ -232,6 +289,7 @@ fn other_lines(rt: HostRuntime) -> Result<(), Fail> {
             Some(Command::Exec {
                 image: "--steps",
                 steps: 1_000_000_000,
+                stats: false,
             }),
         ),
         ("grinc check a", Some(Command::Check { file: "a" })),
@@ -257,6 +315,13 @@ fn other_lines(rt: HostRuntime) -> Result<(), Fail> {
         ),
         ("grinc sides --after read a", None),
         ("grinc sides a b", None),
+        ("grinc points a", Some(Command::Points { file: "a" })),
+        (
+            "grinc points -- points",
+            Some(Command::Points { file: "points" }),
+        ),
+        ("grinc points --after read a", None),
+        ("grinc points a b", None),
         ("grinc type a", None),
         ("grinc check --steps=1 a", None),
         ("grinc check --heap 1 a", None),

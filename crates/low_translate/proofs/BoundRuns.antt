@@ -115,7 +115,7 @@ module _ (g : grin_tree.Program) (p : low_tree.Program) (fw : ℕ → ℕ) (most
   -- ---- new cells
 
   module _ (same_width : p.width ≡ width) (P : Value → Type 0) (k : ℕ) (cs : List C.Cell) (d : ℕ) (b : Code) (c : low_tree.Code) where
-    module _ (scope : List ℕ) (env : grin.Env) (e : low.Env) (w : grin.World) (frames : ℕ) (h : At scope env e w frames) (once : (x : ℕ) → times x (cell_vars cs) ≤ 1) (lts : AllOf (λ x. x < first) (cell_vars cs)) (nn : AllOf (λ c. NoNodeVar c.val) cs) (r : AllOf (λ c. ValRanged c.val) cs) (few : cells_write cs ≤ procs_write g.procs) where
+    module _ (scope : List ℕ) (env : grin.Env) (e : low.Env) (w : grin.World) (frames : ℕ) (h : At scope env e w frames) (once : (x : ℕ) → times x (cell_vars cs) ≤ 1) (lts : AllOf (λ x. x < first) (cell_vars cs)) (nn : AllOf (λ c. NoNodeVar c.val) cs) (r : AllOf (λ c. ValRanged c.val) cs) (few : cells_write g.tags cs ≤ procs_write g.tags g.procs) where
       abbrev pub env' : grin.Env
       env' = with_vars (grin_run.places (length w.cells) cs) env
 

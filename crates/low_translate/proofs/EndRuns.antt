@@ -108,7 +108,7 @@ module _ (g : grin_tree.Program) (p : low_tree.Program) (fw : ℕ → ℕ) (most
     fetch_fits _ v pv sv gives = tt
 
     module _ (scope : List ℕ) (below : (x : ℕ) → 0 < times x scope → x < first) (env : grin.Env) (e : low.Env) (w : grin.World) (frames : ℕ) (h : At scope env e w frames) where
-      through_runs : (o : Act) → IsThrough o → EachAct inlined_kind o → EachAct vectorised_kind o → PlainRanged o → act_writes o ≤ procs_write g.procs → plain.Lies g p fw most rs first same_globals width wide gcalls lcalls calls_match top under o d
+      through_runs : (o : Act) → IsThrough o → EachAct inlined_kind o → EachAct vectorised_kind o → PlainRanged o → act_writes g.tags o ≤ procs_write g.tags g.procs → plain.Lies g p fw most rs first same_globals width wide gcalls lcalls calls_match top under o d
           → Giving g rs (reach g) most goal (Gives g rs (reach g) most o)
           → Matches P goal.words (act_by g gcalls true env d o w) (does e (through (reach g) rs goal n o) (world_image width frames w))
       through_runs o th inl' vec r few lies gives = subst (λ a. Matches P goal.words a (does e (through (reach g) rs goal n o) (world_image width frames w))) (then_gives (act_by g gcalls true env d o w))
@@ -173,7 +173,7 @@ module _ (g : grin_tree.Program) (p : low_tree.Program) (fw : ℕ → ℕ) (most
               (any_match P goal.words _ _ (subst (λ k. Matches (λ v. Unit {0}) k (gcalls f.0 ds d w) (lcalls f.0 (images ds) b.0 (world_image width frames w))) same
               (calls_match f.0 ds d w b.0 frames u.ranged h.sound b.2 h.within)))
 
-      call_ends : (f : ProcId) (ws : List W.Word) → EachAct inlined_kind (call f ws) → EachAct vectorised_kind (call f ws) → AllOf WordRanged ws → act_writes (call f ws) ≤ procs_write g.procs → Giving g rs (reach g) most goal (Gives g rs (reach g) most (call f ws))
+      call_ends : (f : ProcId) (ws : List W.Word) → EachAct inlined_kind (call f ws) → EachAct vectorised_kind (call f ws) → AllOf WordRanged ws → act_writes g.tags (call f ws) ≤ procs_write g.tags g.procs → Giving g rs (reach g) most goal (Gives g rs (reach g) most (call f ws))
           → Matches P goal.words (act_by g gcalls true env d (call f ws) w) (does e (plain_end (reach g) rs goal n (call f ws)) (world_image width frames w))
       unfolding ActGives
       call_ends f ws inl' vec r few gives = by goal.leaves refl
@@ -186,7 +186,7 @@ module _ (g : grin_tree.Program) (p : low_tree.Program) (fw : ℕ → ℕ) (most
       unfolding act_by code
       fail_ends = fails h.within
 
-      pub end_runs : (o : Act) → IsLeaf o → EachAct inlined_kind o → EachAct vectorised_kind o → PlainRanged o → act_writes o ≤ procs_write g.procs → Giving g rs (reach g) most goal (Gives g rs (reach g) most o)
+      pub end_runs : (o : Act) → IsLeaf o → EachAct inlined_kind o → EachAct vectorised_kind o → PlainRanged o → act_writes g.tags o ≤ procs_write g.tags g.procs → Giving g rs (reach g) most goal (Gives g rs (reach g) most o)
           → Matches P goal.words (act_by g gcalls true env d o w) (does e (plain_end (reach g) rs goal n o) (world_image width frames w))
       unfolding EachAct
       end_runs (unit v) pl inl' vec r few gives = unit_ends v vec.1 r gives

@@ -168,7 +168,7 @@ module _ (g : grin_tree.Program) (p : low_tree.Program) (fw : ℕ → ℕ) (most
                     subst (Match P k (goes (words []) (grin_run.written j w))) (sym path)
                     (finish (write a) go skip (words []) (grin_run.written j w) frames tt (record { cells = h.sound.cells; bytes = h.sound.bytes }) (omega arith) h.within)
 
-        pub update_runs : (a : W.Word) (v : V.Val) → WordRanged a → NoNodeVar v → ValRanged v → fields_in v ≤ procs_write g.procs → Goes P k n xs e c goes → Skips P k xs (update a v) goes
+        pub update_runs : (a : W.Word) (v : V.Val) → WordRanged a → NoNodeVar v → ValRanged v → fields_in g.tags v ≤ procs_write g.tags g.procs → Goes P k n xs e c goes → Skips P k xs (update a v) goes
             → Match P k (grin.then_do (act_by g gcalls true env d (update a v) w) goes) (does e (saves (operand_of a) 0 (fitted (reach g) (operands_of v)) (sets xs [] c)) (world_image width frames w))
         unfolding act_by
         update_runs a v ra nn r few go skip = by (grin.and_then (word_of g env a) place_of) refl

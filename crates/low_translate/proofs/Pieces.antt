@@ -65,7 +65,7 @@ fit_front (suc r) (suc w) [] le h = let e : suc w - 0 ≡ suc w = omega arith in
 fit_front (suc r) (suc w) (x ∷ ws) le h = let e : suc w - suc (length (take r ws)) ≡ w - length (take r ws) = omega arith in ap (λ l. x ∷ l) (ap (λ k. take r ws ++ zeros k) e ∙ fit_front r w ws (omega (arith, le)) (omega (arith, h)))
 
 -- the first words over a cell of zeros, where there are no more
-pub over_zeros : (r w : ℕ) (ws : List Word) → r ≤ w → min w (length ws) ≤ r → over 0 (take r ws) (zeros w) ≡ fit w ws
+over_zeros : (r w : ℕ) (ws : List Word) → r ≤ w → min w (length ws) ≤ r → over 0 (take r ws) (zeros w) ≡ fit w ws
 over_zeros r w ws le h = over_first (take r ws) (zeros w) (omega (arith, le, length-take r ws, length-replicate w (low.number 0))) ∙ ap (λ l. take r ws ++ l) (drop_zeros (length (take r ws)) w) ∙ fit_front r w ws le h
 
 fit_over : (r w : ℕ) (ws us : List Word) → r ≤ w → min w (length ws) ≤ r → length us ≤ r → fit r ws ++ drop r (fit w us) ≡ fit w ws
@@ -80,8 +80,47 @@ fit_over (suc r) (suc w) (x ∷ ws) [] le h k = ap (λ l. x ∷ l) (fit_over r w
 fit_over (suc r) (suc w) (x ∷ ws) (u ∷ us) le h k = ap (λ l. x ∷ l) (fit_over r w ws us (omega (arith, le)) (omega (arith, h)) (omega (arith, k)))
 
 -- the first words over those of a cell, where neither has more
-pub over_fit : (r w : ℕ) (ws us : List Word) → r ≤ w → min w (length ws) ≤ r → length us ≤ r → over 0 (fit r ws) (fit w us) ≡ fit w ws
+over_fit : (r w : ℕ) (ws us : List Word) → r ≤ w → min w (length ws) ≤ r → length us ≤ r → over 0 (fit r ws) (fit w us) ≡ fit w ws
 over_fit r w ws us le h k = over_first (fit r ws) (fit w us) (omega (arith, le, length_fit r ws, length_fit w us)) ∙ ap (λ n. fit r ws ++ drop n (fit w us)) (length_fit r ws) ∙ fit_over r w ws us le h k
+
+-- words that fill a cell as these few do
+head_is : {x y : Word} {xs ys : List Word} → x ∷ xs ≡ y ∷ ys → x ≡ y
+head_is e = cc
+
+take_fit : (r w : ℕ) (ws : List Word) → r ≤ w → take r (fit w ws) ≡ fit r ws
+take_fit zero zero ws le = refl
+take_fit zero (suc w) [] le = refl
+take_fit zero (suc w) (x ∷ ws) le = refl
+take_fit (suc r) zero ws le = absurd (omega (arith, le))
+take_fit (suc r) (suc w) [] le = ap (λ l. low.number 0 ∷ l) (take_fit r w [] (omega (arith, le)))
+take_fit (suc r) (suc w) (x ∷ ws) le = ap (λ l. x ∷ l) (take_fit r w ws (omega (arith, le)))
+
+fit_less : (r w : ℕ) (ws vs : List Word) → r ≤ w → fit w ws ≡ fit w vs → fit r ws ≡ fit r vs
+fit_less r w ws vs le e = sym (take_fit r w ws le) ∙ ap (take r) e ∙ take_fit r w vs le
+
+fit_taken : (r w : ℕ) (ws vs : List Word) → length vs ≤ r → fit w ws ≡ fit w vs → fit w (take r ws) ≡ fit w vs
+fit_taken r zero ws vs h e = refl
+fit_taken zero (suc w) [] vs h e = e
+fit_taken zero (suc w) (x ∷ ws) [] h e = refl
+fit_taken zero (suc w) (x ∷ ws) (v ∷ vs) h e = absurd (omega (arith, h))
+fit_taken (suc r) (suc w) [] vs h e = e
+fit_taken (suc r) (suc w) (x ∷ ws) [] h e = (λ i. head_is e i ∷ fit_taken r w ws [] (omega arith) (ap (drop 1) e) i)
+fit_taken (suc r) (suc w) (x ∷ ws) (v ∷ vs) h e = (λ i. head_is e i ∷ fit_taken r w ws vs (omega (arith, h)) (ap (drop 1) e) i)
+
+take_again : (r : ℕ) (ws : List Word) → take r (take r ws) ≡ take r ws
+take_again zero [] = refl
+take_again zero (w ∷ ws) = refl
+take_again (suc r) [] = refl
+take_again (suc r) (w ∷ ws) = ap (λ l. w ∷ l) (take_again r ws)
+
+-- the first r of them into a new cell
+pub over_front : (r w : ℕ) (ws vs : List Word) → r ≤ w → length vs ≤ r → fit w ws ≡ fit w vs → over 0 (take r ws) (zeros w) ≡ fit w vs
+over_front r w ws vs le few e =
+    ap (λ l. over 0 l (zeros w)) (sym (take_again r ws)) ∙ over_zeros r w (take r ws) le (omega (arith, length-take r ws)) ∙ fit_taken r w ws vs few e
+
+-- r of them over a cell of so few words
+pub over_like : (r w : ℕ) (ws vs us : List Word) → r ≤ w → length vs ≤ r → length us ≤ r → fit w ws ≡ fit w vs → over 0 (fit r ws) (fit w us) ≡ fit w vs
+over_like r w ws vs us le few k e = ap (λ l. over 0 l (fit w us)) (fit_less r w ws vs le e) ∙ over_fit r w vs us le (omega (arith, few)) k
 
 -- ---- further variables
 

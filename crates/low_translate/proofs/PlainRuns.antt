@@ -105,7 +105,7 @@ module _ (g : grin_tree.Program) (p : low_tree.Program) (fw : ℕ → ℕ) (most
       unfolding act_by code
       fail_runs = fails h.within
 
-      pub plain_runs : (o : Act) → IsLeaf o → EachAct inlined_kind o → EachAct vectorised_kind o → PlainRanged o → act_writes o ≤ procs_write g.procs → Lies o d → Going P k n xs e c goes → Skipping P k xs o goes
+      pub plain_runs : (o : Act) → IsLeaf o → EachAct inlined_kind o → EachAct vectorised_kind o → PlainRanged o → act_writes g.tags o ≤ procs_write g.tags g.procs → Lies o d → Going P k n xs e c goes → Skipping P k xs o goes
           → Matches P k (grin.then_do (act_by g gcalls true env d o w) goes) (does e (plain_code (reach g) rs xs n o c) (world_image width frames w))
       unfolding EachAct act_writes
       plain_runs (unit v) pl inl' vec r few le go skip = m.unit_runs g p fw most rs first same_globals width wide gcalls lcalls top under P k n xs e c goes scope env w frames d apart h v vec.1 r go skip

@@ -10,6 +10,7 @@ use Rattle.grin_syntax.specs.Binders.{numbers_of, code_vars, procedure_vars, pro
 use Rattle.grin_syntax.specs.Formed.{AllOf}
 use Rattle.grin_syntax.specs.Fresh.{past_procs}
 use Rattle.grin_syntax.specs.Tree as grin_tree
+use Rattle.grin_syntax.specs.declared.program.Tag.{Tag}
 use Rattle.grin_syntax.specs.Tree.{Procedure}
 use Rattle.grin_syntax.proofs.Unbound.{past_procs_none}
 use Rattle.grin_meaning.specs.Values as grin
@@ -45,10 +46,10 @@ one_of (r ∷ qs) zero q x e = let s : times x (procedure_vars r) ≡ times x (p
 one_of (r ∷ qs) (suc f) q x e = let h = one_of qs f q x e in let a = times_append x (procedure_vars r) (procs_vars qs) in omega (arith, h, a)
 
 -- and how many fields it writes
-one_writes : (qs : List Procedure) (f : ℕ) (q : Procedure) → slice_get qs f ≡ Some q → code_writes q.body ≤ procs_write qs
-one_writes [] f q e = absurd (none_some e)
-one_writes (r ∷ qs) zero q e = let s : code_writes r.body ≡ code_writes q.body = ap (λ z. code_writes z.body) (some_same e) in omega (arith, s)
-one_writes (r ∷ qs) (suc f) q e = let h = one_writes qs f q e in omega (arith, h)
+one_writes : (ts : List Tag) (qs : List Procedure) (f : ℕ) (q : Procedure) → slice_get qs f ≡ Some q → code_writes ts q.body ≤ procs_write ts qs
+one_writes ts [] f q e = absurd (none_some e)
+one_writes ts (r ∷ qs) zero q e = let s : code_writes ts r.body ≡ code_writes ts q.body = ap (λ z. code_writes ts z.body) (some_same e) in omega (arith, s)
+one_writes ts (r ∷ qs) (suc f) q e = let h = one_writes ts qs f q e in omega (arith, h)
 
 scoped_body : (g : grin_tree.Program) → ((x : ℕ) → times x (program_vars g) ≤ 1) → (f : ℕ) (q : Procedure) → slice_get g.procs f ≡ Some q → Scoped (past_procs g.procs) [] (numbers_of q.params ++ code_vars q.body)
 scoped_body g once f q e = record {
@@ -119,7 +120,7 @@ module _ (g : grin_tree.Program) (rs : List ℕ) (fw : ℕ → ℕ) (most : ℕ)
       inlined = all_get (λ q. EachCode inlined_kind q.body) g.procs f q inlined e;
       vectorised = all_get (λ q. EachCode vectorised_kind q.body) g.procs f q vectorised e;
       ranged = all_get (λ q. CodeRanged q.body) g.procs f q ranged e;
-      few = one_writes g.procs f q e;
+      few = one_writes g.tags g.procs f q e;
       gives = λ l. gv;
       scoped = scoped_rest first [] (numbers_of q.params) (code_vars q.body) (scoped_body g once f q e);
       past = past;

@@ -37,28 +37,28 @@ module _ (g : grin_tree.Program) (rs : List ℕ) (width most first : ℕ) where
     pub inlined : Inl
     pub vectorised : Vec
     pub ranged : Ran
-    pub few : writes ≤ procs_write g.procs
+    pub few : writes ≤ procs_write g.tags g.procs
     pub gives : Giving g rs width most goal Gives
     pub scoped : Scoped first scope vars
     pub past : first ≤ n
 
   abbrev pub ActPiece : Goal → List ℕ → ℕ → Act → Type 0
-  ActPiece goal scope n o = Piece (EachAct inlined_kind o) (EachAct vectorised_kind o) (ActRanged o) (act_writes o) (λ r. ActGives (1 + most_value_fields g.tags) rs r o) goal scope (act_vars o) n
+  ActPiece goal scope n o = Piece (EachAct inlined_kind o) (EachAct vectorised_kind o) (ActRanged o) (act_writes g.tags o) (λ r. ActGives (1 + most_value_fields g.tags) rs r o) goal scope (act_vars o) n
 
   abbrev pub CodePiece : Goal → List ℕ → ℕ → Code → Type 0
-  CodePiece goal scope n b = Piece (EachCode inlined_kind b) (EachCode vectorised_kind b) (CodeRanged b) (code_writes b) (λ r. CodeGives (1 + most_value_fields g.tags) rs r b) goal scope (code_vars b) n
+  CodePiece goal scope n b = Piece (EachCode inlined_kind b) (EachCode vectorised_kind b) (CodeRanged b) (code_writes g.tags b) (λ r. CodeGives (1 + most_value_fields g.tags) rs r b) goal scope (code_vars b) n
 
   abbrev pub ArmsPiece : Goal → List ℕ → ℕ → Arms → Type 0
-  ArmsPiece goal scope n as' = Piece (EachArms inlined_kind as') (EachArms vectorised_kind as') (ArmsRanged as') (arms_write as') (λ r. ArmsGive (1 + most_value_fields g.tags) rs r as') goal scope (arms_vars as') n
+  ArmsPiece goal scope n as' = Piece (EachArms inlined_kind as') (EachArms vectorised_kind as') (ArmsRanged as') (arms_write g.tags as') (λ r. ArmsGive (1 + most_value_fields g.tags) rs r as') goal scope (arms_vars as') n
 
   module _ (goal : Goal) (scope : List ℕ) (n : ℕ) where
     after_store : (cs : List _) (b : Code) → CodePiece goal scope n (store cs b) → CodePiece goal (cell_vars cs ++ scope) n b
     unfolding EachAct ActRanged ActGives act_writes act_vars
-    after_store cs b h = record { inlined = h.inlined.1; vectorised = h.vectorised.1; ranged = h.ranged.1; few = (let m : max (cells_write cs) (code_writes b) ≤ procs_write g.procs = h.few in omega (arith, m)); gives = h.gives; scoped = scoped_rest first scope (cell_vars cs) (code_vars b) h.scoped; past = h.past }
+    after_store cs b h = record { inlined = h.inlined.1; vectorised = h.vectorised.1; ranged = h.ranged.1; few = (let m : max (cells_write g.tags cs) (code_writes g.tags b) ≤ procs_write g.tags g.procs = h.few in omega (arith, m)); gives = h.gives; scoped = scoped_rest first scope (cell_vars cs) (code_vars b) h.scoped; past = h.past }
 
-    store_few : (cs : List _) (b : Code) → CodePiece goal scope n (store cs b) → cells_write cs ≤ procs_write g.procs
+    store_few : (cs : List _) (b : Code) → CodePiece goal scope n (store cs b) → cells_write g.tags cs ≤ procs_write g.tags g.procs
     unfolding act_writes
-    store_few cs b h = let m : max (cells_write cs) (code_writes b) ≤ procs_write g.procs = h.few in omega (arith, m)
+    store_few cs b h = let m : max (cells_write g.tags cs) (code_writes g.tags b) ≤ procs_write g.tags g.procs = h.few in omega (arith, m)
 
     store_scoped : (cs : List _) (b : Code) → CodePiece goal scope n (store cs b) → Scoped first scope (cell_vars cs ++ code_vars b)
     unfolding act_vars
@@ -74,7 +74,7 @@ module _ (g : grin_tree.Program) (rs : List ℕ) (width most first : ℕ) where
       inlined = h.inlined.2;
       vectorised = h.vectorised.2;
       ranged = h.ranged.1;
-      few = (let m : max (act_writes o) (code_writes b) ≤ procs_write g.procs = h.few in omega (arith, m));
+      few = (let m : max (act_writes g.tags o) (code_writes g.tags b) ≤ procs_write g.tags g.procs = h.few in omega (arith, m));
       gives = h.gives;
       scoped = scoped_back first (target_vars t ++ scope) (act_vars o) (code_vars b) (scoped_rest first scope (target_vars t) (act_vars o ++ code_vars b) h.scoped);
       past = let p = h.past in omega (arith, p, le);
@@ -86,7 +86,7 @@ module _ (g : grin_tree.Program) (rs : List ℕ) (width most first : ℕ) where
       inlined = h.inlined.1;
       vectorised = h.vectorised.1;
       ranged = h.ranged.0;
-      few = (let m : max (act_writes o) (code_writes b) ≤ procs_write g.procs = h.few in omega (arith, m));
+      few = (let m : max (act_writes g.tags o) (code_writes g.tags b) ≤ procs_write g.tags g.procs = h.few in omega (arith, m));
       gives = λ e. absurd (false_not_true e);
       scoped = scoped_front first scope (act_vars o) (code_vars b) (scoped_back first scope (target_vars t) (act_vars o ++ code_vars b) h.scoped);
       past = h.past;
@@ -110,7 +110,7 @@ module _ (g : grin_tree.Program) (rs : List ℕ) (width most first : ℕ) where
       inlined = h.inlined.1;
       vectorised = h.vectorised.1;
       ranged = h.ranged.1;
-      few = (let m : max (code_writes b) (arms_write more) ≤ procs_write g.procs = h.few in omega (arith, m));
+      few = (let m : max (code_writes g.tags b) (arms_write g.tags more) ≤ procs_write g.tags g.procs = h.few in omega (arith, m));
       gives = λ e. (h.gives e).0;
       scoped = scoped_front first scope (code_vars b) (arms_vars more) (scoped_back first scope (shape_vars s) (code_vars b ++ arms_vars more) h.scoped);
       past = h.past;
@@ -122,7 +122,7 @@ module _ (g : grin_tree.Program) (rs : List ℕ) (width most first : ℕ) where
       inlined = h.inlined.2;
       vectorised = h.vectorised.2;
       ranged = h.ranged.2;
-      few = (let m : max (code_writes b) (arms_write more) ≤ procs_write g.procs = h.few in omega (arith, m));
+      few = (let m : max (code_writes g.tags b) (arms_write g.tags more) ≤ procs_write g.tags g.procs = h.few in omega (arith, m));
       gives = λ e. (h.gives e).1;
       scoped = scoped_back first scope (code_vars b) (arms_vars more) (scoped_back first scope (shape_vars s) (code_vars b ++ arms_vars more) h.scoped);
       past = let p = h.past in omega (arith, p, le);

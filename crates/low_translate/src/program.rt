@@ -81,7 +81,7 @@ fn words_written(g: &Grin) -> u32
     ensures { result ≡ reach (program_of g.now) }
 {
     let most = most_fields(g.tags.as_slice()) as usize;
-    most_written(g.procs.as_slice()).min(most) as u32 + 1
+    most_written(g.tags.as_slice(), g.procs.as_slice()).min(most) as u32 + 1
 }
 
 /// The low code of a program whose procedures give so many words.

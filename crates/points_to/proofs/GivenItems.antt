@@ -57,11 +57,11 @@ picked_in q X {u = u} h =
 pub in_picked : (q : Part) (X : List Item) {u : AbstractWord} → In (item q u) X → In u (picked q X)
 in_picked q X {u = u} h = in_flat (picked_one q) X h (in_when (same_part q q) (u ∷ []) (same_part-self q) here)
 
-enough_is : (k : Option ℕ) (m : ℕ) → enough k m ≡ true → Enough k m
+pub enough_is : (k : Option ℕ) (m : ℕ) → enough k m ≡ true → Enough k m
 enough_is None m e = tt
 enough_is (Some k) m e = lt_from m k e
 
-is_enough : (k : Option ℕ) (m : ℕ) → Enough k m → enough k m ≡ true
+pub is_enough : (k : Option ℕ) (m : ℕ) → Enough k m → enough k m ≡ true
 is_enough None m e = refl
 is_enough (Some k) m e = lt_true m k e
 

@@ -31,6 +31,7 @@ pub mod Registered
 pub mod Elsewhere
 pub mod Whole
 pub mod ValueWords
+pub mod PartWords
 pub mod WholeFetch
 pub mod VectorLoops
 pub mod Spotted

@@ -174,12 +174,12 @@ module _ {X : Type 0} (number : X → ℕ) (H : Place → List Item) (k : Kind) 
       (lt_or_le m n)
 
 -- what readers say
-tag_is : (u : Element) (t : ℕ) → In t (tag_in u) → u ≡ Tag t
+pub tag_is : (u : Element) (t : ℕ) → In t (tag_in u) → u ≡ Tag t
 tag_is (Cell s) t h = none_in h
 tag_is (Tag v) t h = ap Tag (sym (one_in v h))
 tag_is Number t h = none_in h
 
-site_is : (u : Element) (s : ℕ) → In s (site_in u) → u ≡ Cell s
+pub site_is : (u : Element) (s : ℕ) → In s (site_in u) → u ≡ Cell s
 site_is (Cell v) s h = ap Cell (sym (one_in v h))
 site_is (Tag t) s h = none_in h
 site_is Number s h = none_in h

@@ -48,7 +48,7 @@ low_number (suc t) = ap (λ m. m / 64 * 128 + m % 64) next
     next : t + 1 ≡ suc t
     next = omega arith
 
-number_word : (n : ℕ) → number_of (word_of n) ≡ n
+pub number_word : (n : ℕ) → number_of (word_of n) ≡ n
 number_word n = ⊎_elim
     (λ lt. let l : n % 128 < 64 = lt in ap number_of (low_word n l) ∙ low_number (n / 128 * 64 + n % 64) ∙ omega (arith, l))
     (λ le. let l : 64 ≤ n % 128 = le in ap number_of (high_word n l) ∙ omega (arith, l))

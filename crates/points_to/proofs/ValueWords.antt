@@ -24,7 +24,7 @@ use Rattle.seq.proofs.Truth.{and_parts}
 use Rattle.points_to.proofs.GivenItems.{Fetched, the_tag, a_field, a_zero, picked_in, in_picked, fetched_means, in_fetched, nodes_mean, in_nodes}
 use Rattle.points_to.proofs.Spotted.{in_any, any_in}
 
-both : (a b : Bool) → a ≡ true → b ≡ true → (a && b) ≡ true
+pub both : (a b : Bool) → a ≡ true → b ≡ true → (a && b) ≡ true
 both a b e q = ap (λ x. x && b) e ∙ q
 
 not_false : (b : Bool) → not b ≡ true → b ≡ false
@@ -46,14 +46,14 @@ lacks_is k j (Some m) e = let r = and_parts (nat_lt m k) (not (nat_lt j m)) e in
 
 module _ (p : Tables) (H : Place → List Item) where
   -- words that are numbered
-  numbered_at : (at : ℕ → Part) (k : ℕ) (ws : List W.Word) (j n : ℕ) (u : AbstractWord) → n ≡ k + j → In u (elements_of p H (slice_get ws j)) → In (item (at n) u) (numbered p H at k ws)
+  pub numbered_at : (at : ℕ → Part) (k : ℕ) (ws : List W.Word) (j n : ℕ) (u : AbstractWord) → n ≡ k + j → In u (elements_of p H (slice_get ws j)) → In (item (at n) u) (numbered p H at k ws)
   numbered_at at k [] j n u e h = none_in h
   numbered_at at k (w ∷ ws) zero n u e h =
       let same : k ≡ n = omega (arith, e) in
       subst (λ n. In (item (at n) u) (numbered p H at k (w ∷ ws))) same (in_left (in_part (at k) (elements p H w)) (numbered p H at (suc k) ws) (in_map (item (at k)) (elements p H w) h))
   numbered_at at k (w ∷ ws) (suc j) n u e h = in_right (in_part (at k) (elements p H w)) (numbered p H at (suc k) ws) (numbered_at at (suc k) ws j n u (omega (arith, e)) h)
 
-  at_numbered : (at : ℕ → Part) (k : ℕ) (ws : List W.Word) (q : Part) (u : AbstractWord) → In (item q u) (numbered p H at k ws) → (j : ℕ) × (n : ℕ) × (n ≡ k + j) × (q ≡ at n) × In u (elements_of p H (slice_get ws j))
+  pub at_numbered : (at : ℕ → Part) (k : ℕ) (ws : List W.Word) (q : Part) (u : AbstractWord) → In (item q u) (numbered p H at k ws) → (j : ℕ) × (n : ℕ) × (n ≡ k + j) × (q ≡ at n) × In u (elements_of p H (slice_get ws j))
   at_numbered at k [] q u h = none_in h
   at_numbered at k (w ∷ ws) q u h = ⊎_elim
       (λ a. let r = map_in (item (at k)) (elements p H w) a in (0, k, omega arith, ap (λ i. i.part) r.2, subst (λ x. In x (elements p H w)) (sym (ap (λ i. i.word) r.2)) r.1))
@@ -80,13 +80,13 @@ module _ (p : Tables) (H : Place → List Item) where
     abbrev first : List AbstractWord
     first = elements_of p H (slice_get ws 0)
 
-    no_tags : {P : Type 0} (u : AbstractWord) → S tags u → P
+    pub no_tags : {P : Type 0} (u : AbstractWord) → S tags u → P
     no_tags u h = let r = at_numbered word 0 ws tags u h in let e : tags ≡ word r.1 = r.3 in cc
 
-    no_fields : {P : Type 0} (t i : ℕ) (u : AbstractWord) → S (field t i) u → P
+    pub no_fields : {P : Type 0} (t i : ℕ) (u : AbstractWord) → S (field t i) u → P
     no_fields t i u h = let r = at_numbered word 0 ws (field t i) u h in let e : field t i ≡ word r.1 = r.3 in cc
 
-    word_is : (j : ℕ) (u : AbstractWord) → S (word j) u → In u (elements_of p H (slice_get ws j))
+    pub word_is : (j : ℕ) (u : AbstractWord) → S (word j) u → In u (elements_of p H (slice_get ws j))
     word_is j u h =
         let r = at_numbered word 0 ws (word j) u h in
         let e : word j ≡ word r.1 = r.3 in
@@ -229,19 +229,19 @@ module _ (p : Tables) (H : Place → List Item) where
     abbrev M : Sets
     M q u = In (item q u) made
 
-    its_tag_is : (u : AbstractWord) → G tags u → u ≡ tag t.0
+    pub its_tag_is : (u : AbstractWord) → G tags u → u ≡ tag t.0
     its_tag_is u h = ⊎_elim
         (λ a. ap (λ i. i.word) a)
         (λ b. let r = at_numbered (field t.0) 0 ws tags u b in let e : tags ≡ field t.0 r.1 = r.3 in cc)
         (cons_in (item tags (tag t.0)) (numbered p H (field t.0) 0 ws) h)
 
-    no_words : {P : Type 0} (j : ℕ) (u : AbstractWord) → G (word j) u → P
+    pub no_words : {P : Type 0} (j : ℕ) (u : AbstractWord) → G (word j) u → P
     no_words j u h = ⊎_elim
         (λ a. let e : word j ≡ tags = ap (λ i. i.part) a in cc)
         (λ b. let r = at_numbered (field t.0) 0 ws (word j) u b in let e : word j ≡ field t.0 r.1 = r.3 in cc)
         (cons_in (item tags (tag t.0)) (numbered p H (field t.0) 0 ws) h)
 
-    its_field_is : (t' i : ℕ) (u : AbstractWord) → G (field t' i) u → (t' ≡ t.0) × In u (elements_of p H (slice_get ws i))
+    pub its_field_is : (t' i : ℕ) (u : AbstractWord) → G (field t' i) u → (t' ≡ t.0) × In u (elements_of p H (slice_get ws i))
     its_field_is t' i u h = ⊎_elim
         (λ a. let e : field t' i ≡ tags = ap (λ i. i.part) a in cc)
         (λ b.

@@ -1,5 +1,5 @@
 -- Loops over cells, variables and inclusions of a system that reads cells by words.
-use Rattle.std.proofs.Common.{◌≡◌, ◌+◌, ◌<◌, ◌≤◌, ℕ, zero, suc, Bool, true, false, ◌||◌, List, [], ◌∷◌, ◌++◌, length, take, get_or, Some, None, slice_get, refl, sym, ap, ◌∙◌, subst, inl, inr, ⊎_elim, arith}
+use Rattle.std.proofs.Common.{◌≡◌, ◌+◌, ◌<◌, ◌≤◌, ℕ, zero, suc, Bool, true, false, ◌||◌, List, [], ◌∷◌, ◌++◌, map, length, take, get_or, Some, None, slice_get, refl, sym, ap, ◌∙◌, subst, inl, inr, ⊎_elim, arith}
 use Rattle.std.specs.Prelude.{◌⊎◌}
 use Rattle.std.specs.List.{flat_map}
 use Rattle.std.proofs.lemmas.List.{take_all, take_more}
@@ -8,20 +8,24 @@ use Rattle.grin_syntax.specs.declared.program.Word.TheVariants.{Lit, Var, Global
 use Rattle.flow_system.specs.declared.inclusion.Inclusion as code
 use Rattle.flow_system.specs.declared.fact.Element.{Element as AbstractWord}
 use Rattle.flow_system.specs.declared.fact.Element.TheVariants.{Cell as cell_of, Tag as tag, Number as num}
+use Rattle.flow_system.specs.declared.fact.Place.{Place}
 use Rattle.flow_system.specs.declared.fact.Place.TheVariants.{Var as var}
 use Rattle.flow_system.specs.declared.fact.Part.TheVariants.{Word as word}
 use Rattle.flow_system.specs.Inclusions.{Inclusion}
 use Rattle.flow_system.specs.Shown.{inclusion_of, shown}
 use Rattle.flow_system.specs.Tables.{Tables}
 use Rattle.points_to.specs.declared.bits.Bits.{Bits}
+use Rattle.points_to.specs.declared.facts.Item.{Item}
 use Rattle.points_to.specs.declared.kept.Kept.{Kept}
 use Rattle.points_to.specs.declared.stored.Stored.{Stored}
 use Rattle.points_to.specs.declared.vectors.Met.{Met}
+use Rattle.points_to.specs.declared.vectors.WordsOf.{WordsOf}
+use Rattle.points_to.specs.declared.vectors.NotedWords.{NotedWords}
 use Rattle.points_to.specs.Held.{In, here, picked}
 use Rattle.points_to.specs.Known.{held}
 use Rattle.points_to.specs.Rows.{SameMembers, numbers_in}
 use Rattle.points_to.specs.Stored.{stored_at, cell_stored, Stores, StoresAll}
-use Rattle.points_to.specs.Kept.{is_by_words, AllByWords, noted, met_by, MetExact}
+use Rattle.points_to.specs.Kept.{is_by_words, AllByWords, noted, met_by, MetExact, AreWords, WordsExact}
 use Rattle.seq.proofs.Member.{none_in, one_in, in_left, in_right, in_split}
 use Rattle.seq.proofs.Order.{lt_or_le}
 
@@ -139,3 +143,31 @@ module _ (p : Tables) (k : Kept) where
       some_is c d e = cc
   noted_more m m' x b exact same put (Global i) b' e = cc
   noted_more m m' x b exact same put (TagWord t) b' e = cc
+
+-- noted words
+module _ (p : Tables) (cs : List Inclusion) (H : Place → List Item) where
+  pub no_words : (m : NotedWords) → m.entries.items ≡ [] → WordsExact p cs H m
+  no_words m is e h = none_in (subst (In e) is h)
+
+  pub words_more : (m : NotedWords) (ds : List WordsOf) (e : WordsOf) → ds ≡ m.entries.items ++ e ∷ [] → AreWords p cs H e.i (numbers_in e.numbers) e.words → WordsExact p cs H m
+      → (d : WordsOf) → In d ds → AreWords p cs H d.i (numbers_in d.numbers) d.words
+  words_more m ds e is its exact d h = ⊎_elim
+      (λ a. exact d a)
+      (λ b. subst (λ x. AreWords p cs H x.i (numbers_in x.numbers) x.words) (sym (one_in e b)) its)
+      (in_split m.entries.items (e ∷ []) (subst (In d) is h))
+
+  pub words_at : (m : NotedWords) (e : WordsOf) (i : ℕ) (ns : List ℕ) → In e m.entries.items → e.i ≡ i → numbers_in e.numbers ≡ ns → WordsExact p cs H m → AreWords p cs H i ns e.words
+  words_at m e i ns h is same exact =
+      subst (λ l. AreWords p cs H i l e.words) same (subst (λ j. AreWords p cs H j (numbers_in e.numbers) e.words) is (exact e h))
+
+-- blocks by their numbers and their bits
+pub pairs_same : (xs ys : List (ℕ × ℕ)) → map (λ b. b.0) xs ≡ map (λ b. b.0) ys → map (λ b. b.1) xs ≡ map (λ b. b.1) ys → xs ≡ ys
+pairs_same [] [] e q = refl
+pairs_same [] (y ∷ ys) e q = cc
+pairs_same (x ∷ xs) [] e q = cc
+pairs_same (x ∷ xs) (y ∷ ys) e q =
+    let a : x.0 ≡ y.0 = cc in
+    let b : x.1 ≡ y.1 = cc in
+    let rest : map (λ b. b.0) xs ≡ map (λ b. b.0) ys = cc in
+    let more : map (λ b. b.1) xs ≡ map (λ b. b.1) ys = cc in
+    λ i. (a i, b i) ∷ pairs_same xs ys rest more i

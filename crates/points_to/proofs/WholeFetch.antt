@@ -21,13 +21,14 @@ use Rattle.points_to.specs.declared.facts.Item.{Item}
 use Rattle.points_to.specs.declared.facts.Fact.{Fact}
 use Rattle.points_to.specs.declared.kept.Kept.{Kept}
 use Rattle.points_to.specs.declared.vectors.Met.{Met}
+use Rattle.points_to.specs.declared.vectors.Noted.{Noted}
 use Rattle.points_to.specs.Held.{In, item, in_part, picked, elements, fetched}
 use Rattle.points_to.specs.Asked.{fact, asked}
 use Rattle.points_to.specs.Known.{held, solution_of, Grows}
 use Rattle.points_to.specs.Rows.{SameMembers}
 use Rattle.points_to.specs.Stored.{stored_at, cell_stored, values_in, value_at, value_nodes, nodes_of, whole}
 use Rattle.points_to.specs.ValueWords.{stored_words, words_of_values}
-use Rattle.points_to.specs.Kept.{is_elsewhere, met_by, MetSound, MetExact, Grew, IsSound, solution, Steps, MetAtEnd, AllMet}
+use Rattle.points_to.specs.Kept.{is_elsewhere, met_by, MetSound, MetExact, NotedExact, Grew, IsSound, solution, Steps, MetAtEnd, AllMet}
 use Rattle.points_to.proofs.GivenItems.{by_item, picked_in, in_picked, Fetched, the_tag, a_field, a_zero, fetched_means, in_fetched, elements_mean, in_elements}
 use Rattle.points_to.proofs.Exact.{asked_means, in_asked}
 use Rattle.points_to.proofs.Solved.{known_at, at_known}
@@ -209,8 +210,8 @@ module _ (p : Tables) (cs : List Inclusion) where
   pub round_begins : (k : Kept) → RoundSoFar k k false 0
   round_begins k = record { steps = steps_none k; met = λ s e i c lt q. absurd (omega arith) }
 
-  pub round_on : (k k' k'' : Kept) (m : Met) (a b both : Bool) (i : ℕ) (c : Inclusion) → slice_get cs i ≡ Some c → both ≡ (a || b) → MetExact p k m → RoundSoFar k k' a i
-      → Steps p cs k' k'' b → (MetExact p k' m → MetAtEnd p cs k' c b) → RoundSoFar k k'' both (i + 1)
+  pub round_on : (k k' k'' : Kept) (m : Noted) (a b both : Bool) (i : ℕ) (c : Inclusion) → slice_get cs i ≡ Some c → both ≡ (a || b) → NotedExact p cs k m → RoundSoFar k k' a i
+      → Steps p cs k' k'' b → (NotedExact p cs k' m → MetAtEnd p cs k' c b) → RoundSoFar k k'' both (i + 1)
   round_on k k' k'' m a b both i c at e exact x steps met = subst (λ t. RoundSoFar k k'' t (i + 1)) (sym e) (record {
     steps = steps_more k k' k'' a b x.steps steps;
     met = λ s q j d lt r. next s q j d lt r (lt_or_le j i);
@@ -225,7 +226,7 @@ module _ (p : Tables) (cs : List Inclusion) where
           let same : k' ≡ k = x.steps.same (neither_left a b q) in
           let is : j ≡ i = omega (arith, lt, l) in
           let its : c ≡ d = some_same c d (sym at ∙ ap (slice_get cs) (sym is) ∙ r) in
-          let there' : Content p (solution p cs k') c = met (subst (λ y. MetExact p y m) (sym same) exact) (subst (IsSound p cs) (sym same) s) (neither_right a b q) in
+          let there' : Content p (solution p cs k') c = met (subst (λ y. NotedExact p cs y m) (sym same) exact) (subst (IsSound p cs) (sym same) s) (neither_right a b q) in
           subst (λ y. Content p (solution p cs k) y) its (subst (λ y. Content p (solution p cs y) c) same there')
 
   pub round_done : (k k' : Kept) (added : Bool) (n : ℕ) → length cs ≤ n → RoundSoFar k k' added n → IsSound p cs k → added ≡ false → AllMet p cs k'

@@ -1,5 +1,5 @@
 -- What is known of a system that reads cells by words alone.
-use Rattle.std.specs.Prelude.{◌≡◌, ℕ, Bool, true, false, ◌&&◌, ◌||◌, List, [], Option, Some, None, slice_get}
+use Rattle.std.specs.Prelude.{◌≡◌, ℕ, Bool, true, false, ◌&&◌, ◌||◌, List, [], Option, Some, None, slice_get, IfSome}
 use Rattle.std.specs.List.{flat_map}
 use Rattle.grin_syntax.specs.declared.program.Word.{Word}
 use Rattle.grin_syntax.specs.declared.program.Word.TheVariants.{Lit, Var, Global, TagWord}
@@ -16,11 +16,15 @@ use Rattle.points_to.specs.declared.bits.Bits.{Bits}
 use Rattle.points_to.specs.declared.facts.Item.{Item}
 use Rattle.points_to.specs.declared.kept.Kept.{Kept}
 use Rattle.points_to.specs.declared.vectors.Met.{Met}
+use Rattle.points_to.specs.declared.vectors.WordsOf.{WordsOf}
+use Rattle.points_to.specs.declared.vectors.NotedWords.{NotedWords}
+use Rattle.points_to.specs.declared.vectors.Noted.{Noted}
 use Rattle.points_to.specs.Held.{In, elements}
 use Rattle.points_to.specs.Known.{held, solution_of}
 use Rattle.points_to.specs.Rounds.{InEvery}
-use Rattle.points_to.specs.Rows.{numbers_in, SameMembers}
+use Rattle.points_to.specs.Rows.{numbers_in, words_in, SameMembers}
 use Rattle.points_to.specs.Stored.{stored_at, cell_stored, values_in, value_at, whole}
+use Rattle.points_to.specs.ValueWords.{words_of_values}
 
 -- whether a sink is no cell
 abbrev pub is_elsewhere : Sink → Bool
@@ -119,6 +123,23 @@ module _ (p : Tables) where
       → SameMembers (numbers_in b) (met_by p k w)
 
   module _ (cs : List Inclusion) where
+    module _ (H : Place → List Item) where
+      -- these are word i of the values with these numbers
+      abbrev pub AreWords : ℕ → List ℕ → Bits → Type 0
+      AreWords i ns us = SameMembers (words_in us) (words_of_values p (values_in cs) H i ns)
+
+      -- the same of words that may have been noted, and of all that were
+      abbrev pub AreKnown : ℕ → List ℕ → Option Bits → Type 0
+      AreKnown i ns o = IfSome o (AreWords i ns)
+
+      abbrev pub WordsExact : NotedWords → Type 0
+      WordsExact m = (e : WordsOf) → In e m.entries.items → AreWords e.i (numbers_in e.numbers) e.words
+
+    -- what was noted before a round is just what was known then
+    pub record NotedExact (k : Kept) (m : Noted) : Type 0 where
+      pub met : MetExact k m.met
+      pub words : WordsExact (held k.facts) m.words
+
     -- in a solution the nodes of the values are at their sites
     abbrev pub HasStored : Solution → Kept → Type 0
     HasStored B k = (s n : ℕ) (v : Val) → In n (stored_at k.stored s)

@@ -18,6 +18,7 @@ pub mod Met
 pub mod Found
 pub mod Stored
 pub mod ValueWords
+pub mod PartWords
 pub mod Kept
 pub mod Waiting
 pub mod Worklist

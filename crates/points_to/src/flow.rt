@@ -12,12 +12,14 @@ ghost use Rattle.points_to.specs.Known.{held, solution_of};
 ghost use Rattle.points_to.specs.Stored.{tables_in, values_in, whole};
 ghost use Rattle.flow_system.specs.Shown.{tables_of, inclusions_of};
 
+use crate::bits::number_of;
 use crate::facts::{Fact, Facts, Item};
 use crate::met::met_table;
 use crate::origin::Origin;
+use crate::parts::words_in;
 use crate::stored::Stored;
 use crate::stored_tags::stored_table;
-use crate::tables::{site_entry, site_table, tag_entry, tag_table};
+use crate::tables::{site_entry, site_table, sites_of_set, tag_entry, tag_table, tags_of_set};
 use crate::wanted::{Kind, Wanted};
 use flow_system::fact::{Element, Part, Place};
 use flow_system::inclusion::FlowSystem;
@@ -172,6 +174,35 @@ impl Flow {
             (Element.Tag tag.0) }
     {
         self.holds(var, Element::Tag(tag.0))
+    }
+
+    /// The tags in one part of a place, ascending and without repeats.
+    pub fn tags_in(&self, alloc: Global, place: Place, part: Part) -> Result<Seq<TagId>, AllocError>
+        ensures ascending { IfOk result (λ ts. IsStrictlyIncreasing (map (λ t. t.0) ts)) }
+        ensures exact { IfOk result (λ ts. (t : ℕ) → In t (map (λ t. t.0) ts)
+            ↔ At (found self.now) place part (Element.Tag t)) }
+    {
+        let set = words_in(alloc, &self.origin, &self.facts, &self.stored, place, part)?;
+        tags_of_set(alloc, &set)
+    }
+
+    /// The sites of the cells in one part of a place, ascending and without repeats.
+    pub fn sites_in(&self, alloc: Global, place: Place, part: Part) -> Result<Seq<Site>, AllocError>
+        ensures ascending { IfOk result (λ ss. IsStrictlyIncreasing (map (λ s. s.0) ss)) }
+        ensures exact { IfOk result (λ ss. (s : ℕ) → In s (map (λ s. s.0) ss)
+            ↔ At (found self.now) place part (Element.Cell s)) }
+    {
+        let set = words_in(alloc, &self.origin, &self.facts, &self.stored, place, part)?;
+        sites_of_set(alloc, &set)
+    }
+
+    /// Whether a number may stand in one part of a place.
+    pub fn number_in(&self, alloc: Global, place: Place, part: Part) -> Result<bool, AllocError>
+        ensures { IfOk result (λ b. IsTrue b
+            ↔ At (found self.now) place part Element.Number) }
+    {
+        let set = words_in(alloc, &self.origin, &self.facts, &self.stored, place, part)?;
+        Ok(set.has(number_of(Element::Number)))
     }
 
     // Whether a word is among those that a variable of one word may stand for.

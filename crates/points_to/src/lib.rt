@@ -24,6 +24,7 @@ mod met;
 mod nodes;
 mod number_set;
 mod origin;
+mod parts;
 mod pending;
 mod queue;
 mod readers;

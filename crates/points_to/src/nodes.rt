@@ -316,8 +316,8 @@ pub fn as_word(
     Ok(())
 }
 
-// Whether k words, or any number of them, are enough for a tag and m fields.
-fn enough(k: Option<usize>, m: u32) -> bool
+/// Whether k words, or any number of them, are enough for a tag and m fields.
+pub fn enough(k: Option<usize>, m: u32) -> bool
     ensures { result ≡ enough k m }
 {
     match k {

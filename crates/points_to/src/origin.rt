@@ -4,7 +4,8 @@ ghost use Rattle.std.specs.Prelude.{◌≡◌, IfOk};
 ghost use Rattle.std.specs.Option.{option_copied};
 ghost use Rattle.flow_system.specs.Shown.{tables_of, inclusions_of};
 ghost use Rattle.flow_system.specs.Written.{source_of, inclusion_of, shown};
-ghost use Rattle.points_to.specs.Stored.{source_value, value_in, values_in, tables_in};
+ghost use Rattle.flow_system.specs.Tables.{fields_of};
+ghost use Rattle.points_to.specs.Stored.{source_value, value_in, value_at, values_in, tables_in};
 
 use flow_system::inclusion::{FlowSystem, Inclusion, Source};
 use grin_syntax::copies::copy_val;
@@ -16,7 +17,7 @@ use std::alloc::{AllocError, Global};
 #[derive(Drop)]
 pub struct Origin {
     tags: Seq<Tag>,
-    globals: Seq<GlobalCell>,
+    pub(crate) globals: Seq<GlobalCell>,
     params: Seq<Seq<VarId>>,
     values: Seq<Option<Val>>,
 }
@@ -47,6 +48,29 @@ impl Origin {
             params,
             values,
         })
+    }
+
+    /// The number of fields of a tag.
+    pub fn fields_of(&self, t: u32) -> Option<u32>
+        ensures { result ≡ fields_of (tables_in self.now) t }
+    {
+        match self.tags.get(t as usize) {
+            Some(tag) => Some(tag.fields),
+            None => None,
+        }
+    }
+
+    /// The value with a number.
+    pub fn value(&self, n: usize) -> Option<&Val>
+        ensures { option_copied result ≡ value_at self.now.values n }
+    {
+        match self.values.get(n) {
+            Some(value) => match value {
+                Some(v) => Some(v),
+                None => None,
+            },
+            None => None,
+        }
     }
 }
 

@@ -6,6 +6,7 @@ ghost use Rattle.std.specs.List.Sorted.{IsStrictlyIncreasing};
 ghost use Rattle.points_to.specs.Bits.{block_words};
 ghost use Rattle.points_to.specs.Held.{picked};
 ghost use Rattle.points_to.specs.Known.{held};
+ghost use Rattle.points_to.specs.Rows.{words_in};
 ghost use Rattle.points_to.specs.Wanted.{tag_in, site_in, by_parts, place_of, SameSet, Lists, site_id, numbers_by, TagTable, SiteTable};
 ghost use Rattle.grin_syntax.specs.Tags.{tag_id};
 
@@ -67,17 +68,17 @@ fn put_all_tags(blocks: &[(u32, u64)], out: &mut Seq<u32>) -> Result<(), AllocEr
     Ok(())
 }
 
-fn put_all_sites(words: &WordRuns, out: &mut Seq<u32>) -> Result<(), AllocError>
-    ensures { OnOk result (out.new ≡ out.old ++ flat_map site_in words.now) }
+fn put_all_sites(blocks: &[(u32, u64)], out: &mut Seq<u32>) -> Result<(), AllocError>
+    ensures { OnOk result (out.new ≡ out.old ++ flat_map site_in (flat_map block_words blocks.now)) }
 {
-    for block in words.blocks() {
+    for block in blocks {
         put_sites(*block, out)?;
     }
     Ok(())
 }
 
 // The words in one part of a place.
-fn words_in(alloc: Global, facts: &Facts, place: Place, part: Part) -> Result<WordRuns, AllocError>
+fn known_in(alloc: Global, facts: &Facts, place: Place, part: Part) -> Result<WordRuns, AllocError>
     ensures { IfOk result (λ words. words ≡ picked part (held facts.now place)) }
 {
     let mut words = WordRuns::new(alloc);
@@ -97,16 +98,16 @@ fn put_parts(
 {
     match w {
         Wanted::NodeTags => {
-            put_all_tags(words_in(alloc, facts, place, Part::Tags)?.blocks(), out)?;
+            put_all_tags(known_in(alloc, facts, place, Part::Tags)?.blocks(), out)?;
             Ok(())
         }
         Wanted::Tags => {
-            put_all_tags(words_in(alloc, facts, place, Part::Tags)?.blocks(), out)?;
-            put_all_tags(words_in(alloc, facts, place, Part::Word(0))?.blocks(), out)?;
+            put_all_tags(known_in(alloc, facts, place, Part::Tags)?.blocks(), out)?;
+            put_all_tags(known_in(alloc, facts, place, Part::Word(0))?.blocks(), out)?;
             Ok(())
         }
         Wanted::Sites => {
-            put_all_sites(&words_in(alloc, facts, place, Part::Word(0))?, out)?;
+            put_all_sites(known_in(alloc, facts, place, Part::Word(0))?.blocks(), out)?;
             Ok(())
         }
     }
@@ -119,11 +120,34 @@ pub fn tags_in(alloc: Global, words: &WordRuns) -> Result<Seq<TagId>, AllocError
 {
     let mut set = Bits::new(alloc);
     words.put_into(&mut set, 0)?;
+    tags_of_set(alloc, &set)
+}
+
+/// The tags in a set of words, ascending.
+pub fn tags_of_set(alloc: Global, set: &Bits) -> Result<Seq<TagId>, AllocError>
+    ensures ascending { IfOk result (λ ts. IsStrictlyIncreasing (map (λ t. t.0) ts)) }
+    ensures same { IfOk result (λ ts. SameSet (map (λ t. t.0) ts)
+        (flat_map tag_in (words_in set.now))) }
+{
     let mut numbers = Seq::new(alloc);
     put_all_tags(set.blocks.as_slice(), &mut numbers)?;
     let listed = ascending(numbers);
     let mut out = Seq::new(alloc);
     as_tags(listed.as_slice(), &mut out)?;
+    Ok(out)
+}
+
+/// The sites of the cells in a set of words, ascending.
+pub fn sites_of_set(alloc: Global, set: &Bits) -> Result<Seq<Site>, AllocError>
+    ensures ascending { IfOk result (λ ss. IsStrictlyIncreasing (map (λ s. s.0) ss)) }
+    ensures same { IfOk result (λ ss. SameSet (map (λ s. s.0) ss)
+        (flat_map site_in (words_in set.now))) }
+{
+    let mut numbers = Seq::new(alloc);
+    put_all_sites(set.blocks.as_slice(), &mut numbers)?;
+    let listed = ascending(numbers);
+    let mut out = Seq::new(alloc);
+    as_sites(listed.as_slice(), &mut out)?;
     Ok(out)
 }
 

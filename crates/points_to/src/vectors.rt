@@ -2,18 +2,21 @@
 // values, not as the nodes that they stand for. Copies are followed first; rounds over all
 // inclusions then add what is still missing.
 
-ghost use Rattle.std.specs.Prelude.{◌≡◌, ◌≤◌, ◌⊎◌, ℕ, ◌++◌, ◌∷◌, [], ◌||◌, ◌&&◌, Some, None, true, false, slice_get, IsTrue, OnOk, IfOk};
+ghost use Rattle.std.specs.Prelude.{◌≡◌, ◌≤◌, ◌⊎◌, ℕ, List, map, ◌++◌, ◌∷◌, [], ◌||◌, ◌&&◌, Some, None, true, false, slice_get, IsTrue, OnOk, IfOk};
 ghost use Rattle.std.specs.Option.{option_copied};
 ghost use Rattle.std.specs.List.{flat_map};
-ghost use Rattle.flow_system.specs.Inclusions.{value, word_at, flows, to, into_site, into_result, cells_at};
+ghost use Rattle.flow_system.specs.Inclusions.{Inclusion as Inclusion', value, word_at, flows, to, into_site, into_result, cells_at};
 ghost use Rattle.flow_system.specs.Shown.{tables_of, inclusions_of, source_of, sink_of, inclusion_of};
 ghost use Rattle.flow_system.specs.Solution.{IsLeast};
+ghost use Rattle.flow_system.specs.Tables.{Tables};
+ghost use Rattle.flow_system.specs.declared.fact.Place.{Place as Place'};
 ghost use Rattle.points_to.specs.declared.facts.Fact.{Fact as Fact'};
+ghost use Rattle.points_to.specs.declared.facts.Item.{Item as Item'};
 ghost use Rattle.points_to.specs.Asked.{asked};
 ghost use Rattle.points_to.specs.Bits.{block_numbers};
 ghost use Rattle.flow_system.specs.declared.fact.Element.{Element as Element'};
 ghost use Rattle.points_to.specs.Held.{In, in_part, picked};
-ghost use Rattle.points_to.specs.Kept.{is_elsewhere, is_of_words, reads_no_cell, is_plain, flow_by_words, is_by_words, AllByWords, noted, noted_of, met_by, MetSound, MetExact, IsSound, solution, Steps, MetAtEnd, AllMet};
+ghost use Rattle.points_to.specs.Kept.{is_elsewhere, is_of_words, reads_no_cell, is_plain, flow_by_words, is_by_words, AllByWords, noted, noted_of, met_by, MetSound, MetExact, AreWords, AreKnown, WordsExact, NotedExact, IsSound, solution, Steps, MetAtEnd, AllMet};
 ghost use Rattle.points_to.specs.Known.{held};
 ghost use Rattle.points_to.specs.Rows.{numbers_in, words_in, SameMembers, GetsAll};
 ghost use Rattle.points_to.specs.Stored.{stored_at, cell_stored, values_in, StoresAll};
@@ -159,6 +162,227 @@ fn met_of(alloc: Global, system: &FlowSystem, kept: &Kept) -> Result<Met, AllocE
     Ok(met)
 }
 
+/// Word i of the values with these numbers, and the place of the entry before it in its chain.
+#[derive(Drop)]
+pub struct WordsOf {
+    numbers: Bits,
+    i: u32,
+    words: Bits,
+    earlier: usize,
+}
+
+/// Words of values that were put together once. Many variables meet the same values.
+#[derive(Drop)]
+pub struct NotedWords {
+    entries: Vec<WordsOf>,
+    // the place of the last entry of each chain
+    last: Vec<usize>,
+}
+
+// The number of the chain that has word i of the values with these numbers.
+fn chain_of(numbers: &Bits, i: u32) -> usize {
+    i as usize % 16 * 64 + numbers.blocks.len() % 64
+}
+
+fn same_blocks(a: &[(u32, u64)], b: &[(u32, u64)]) -> bool
+    ensures numbers { IsTrue result → map (λ b. b.0) a.now ≡ map (λ b. b.0) b.now }
+    ensures bits { IsTrue result → map (λ b. b.1) a.now ≡ map (λ b. b.1) b.now }
+{
+    if a.len() != b.len() {
+        return false;
+    }
+    for k in 0..a.len() {
+        if a[k].0 != b[k].0 {
+            return false;
+        }
+        if a[k].1 != b[k].1 {
+            return false;
+        }
+    }
+    true
+}
+
+impl WordsOf {
+    // Whether these are word i of the values with these numbers.
+    fn is_of(&self, numbers: &Bits, i: u32) -> bool
+        ensures index { IsTrue result → self.now.i ≡ i }
+        ensures numbers { IsTrue result → numbers_in self.now.numbers ≡ numbers_in numbers.now }
+    {
+        if self.i != i {
+            return false;
+        }
+        let own = self.numbers.blocks.as_slice();
+        let others = numbers.blocks.as_slice();
+        same_blocks(own, others)
+    }
+}
+
+impl NotedWords {
+    fn new(alloc: Global) -> NotedWords
+        ensures { result.entries.items ≡ [] }
+    {
+        NotedWords {
+            entries: Vec::new(alloc),
+            last: Vec::new(alloc),
+        }
+    }
+
+    // The place of the last entry of a chain, past all entries where there is none.
+    fn last_of(&self, chain: usize) -> usize {
+        match self.last.get(chain) {
+            Some(place) => *place,
+            None => usize::MAX,
+        }
+    }
+
+    // Word i of the values with these numbers, where it was noted.
+    fn at(&self, numbers: &Bits, i: u32) -> Option<&Bits>
+        ensures { (p : Tables) (cs : List Inclusion') (H : Place' → List Item')
+            → WordsExact p cs H self.now
+            → AreKnown p cs H i (numbers_in numbers.now) (option_copied result) }
+    {
+        let mut place = self.last_of(chain_of(numbers, i));
+        'chain: while place < self.entries.len() {
+            let entry = &self.entries[place];
+            if entry.is_of(numbers, i) {
+                return Some(&entry.words);
+            }
+            if entry.earlier >= place {
+                return None;
+            }
+            place = entry.earlier;
+        }
+        None
+    }
+
+    fn set_last(&mut self, chain: usize, place: usize) -> Result<(), AllocError>
+        ensures { self.new.entries ≡ self.old.entries }
+    {
+        'growing: while self.last.len() <= chain {
+            self.last.push(usize::MAX)?;
+        }
+        self.last[chain] = place;
+        Ok(())
+    }
+
+    // Notes word i of the values with these numbers, where it is not there yet.
+    fn note_words(
+        &mut self,
+        alloc: Global,
+        system: &FlowSystem,
+        facts: &Facts,
+        numbers: &Bits,
+        i: u32,
+    ) -> Result<(), AllocError>
+        ensures { OnOk result (WordsExact (tables_of system.now) (inclusions_of system.now)
+            (held facts.now) self.old → WordsExact (tables_of system.now)
+            (inclusions_of system.now) (held facts.now) self.new) }
+    {
+        if self.at(numbers, i).is_some() {
+            return Ok(());
+        }
+        let chain = chain_of(numbers, i);
+        let entry = words_of(alloc, system, facts, numbers, i, self.last_of(chain))?;
+        let place = self.entries.len();
+        self.set_last(chain, place)?;
+        self.entries.push(entry)?;
+        Ok(())
+    }
+
+    fn note(
+        &mut self,
+        alloc: Global,
+        system: &FlowSystem,
+        facts: &Facts,
+        met: &Met,
+        inclusion: &Inclusion,
+    ) -> Result<(), AllocError>
+        ensures { OnOk result (WordsExact (tables_of system.now) (inclusions_of system.now)
+            (held facts.now) self.old → WordsExact (tables_of system.now)
+            (inclusions_of system.now) (held facts.now) self.new) }
+    {
+        match inclusion {
+            Inclusion::Flows(Source::WordAt(w, i), _) => match met.of_word(*w) {
+                Some(numbers) => self.note_words(alloc, system, facts, numbers, *i),
+                None => Ok(()),
+            },
+            _ => Ok(()),
+        }
+    }
+}
+
+// Word i of the values with these numbers, as a set.
+fn word_set(
+    alloc: Global,
+    system: &FlowSystem,
+    facts: &Facts,
+    numbers: &Bits,
+    i: u32,
+) -> Result<Bits, AllocError>
+    ensures { IfOk result (AreWords (tables_of system.now) (inclusions_of system.now)
+        (held facts.now) i (numbers_in numbers.now)) }
+{
+    let mut words = WordRuns::new(alloc);
+    let values = numbers.blocks.as_slice();
+    words_of_values(alloc, system, facts, values, i, &mut words)?;
+    let mut found = Bits::new(alloc);
+    words.put_into(&mut found, 0)?;
+    Ok(found)
+}
+
+fn words_of(
+    alloc: Global,
+    system: &FlowSystem,
+    facts: &Facts,
+    numbers: &Bits,
+    i: u32,
+    earlier: usize,
+) -> Result<WordsOf, AllocError>
+    ensures { IfOk result (λ e. AreWords (tables_of system.now) (inclusions_of system.now)
+        (held facts.now) e.i (numbers_in e.numbers) e.words) }
+{
+    let mut own = Bits::new(alloc);
+    own.add_all(numbers.blocks.as_slice(), 0)?;
+    let words = word_set(alloc, system, facts, &own, i)?;
+    Ok(WordsOf {
+        numbers: own,
+        i,
+        words,
+        earlier,
+    })
+}
+
+fn words_noted(
+    alloc: Global,
+    system: &FlowSystem,
+    facts: &Facts,
+    met: &Met,
+) -> Result<NotedWords, AllocError>
+    ensures { IfOk result (WordsExact (tables_of system.now) (inclusions_of system.now)
+        (held facts.now)) }
+{
+    let mut words = NotedWords::new(alloc);
+    for inclusion in system.inclusions.as_slice() {
+        words.note(alloc, system, facts, met, inclusion)?;
+    }
+    Ok(words)
+}
+
+/// What was noted before a round: the values in the cells of variables, and their words.
+#[derive(Drop)]
+pub struct Noted {
+    met: Met,
+    words: NotedWords,
+}
+
+fn note_all(alloc: Global, system: &FlowSystem, kept: &Kept) -> Result<Noted, AllocError>
+    ensures { IfOk result (NotedExact (tables_of system.now) (inclusions_of system.now) kept.now) }
+{
+    let met = met_of(alloc, system, kept)?;
+    let words = words_noted(alloc, system, &kept.facts, &met)?;
+    Ok(Noted { met, words })
+}
+
 fn store_at(alloc: Global, stored: &mut Stored, n: u32, cell: Element) -> Result<bool, AllocError>
     ensures stores { OnOk result (StoresAll (stored_at stored.old) (stored_at stored.new)
         (cell ∷ []) n) }
@@ -244,11 +468,7 @@ fn words_met(
         (words_of_values (tables_of system.now) (values_in (inclusions_of system.now))
         (held kept.now.facts) i (numbers_in numbers.now)))) }
 {
-    let mut words = WordRuns::new(alloc);
-    let values = numbers.blocks.as_slice();
-    words_of_values(alloc, system, &kept.facts, values, i, &mut words)?;
-    let mut found = Bits::new(alloc);
-    words.put_into(&mut found, 0)?;
+    let found = word_set(alloc, system, &kept.facts, numbers, i)?;
     let mut items = ItemRuns::new(alloc);
     for block in found.blocks.as_slice() {
         items.push_block(Part::Word(0), *block)?;
@@ -275,16 +495,41 @@ fn is_known(
     Ok(are_within(words.blocks(), facts.word_blocks(x)))
 }
 
+// The same, where the words may have been noted.
+fn are_known(
+    alloc: Global,
+    system: &FlowSystem,
+    facts: &Facts,
+    numbers: &Bits,
+    noted: Option<&Bits>,
+    i: u32,
+    x: u32,
+) -> Result<bool, AllocError>
+    ensures { IfOk result (λ known. IsTrue known → AreKnown (tables_of system.now)
+        (inclusions_of system.now) (held facts.now) i (numbers_in numbers.now)
+        (option_copied noted.entry) → (u : Element') → In u (words_of_values
+        (tables_of system.now) (values_in (inclusions_of system.now)) (held facts.now) i
+        (numbers_in numbers.now)) → In u (picked (Part.Word 0) (held facts.now (Place.Var x)))) }
+{
+    match noted {
+        Some(words) => Ok(are_within(words.blocks.as_slice(), facts.word_blocks(x))),
+        None => is_known(alloc, system, facts, numbers, i, x),
+    }
+}
+
 // Whether all that is asked so that word i of the values with these numbers reaches a sink is known.
 fn is_there(
     alloc: Global,
     system: &FlowSystem,
     facts: &Facts,
     numbers: &Bits,
+    noted: Option<&Bits>,
     i: u32,
     sink: &Sink,
 ) -> Result<bool, AllocError>
-    ensures { IfOk result (λ known. IsTrue known → (f : Fact') → In f (asked (tables_of system.now)
+    ensures { IfOk result (λ known. IsTrue known → AreKnown (tables_of system.now)
+        (inclusions_of system.now) (held facts.now) i (numbers_in numbers.now)
+        (option_copied noted.entry) → (f : Fact') → In f (asked (tables_of system.now)
         (held facts.now) (Some 1) (in_part (Part.Word 0) (words_of_values (tables_of system.now)
         (values_in (inclusions_of system.now)) (held facts.now) i (numbers_in numbers.now)))
         (sink_of sink.now)) → In f.item (held facts.now f.place)) }
@@ -293,7 +538,7 @@ fn is_there(
         Sink::To(target) => match target {
             Target::Nothing => Ok(false),
             Target::Node(_) => Ok(false),
-            Target::One(x) => is_known(alloc, system, facts, numbers, i, x.0),
+            Target::One(x) => are_known(alloc, system, facts, numbers, noted, i, x.0),
             Target::Vector(_) => Ok(false),
         },
         Sink::Result(_) => Ok(false),
@@ -351,6 +596,7 @@ fn fetch_met(
     i: u32,
     sink: &Sink,
     numbers: &Bits,
+    noted: Option<&Bits>,
 ) -> Result<bool, AllocError>
     requires number { slice_get (inclusions_of system.now) n ≡ Some (inclusion_of inclusion.now) }
     requires is { inclusion_of inclusion.now ≡ flows (word_at w i) (sink_of sink.now) }
@@ -361,10 +607,12 @@ fn fetch_met(
         kept.new) }
     ensures met { IfOk result (λ added. SameMembers (numbers_in numbers.now)
         (met_by (tables_of system.now) kept.old w)
+        → AreKnown (tables_of system.now) (inclusions_of system.now) (held kept.old.facts) i
+        (numbers_in numbers.now) (option_copied noted.entry)
         → MetAtEnd (tables_of system.now) (inclusions_of system.now) kept.old
         (inclusion_of inclusion.now) added) }
 {
-    if is_there(alloc, system, &kept.facts, numbers, i, sink)? {
+    if is_there(alloc, system, &kept.facts, numbers, noted, i, sink)? {
         return Ok(false);
     }
     put_met(alloc, system, kept, n, inclusion, w, i, sink, numbers)
@@ -375,7 +623,7 @@ fn fetch(
     alloc: Global,
     system: &FlowSystem,
     kept: &mut Kept,
-    met: &Met,
+    noted: &Noted,
     n: u32,
     inclusion: &Inclusion,
     w: Word,
@@ -385,18 +633,25 @@ fn fetch(
     requires number { slice_get (inclusions_of system.now) n ≡ Some (inclusion_of inclusion.now) }
     requires is { inclusion_of inclusion.now ≡ flows (word_at w i) (sink_of sink.now) }
     requires elsewhere { is_elsewhere (sink_of sink.now) ≡ true }
-    requires sound { MetSound (tables_of system.now) kept.old met.now }
+    requires sound { MetSound (tables_of system.now) kept.old noted.now.met }
     ensures steps { IfOk result (Steps (tables_of system.now) (inclusions_of system.now) kept.old
         kept.new) }
-    ensures met { IfOk result (λ added. MetExact (tables_of system.now) kept.old met.now
-        → MetAtEnd (tables_of system.now) (inclusions_of system.now) kept.old
+    ensures met { IfOk result (λ added. NotedExact (tables_of system.now) (inclusions_of system.now)
+        kept.old noted.now → MetAtEnd (tables_of system.now) (inclusions_of system.now) kept.old
         (inclusion_of inclusion.now) added) }
 {
-    match met.of_word(w) {
-        Some(numbers) => { fetch_met(alloc, system, kept, n, inclusion, w, i, sink, numbers) }
+    match noted.met.of_word(w) {
+        Some(numbers) => {
+            let words = noted.words.at(numbers, i);
+            fetch_met(
+                alloc, system, kept, n, inclusion, w, i, sink, numbers, words,
+            )
+        }
         None => {
             let numbers = kept.met(alloc, system, w)?;
-            fetch_met(alloc, system, kept, n, inclusion, w, i, sink, &numbers)
+            fetch_met(
+                alloc, system, kept, n, inclusion, w, i, sink, &numbers, None,
+            )
         }
     }
 }
@@ -449,17 +704,17 @@ fn satisfy(
     alloc: Global,
     system: &FlowSystem,
     kept: &mut Kept,
-    met: &Met,
+    noted: &Noted,
     n: u32,
     inclusion: &Inclusion,
 ) -> Result<bool, AllocError>
     requires number { slice_get (inclusions_of system.now) n ≡ Some (inclusion_of inclusion.now) }
     requires by_words { is_by_words (inclusion_of inclusion.now) ≡ true }
-    requires sound { MetSound (tables_of system.now) kept.old met.now }
+    requires sound { MetSound (tables_of system.now) kept.old noted.now.met }
     ensures steps { IfOk result (Steps (tables_of system.now) (inclusions_of system.now) kept.old
         kept.new) }
-    ensures met { IfOk result (λ added. MetExact (tables_of system.now) kept.old met.now
-        → MetAtEnd (tables_of system.now) (inclusions_of system.now) kept.old
+    ensures met { IfOk result (λ added. NotedExact (tables_of system.now) (inclusions_of system.now)
+        kept.old noted.now → MetAtEnd (tables_of system.now) (inclusions_of system.now) kept.old
         (inclusion_of inclusion.now) added) }
 {
     match inclusion {
@@ -469,7 +724,9 @@ fn satisfy(
             Source::ANumber => plain(alloc, system, kept, n, inclusion),
             Source::Result(_) => plain(alloc, system, kept, n, inclusion),
             Source::NodesAt(_) => plain(alloc, system, kept, n, inclusion),
-            Source::WordAt(w, i) => { fetch(alloc, system, kept, met, n, inclusion, *w, *i, sink) }
+            Source::WordAt(w, i) => {
+                fetch(alloc, system, kept, noted, n, inclusion, *w, *i, sink)
+            }
             Source::EvaluatedAt(_) => plain(alloc, system, kept, n, inclusion),
             Source::Extended(_, _) => plain(alloc, system, kept, n, inclusion),
             Source::FieldsOf(_, _) => plain(alloc, system, kept, n, inclusion),
@@ -489,11 +746,11 @@ fn round(alloc: Global, system: &FlowSystem, kept: &mut Kept) -> Result<bool, Al
         kept.old → added ≡ false
         → AllMet (tables_of system.now) (inclusions_of system.now) kept.new) }
 {
-    let met = met_of(alloc, system, kept)?;
+    let noted = note_all(alloc, system, kept)?;
     let mut added = false;
     let mut n: u32 = 0;
     for inclusion in system.inclusions.as_slice() {
-        added = either(added, satisfy(alloc, system, kept, &met, n, inclusion)?);
+        added = either(added, satisfy(alloc, system, kept, &noted, n, inclusion)?);
         n = n.checked_add(1).ok_or(AllocError)?;
     }
     Ok(added)

@@ -9,10 +9,11 @@ use Rattle.rv32_machine.specs.declared.machine.StepResult.TheVariants.{Read as R
 use Rattle.rv32_machine.specs.declared.machine.Stop.{Stop}
 use Rattle.rv32_machine.specs.declared.machine.Stop.TheVariants.{Steps}
 use Rattle.rv32_machine.specs.Steps.{State, Stand, IsAt, IsRunning, Does, state_of, step, given}
-use Rattle.rv32_machine.specs.Runs.{piece_of, Answered, Interrupted}
+use Rattle.rv32_machine.specs.Runs.{piece_of, Counted, Interrupted}
 use Rattle.rv32_machine.specs.Plain.{GoesOn, Halts}
 use Rattle.rv32_machine.specs.OneByte.{GaveOne}
-use Rattle.rv32_machine.proofs.Loops.{Kept, starts, plain_turn, read_turn, last_turn, read_fails, put_fails}
+use Rattle.rv32_machine.proofs.Loops.{Kept, starts, plain_turn, read_turn, counted_turn, read_fails, put_fails}
+use Rattle.rv32_machine.proofs.Counts.{count_all}
 use Rattle.rv32_machine.proofs.OneStep.{Turns, next_turns, next_piece_is}
 
 module _ {I K : Type 0} (reads : I → ℕ → Option (List ℕ) → I → Type 0) (left : I → Option (List ℕ)) (is_over : I → Type 0) (lost : I → ℕ)
@@ -25,6 +26,21 @@ module _ {I K : Type 0} (reads : I → ℕ → Option (List ℕ) → I → Type 
   begins steps m at over waiting =
       let count : steps - steps ≡ 0 = omega arith in
       subst (λ j. At j m first old) (sym count) (starts reads left is_over lost gives taken faults s first old m at over waiting)
+
+  -- where it goes on, all steps are done
+  pub counted_all : (steps : ℕ) (new : Stand) (input : I) (out : K) → At steps new input out
+      → Counted (of_source reads left is_over lost first input) (of_sink gives taken faults old out) steps s Steps steps new
+  counted_all steps new input out kept = record {
+    answered = kept;
+    counts = λ i b. count_all steps i s new (kept.stays i b).stands;
+  }
+
+  -- and behind the last of them
+  pub counted_end : (steps rest : ℕ) → rest ≡ 0 → (new : Stand) (input : I) (out : K) → At (steps - rest) new input out
+      → Counted (of_source reads left is_over lost first input) (of_sink gives taken faults old out) steps s Steps steps new
+  counted_end steps rest none new input out kept =
+      let count : steps - rest ≡ steps = omega (arith, none) in
+      counted_all steps new input out (subst (λ j. At j new input out) count kept)
 
   gone_on : (n k : ℕ) (m new : Stand) (input : I) (out : K) → At k m input out → GoesOn n m new → At (k + n) new input out
   gone_on zero k m new input out kept h =
@@ -57,10 +73,11 @@ module _ {I K : Type 0} (reads : I → ℕ → Option (List ℕ) → I → Type 
 
       -- and is the last one
       pub ends_all : (stop : Stop) → (stop ≡ Steps → ⊥) → ((ended : Bool) → Turns (state_of a.1.at) [] ended stop new) → piece_of (step (state_of a.1.at)) ≡ []
-          → Answered (of_source reads left is_over lost first input) (of_sink gives taken faults old out) steps s stop new
-      ends_all stop ended t none =
-          last_turn reads left is_over lost gives taken faults s first old ((steps - rest) + plain) a.1.at input out before new steps stop below ended (t before.ended) out
-          (took_none gives taken faults out (piece_of (step (state_of a.1.at))) none)
+          → (done : ℕ) → done ≡ ((steps - rest) + plain) + 1 → Counted (of_source reads left is_over lost first input) (of_sink gives taken faults old out) steps s stop done new
+      ends_all stop ended t none done is =
+          subst (λ n. Counted (of_source reads left is_over lost first input) (of_sink gives taken faults old out) steps s stop n new) (sym is)
+          (counted_turn reads left is_over lost gives taken faults s first old ((steps - rest) + plain) a.1.at input out before new steps stop below ended (t before.ended) out
+          (took_none gives taken faults out (piece_of (step (state_of a.1.at))) none))
 
       -- and the program goes on, behind a write
       pub goes_further : (out' : K) → ((ended : Bool) → Turns (state_of a.1.at) [] ended Steps new) → TookAll (of_sink gives taken faults out out') (piece_of (step (state_of a.1.at)))

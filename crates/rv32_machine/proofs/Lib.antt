@@ -1,6 +1,7 @@
 pub mod Composed
 pub mod OneStep
 pub mod Sources
+pub mod Counts
 pub mod Loops
 pub mod Advanced
 pub mod Division

@@ -13,8 +13,9 @@ use Rattle.rv32_machine.specs.OneByte.{GaveOne}
 use Rattle.rv32_machine.specs.declared.machine.Stop.{Stop}
 use Rattle.rv32_machine.specs.declared.machine.Stop.TheVariants.{Steps}
 use Rattle.rv32_machine.specs.Steps.{State, Outcome, Next, Written, Asked, Ended, Trapped, Stand, state_of, Does, IsAt, step, given}
-use Rattle.rv32_machine.specs.Runs.{End, Going, Exited, Stopped, after, onward, run, piece_of, next_piece, pieces, used, continued, has_ended, Stays, StandsAt, AsksForMore, Answered, Interrupted, PiecesAreTheOutput}
+use Rattle.rv32_machine.specs.Runs.{End, Going, Exited, Stopped, after, onward, run, piece_of, next_piece, pieces, used, continued, has_ended, Stays, StandsAt, AsksForMore, Answered, Counted, Interrupted, PiecesAreTheOutput}
 use Rattle.rv32_machine.proofs.Composed.{runs_compose, end_stays, input_is_used_in_order, run_none, run_more}
+use Rattle.rv32_machine.proofs.Counts.{ends, all_steps, count_ends}
 use Rattle.rv32_machine.proofs.OneStep.{Turns, byte_turns, end_turns, byte_used, read_piece_is}
 use Rattle.rv32_machine.proofs.Sources.{narrow, behind, followed, gave_none, gave_byte, gave_end}
 use Rattle.grin_io.proofs.Changes.{took_none, took_join, paused_none, broke_join}
@@ -31,17 +32,6 @@ pub joined : (k : ℕ) (i : List ℕ) (s : State) (m : Stand) → StandsAt (run 
 joined k i s m h =
     let r = run k i s in
     runs_compose k 1 i s ∙ one_more r.out r.left r.end m h
-
-ends : (e : End) (stop : Stop) (m : Stand) → (stop ≡ Steps → ⊥) → StandsAt e stop m → has_ended e ≡ true
-ends (Going s) stop m ended h = absurd (ended h.0)
-ends (Exited code s) stop m ended h = refl
-ends (Stopped kind s) stop m ended h = refl
-
--- a run that has ended is that of all steps
-pub all_steps : (steps k : ℕ) (i : List ℕ) (s : State) (stop : Stop) (m : Stand) → k < steps → (stop ≡ Steps → ⊥) → StandsAt (run (k + 1) i s).end stop m → run steps i s ≡ run (k + 1) i s
-all_steps steps k i s stop m lt ended h =
-    let count : steps ≡ (k + 1) + (steps - (k + 1)) = omega arith in
-    ap (λ n. run n i s) count ∙ end_stays (k + 1) (steps - (k + 1)) i s (ends (run (k + 1) i s).end stop m ended h)
 
 -- ---- the pieces
 
@@ -243,6 +233,15 @@ module _ {I K : Type 0} (reads : I → ℕ → Option (List ℕ) → I → Type 
           stays = λ i b. let y = h.stays i b in subst (λ r. Stays r i h.given stop new) (sym (all_steps steps k i s stop new lt ended y.stands)) y;
           took = λ i b. subst (λ p. TookAll (of_sink gives taken faults old out') p) (sym (all_put steps k i s stop new lt ended (h.stays i b).stands)) (h.took i b);
         }
+
+    -- so that the steps up to it are counted
+    pub counted_turn : (new : Stand) (steps : ℕ) (stop : Stop) → k < steps → (stop ≡ Steps → ⊥) → Turns (state_of m) [] kept.ended stop new → (out' : K) → TookAll (of_sink gives taken faults out out') (piece_of (step (state_of m)))
+        → Counted (of_source reads left is_over lost first input) (of_sink gives taken faults old out') steps s stop (k + 1) new
+    unfolding last_turn plain_turn one_turn
+    counted_turn new steps stop lt ended t out' o = record {
+      answered = last_turn new steps stop lt ended t out' o;
+      counts = λ i b. count_ends k steps i s stop m new lt ended (kept.stays i b).stands ((plain_turn new stop t out' o).stays i b).stands;
+    }
 
     due_in : (steps : ℕ) (fault : Fault) → k < steps → (out' : K) → faults old ≤ faults out → Broke fault (of_sink gives taken faults out out') (piece_of (step (state_of m)))
         → (i : List ℕ) → BeginsWith kept.given kept.ended i → Broke fault (of_sink gives taken faults old out') (pieces steps i s)

@@ -1,5 +1,5 @@
 -- One step of the machine as a run of one step.
-use Rattle.std.proofs.Common.{◌≡◌, ℕ, List, [], ◌∷◌, drop, Option, Some, None, Bool, true, false, refl, sym, ap, ◌∙◌, subst}
+use Rattle.std.proofs.Common.{◌≡◌, ℕ, List, [], ◌∷◌, drop, Some, None, Bool, true, false, refl, sym, ap, ◌∙◌, subst}
 use Rattle.std.specs.Prelude.{slice_get}
 use Rattle.grin_io.specs.Changes.{BeginsWith}
 use Rattle.rv32_machine.specs.declared.machine.TrapKind.{TrapKind}

@@ -1,8 +1,8 @@
 -- What a source gave, read by read, and the inputs that begin with it.
-use Rattle.std.proofs.Common.{◌≡◌, ℕ, ◌<◌, List, [], ◌∷◌, ◌++◌, drop, Bool, true, false, Option, Some, None, append_assoc, append-nil, refl, sym, ap, ◌∙◌, subst}
-use Rattle.std.specs.Prelude.{slice_get, IfSome}
+use Rattle.std.proofs.Common.{◌≡◌, ℕ, List, [], ◌∷◌, ◌++◌, drop, Bool, true, false, Option, Some, None, append_assoc, append-nil, refl, sym, ap, ◌∙◌}
+use Rattle.std.specs.Prelude.{slice_get}
 use Rattle.std.proofs.lemmas.List.{append_cancel_left}
-use Rattle.grin_io.specs.Changes.{of_source, Gave, no_read, next_byte, at_end, BeginsWith, GaveAll}
+use Rattle.grin_io.specs.Changes.{of_source, no_read, next_byte, at_end, BeginsWith, GaveAll}
 use Rattle.rv32_machine.specs.OneByte.{GaveOne}
 
 -- ---- inputs

@@ -1,5 +1,5 @@
 -- One read of a source, into room for one byte.
-use Rattle.std.specs.Prelude.{◌≡◌, ◌<◌, ℕ, List, Option, Some, None, IfSome, option_to_list, slice_get, drop}
+use Rattle.std.specs.Prelude.{◌≡◌, ◌<◌, ℕ, Option, Some, None, IfSome, option_to_list, slice_get, drop}
 use Rattle.grin_io.specs.Changes.{Told, SourceChange}
 
 -- the source gave this byte, or met its end

@@ -1,5 +1,5 @@
 -- Runs of a program: what it writes, what it reads, and where it stands after so many steps.
-use Rattle.std.specs.Prelude.{◌≡◌, ◌⊎◌, ℕ, zero, suc, ◌+◌, ◌-◌, ◌≤◌, List, [], ◌∷◌, ◌++◌, length, drop, Bool, true, false, Option, Some, slice_get}
+use Rattle.std.specs.Prelude.{◌≡◌, ◌⊎◌, ℕ, zero, suc, ◌+◌, ◌-◌, ◌<◌, ◌≤◌, List, [], ◌∷◌, ◌++◌, length, drop, Bool, true, false, slice_get}
 use Rattle.std.specs.List.{concat}
 use Rattle.grin_io.specs.Changes.{SourceChange, SinkChange, BeginsWith, GaveAll, GaveTo, TookAll, Broke}
 use Rattle.grin_io.specs.declared.outside.Fault.{Fault}
@@ -106,6 +106,26 @@ pub record Answered {I K : Type 0} (i : SourceChange I) (o : SinkChange K) (step
       → Stays (run steps input s) input given stop new
   pub took : (input : List ℕ) → BeginsWith given ended input → TookAll o (pieces steps input s)
 
+-- whether a run has ended
+abbrev pub has_ended : End → Bool
+has_ended (Going s) = false
+has_ended (Exited code s) = true
+has_ended (Stopped kind s) = true
+
+-- so many steps are done of those that were allowed: before each of them the run goes on, and behind
+-- them it stands where it stands behind all; where it has not ended there, they are all
+pub record IsCount (done steps : ℕ) (input : List ℕ) (s : State) : Type 0 where
+  pub goes : (m : ℕ) → m < done → has_ended (run m input s).end ≡ false
+  pub same : run steps input s ≡ run done input s
+  pub all : has_ended (run done input s).end ≡ false → done ≡ steps
+
+-- the run came to its stop, on each of those inputs in so many steps
+pub record Counted {I K : Type 0} (i : SourceChange I) (o : SinkChange K) (steps : ℕ) (s : State)
+    (stop : Stop) (done : ℕ) (new : Stand) : Type 0 where
+  pub answered : Answered i o steps s stop new
+  pub counts : (input : List ℕ) → BeginsWith answered.given answered.ended input
+      → IsCount done steps input s
+
 -- A run broke off at a fault of its source or its sink, which was the last call of them. On whatever
 -- input begins with the bytes that the source gave, the run uses these, and what was put was due. The
 -- end was met, or a read failed, only where the run asks for more.
@@ -120,12 +140,6 @@ pub record Interrupted {I K : Type 0} (i : SourceChange I) (o : SinkChange K) (s
   pub puts : (input : List ℕ) → BeginsWith given ended input → Broke fault o (pieces steps input s)
 
 -- ---- laws
-
--- whether a run has ended
-abbrev pub has_ended : End → Bool
-has_ended (Going s) = false
-has_ended (Exited code s) = true
-has_ended (Stopped kind s) = true
 
 -- so many steps and then so many more are all of them together
 abbrev pub RunsCompose : Type 0

@@ -13,3 +13,4 @@ pub use laws::{
     runs_compose,
 };
 pub use machine::{Machine, StepResult, Stop, TrapKind};
+pub use run::Ran;

@@ -129,6 +129,13 @@ impl Machine {
         self.memory.slice(addr, len)
     }
 
+    /// The value of a register.
+    pub fn register(&self, number: Reg) -> u32
+        ensures { result ≡ reg (state_of self.now) number }
+    {
+        self.reg(number)
+    }
+
     /// Does one instruction. Exit and Trap end the program, and a trap leaves registers, memory and
     /// the address of the instruction. After Read the instruction waits for `give`.
     #[inline(always)]

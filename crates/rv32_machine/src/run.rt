@@ -7,12 +7,22 @@ ghost use Rattle.grin_io.specs.Changes.{of_sink, of_source, Faults};
 ghost use Rattle.grin_io.specs.declared.outside.Fault.{Fault};
 ghost use Rattle.rv32_machine.specs.Memory.{range_bytes};
 ghost use Rattle.rv32_machine.specs.Steps.{IsRunning, IsAt, given, state_of};
-ghost use Rattle.rv32_machine.specs.Runs.{Answered, Interrupted, is_end};
+ghost use Rattle.rv32_machine.specs.Runs.{Answered, Counted, Interrupted, is_end};
 ghost use Rattle.rv32_machine.specs.OneByte.{GaveOne};
 ghost use Rattle.rv32_machine.specs.Plain.{Advances};
 
 use crate::machine::{Machine, StepResult, Stop};
 use grin_io::{Failed, Fault, Sink, Source};
+
+/// Where a run stopped, and how many instructions it did: with the one that ended it, or all that
+/// were allowed where the program goes on.
+#[derive(Clone, Copy, PartialEq, Eq, Debug, Drop)]
+pub struct Ran {
+    /// Where the run stopped.
+    pub stop: Stop,
+    /// How many instructions were done.
+    pub done: u64,
+}
 
 impl Machine {
     /// Does at most `steps` instructions. Each byte that the program reads is one read of the
@@ -42,19 +52,59 @@ impl Machine {
         ensures broken { OnErr result (self.new.over ≡ true) }
         ensures waits_no_more { self.new.waiting ≡ false }
     {
+        Ok(self.run_counted(steps, input, out)?.stop)
+    }
+
+    /// Runs as `run` does, and also answers how many instructions were done.
+    pub fn run_counted<I: Source, K: Sink>(
+        &mut self,
+        steps: u64,
+        input: &mut I,
+        out: &mut K,
+    ) -> Result<Ran, Fault>
+        requires { IsRunning self.old }
+        ensures counted { IfOk result (λ ran.
+            Counted (of_source I.read_gives I.left I.is_over I.faults input.old input.new)
+            (of_sink K.put_gives K.taken K.faults out.old out.new)
+            steps (state_of self.old) ran.stop ran.done self.new) }
+        ensures interrupted { IfErr result (λ fault.
+            Interrupted (of_source I.read_gives I.left I.is_over I.faults input.old input.new)
+            (of_sink K.put_gives K.taken K.faults out.old out.new)
+            steps (state_of self.old) fault) }
+        ensures cause { Faults result
+            (of_source I.read_gives I.left I.is_over I.faults input.old input.new)
+            (of_sink K.put_gives K.taken K.faults out.old out.new) }
+        ensures ended { IfOk result (λ ran. self.new.over ≡ is_end ran.stop) }
+        ensures broken { OnErr result (self.new.over ≡ true) }
+        ensures waits_no_more { self.new.waiting ≡ false }
+    {
+        let all = Ran {
+            stop: Stop::Steps,
+            done: steps,
+        };
         let mut left = steps;
         while left > 0 {
             let (plain, told) = self.advance(left);
             match told {
-                StepResult::Next => return Ok(Stop::Steps),
+                StepResult::Next => return Ok(all),
                 StepResult::Read(_) => self.take_byte(input)?,
                 StepResult::Write(addr, len) => self.put_bytes(addr, len, out)?,
-                StepResult::Exit(code) => return Ok(Stop::Exit(code)),
-                StepResult::Trap(kind, pc) => return Ok(Stop::Trap(kind, pc)),
+                StepResult::Exit(code) => {
+                    return Ok(Ran {
+                        stop: Stop::Exit(code),
+                        done: steps - left + plain + 1,
+                    });
+                }
+                StepResult::Trap(kind, pc) => {
+                    return Ok(Ran {
+                        stop: Stop::Trap(kind, pc),
+                        done: steps - left + plain + 1,
+                    });
+                }
             }
             left -= plain + 1;
         }
-        Ok(Stop::Steps)
+        Ok(all)
     }
 
     /// Does instructions after which the program just goes on, at most `most`, up to the first that

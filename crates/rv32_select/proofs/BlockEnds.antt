@@ -1,5 +1,5 @@
 -- The ends of blocks: words that are given, and no alternative.
-use Rattle.std.proofs.Common.{◌≡◌, ◌≢◌, ℕ, zero, suc, ◌+◌, ◌*◌, ◌^◌, ◌<◌, ◌≤◌, List, [], ◌∷◌, length, get_or, true, Some, None, inl, inr, refl, sym, ap, ◌∙◌, subst, arith}
+use Rattle.std.proofs.Common.{◌≡◌, ◌≢◌, ℕ, zero, suc, ◌+◌, ◌*◌, ◌^◌, ◌<◌, ◌≤◌, List, [], ◌∷◌, length, get_or, true, Some, None, inl, inr, refl, sym, ap, ◌∙◌, subst, arith, Bool, false}
 use Rattle.std.specs.Prelude.{Option, pos, slice_get}
 use Rattle.rv32_machine.specs.Arithmetic.{plus}
 use Rattle.rv32_machine.specs.Steps.{set_reg}
@@ -24,11 +24,11 @@ use Rattle.low_code.specs.Literals.{AreSmall}
 use Rattle.rv32_select.proofs.Courses.{Stands}
 use Rattle.rv32_select.proofs.Straight.{Data, with_reg, Good, good_reg, Does, does_on, does_load_stack}
 use Rattle.rv32_select.proofs.NumberParts.{does_add}
-use Rattle.rv32_select.proofs.JumpStretches.{jumped, jumps, there_less, address_small}
+use Rattle.rv32_select.proofs.JumpStretches.{jumped, links, there_less, address_small}
 use Rattle.rv32_select.proofs.FrameViews.{spots, InFrame}
 use Rattle.rv32_select.proofs.OperandsRead.{read, IsPlace}
 use Rattle.rv32_select.proofs.Gathering.{IsPair, AllReadable}
-use Rattle.rv32_select.proofs.Relation.{bases, regs_of, word_of, AllHold, HoldsCells, HoldsWorld, Stood, ends_on, quiet, Needed}
+use Rattle.rv32_select.proofs.Relation.{bases, regs_of, word_of, AllHold, HoldsCells, HoldsWorld, Home, Stood, ends_on, quiet, Needed}
 use Rattle.rv32_select.proofs.PlaceFacts.{IsOwn, ProcedureFine, Setting}
 use Rattle.rv32_select.proofs.BlockFacts.{Block, Simulates}
 use Rattle.rv32_select.proofs.OneBound.{operand_read}
@@ -72,19 +72,19 @@ same_registers l r (suc n) (v ∷ vs) d d' lo e h = (e r lo ∙ h.0, same_regist
 -- ---- the frame goes
 
 module _ (l : Program) (a : Assignment) (cells stack : ℕ) (lay : Layout) where
-  pub record Left (words j slots : ℕ) (d : Data) : Type 0 where
+  pub record Left (framed : Bool) (words j slots : ℕ) (d : Data) : Type 0 where
     pub to : Data
-    pub does : Does lay.code (bases stack) (leave_code words) d to
+    pub does : Does lay.code (bases stack) (leave_code framed words) d to
     pub sp : to.regs 2 ≡ (bases stack).stack + 4 * (j + (1 + slots))
-    pub link : to.regs 1 ≡ get_or d.stack j 0
+    pub link : (address : ℕ) → Home l a cells stack lay framed j address d → to.regs 1 ≡ address
     pub next : to.regs 3 ≡ d.regs 3
     pub end : to.regs 4 ≡ d.regs 4
     pub eights : (r : ℕ) → 8 ≤ r → to.regs r ≡ d.regs r
     pub heap : to.heap ≡ d.heap
     pub stack' : to.stack ≡ d.stack
 
-  pub leaves : (words j slots : ℕ) (d : Data) → Good lay.code (bases stack) d → InFrame lay.code (bases stack) j slots d → words ≡ 1 + slots → 4 * words < 2 ^ 28 → Left words j slots d
-  leaves words j slots d g f is small =
+  pub leaves : (framed : Bool) (words j slots : ℕ) (d : Data) → Good lay.code (bases stack) d → InFrame lay.code (bases stack) j slots d → words ≡ 1 + slots → 4 * words < 2 ^ 28 → Left framed words j slots d
+  leaves true words j slots d g f is small =
       let sp = f.sp in
       let in_stack = f.room in
       let top = g.top in
@@ -96,10 +96,27 @@ module _ (l : Program) (a : Assignment) (cells stack : ℕ) (lay : Layout) where
         to = with_reg (with_reg d1 5 add.scratch) 2 (plus (d.regs 2) (4 * words));
         does = does_on lay.code (bases stack) first add.does;
         sp = sum;
-        link = refl;
+        link = λ address h. h;
         next = refl;
         end = refl;
         eights = λ r h. set_there (set_reg (set_reg d.regs 1 (get_or d.stack j 0)) 5 add.scratch) 2 (plus (d.regs 2) (4 * words)) r (omega arith) ∙ set_there (set_reg d.regs 1 (get_or d.stack j 0)) 5 add.scratch r (omega arith) ∙ set_there d.regs 1 (get_or d.stack j 0) r (omega arith);
+        heap = refl;
+        stack' = refl;
+      }
+  leaves false words j slots d g f is small =
+      let sp = f.sp in
+      let in_stack = f.room in
+      let top = g.top in
+      let add = does_add lay.code (bases stack) 2 2 (4 * words) d g (omega arith) (omega arith) (omega arith) in
+      let sum : plus (d.regs 2) (4 * words) ≡ (bases stack).stack + 4 * (j + (1 + slots)) = omega arith in
+      record {
+        to = with_reg (with_reg d 5 add.scratch) 2 (plus (d.regs 2) (4 * words));
+        does = add.does;
+        sp = sum;
+        link = λ address h. h;
+        next = refl;
+        end = refl;
+        eights = λ r h. set_there (set_reg d.regs 5 add.scratch) 2 (plus (d.regs 2) (4 * words)) r (omega arith) ∙ set_there d.regs 5 add.scratch r (omega arith);
         heap = refl;
         stack' = refl;
       }
@@ -135,18 +152,18 @@ module _ (l : Program) (a : Assignment) (cells stack : ℕ) (lay : Layout) (item
   jumped_spot n link j slots d Scratch lt o = absurd (o.1 refl)
 
 module _ (l : Program) (a : Assignment) (cells stack : ℕ) (lay : Layout) (items : List Item) (begins : List ℕ) (s : Setting l a cells stack lay items begins) (calls_n : Calls) (n : ℕ)
-    (f : ℕ) (q : Procedure) (pf : ProcedureFine l a f q) (j m : ℕ) (outer : List ℕ) (d0 : Data) (u : ℕ) where
+    (f : ℕ) (q : Procedure) (pf : ProcedureFine l a f q) (framed : Bool) (j m : ℕ) (outer : List ℕ) (d0 : Data) (u : ℕ) where
   -- no alternative
   pub fail_simulated : (to : List Spot) (way : Way) (Must : ℕ → Word → Type 0) (k k' : ℕ) (block : List Item) (p : ℕ) (scope later : List ℕ) (env : Env) (top : ℕ) (under : Option ℕ) (d : Data) (w : World)
-      → Block l a cells stack lay items begins f q pf.slots j m outer d0 u n fail to way Must k k' block p scope later env top under d w
-      → Simulates l a cells stack lay items begins f q pf.slots j m outer d0 u n calls_n fail to way Must p env top under d w
+      → Block l a cells stack lay items begins f q framed pf.slots j m outer d0 u n fail to way Must k k' block p scope later env top under d w
+      → Simulates l a cells stack lay items begins f q framed pf.slots j m outer d0 u n calls_n fail to way Must p env top under d w
   unfolding code
   fail_simulated to way Must k k' block p scope later env top under d w b =
       let stop = no_alternative_stop l a cells stack lay items begins s in
-      let here : slice_get items p ≡ Some (Jump 0 (length l.procs)) = (subst (λ x. Stands items p x) b.emits.1 b.stands).0 in
-      let step = jumps (bases stack) lay items p stop.place (length l.procs) d w.input (m ∷ outer) here stop.found in
+      let here : slice_get items p ≡ Some (Jump 5 (length l.procs)) = (subst (λ x. Stands items p x) b.emits.1 b.stands).0 in
+      let step = links (bases stack) lay items p stop.place 5 (length l.procs) d w.input (m ∷ outer) refl here stop.found in
       let ran = quiet lay items begins w w step refl refl refl refl refl in
-      ends_on lay items begins ran (stop.ends (jumped (bases stack) lay items p 0 d) (m ∷ outer) w (good_jumped l a cells stack lay items begins s p 0 (Jump 0 (length l.procs)) d here b.stood.world.good))
+      ends_on lay items begins ran (stop.ends (jumped (bases stack) lay items p 5 d) (m ∷ outer) w (good_jumped l a cells stack lay items begins s p 5 (Jump 5 (length l.procs)) d here b.stood.world.good))
 
   -- the operands of a statement are read as their words
   pub record OperandsRead (os : List Operand) (vs : List Word) (d : Data) : Type 0 where
@@ -154,7 +171,7 @@ module _ (l : Program) (a : Assignment) (cells stack : ℕ) (lay : Layout) (item
     pub are : EachIs l.width (read lay.code (bases stack) j pf.slots d) (sources l a os) vs
     pub as_many : length (sources l a os) ≡ length vs
 
-  pub operands_read : (c0 : Code) (scope : List ℕ) (env : Env) (Must : ℕ → Word → Type 0) (d : Data) (w : World) (os : List Operand) (vs : List Word) → Stood l a cells stack lay f j pf.slots d0 (lay.address m) (Needed c0 env Must) d w
+  pub operands_read : (c0 : Code) (scope : List ℕ) (env : Env) (Must : ℕ → Word → Type 0) (d : Data) (w : World) (os : List Operand) (vs : List Word) → Stood l a cells stack lay framed f j pf.slots d0 (lay.address m) (Needed c0 env Must) d w
       → ((x : ℕ) (v : Word) → env x ≡ Some v → is_among x scope ≡ true) → ((x : ℕ) → is_among x scope ≡ true → IsOwn l a f (slots_of (place_of a) (variables q)) (place_of a x))
       → ((x : ℕ) → is_among x (used_by_all os) ≡ true → is_among x (uses c0) ≡ true) → AreSmall os → operands l (words_at a) env os ≡ Some vs → OperandsRead os vs d
   operands_read c0 scope env Must d w [] vs st scoped owned incl small e = let none : [] ≡ vs = cc in record { readable = tt; are = tt; as_many = ap length none }
@@ -165,7 +182,7 @@ module _ (l : Program) (a : Assignment) (cells stack : ℕ) (lay : Layout) (item
       by_rest rest v e1 None e2 e3 = absurd (cc)
       by_rest rest v e1 (Some ws) e2 e3 =
           let is : v ∷ ws ≡ vs = cc in
-          let one = operand_read l a cells stack lay items begins s calls_n n f q pf j m outer d0 u c0 scope env Must d w o v st scoped owned (λ x h. incl x (among_left x (used_by o) (used_by_all os) h)) small.0 e1 in
+          let one = operand_read l a cells stack lay items begins s calls_n n f q pf framed j m outer d0 u c0 scope env Must d w o v st scoped owned (λ x h. incl x (among_left x (used_by o) (used_by_all os) h)) small.0 e1 in
           let more = rest ws e2 in
           record {
             readable = (one.0, more.readable);

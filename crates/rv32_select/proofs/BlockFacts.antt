@@ -25,7 +25,7 @@ use Rattle.rv32_select.proofs.Straight.{Data, Good, at}
 use Rattle.rv32_select.proofs.FrameViews.{spots, Outside, Kept}
 use Rattle.rv32_select.proofs.OperandsRead.{IsPlace}
 use Rattle.rv32_select.proofs.Gathering.{AllPlaces}
-use Rattle.rv32_select.proofs.Relation.{bases, regs_of, word_of, AllHold, HoldsCells, HoldsWorld, Keeps, Stood, Back, Does', Given, Needed}
+use Rattle.rv32_select.proofs.Relation.{bases, regs_of, word_of, AllHold, HoldsCells, HoldsWorld, Keeps, Home, Stood, Back, Does', Given, Needed}
 use Rattle.rv32_select.proofs.PlaceFacts.{NotAmong, AllApart, IsOwn, AllOwn, Binds, Fine}
 use Rattle.seq.specs.Lists.{is_among}
 use Rattle.seq.proofs.Counted.{among_left, among_right}
@@ -149,13 +149,13 @@ module _ (l : Program) (a : Assignment) (cells stack : ℕ) (lay : Layout) where
     stack_words = ap (λ n. 4 * n) k.words ∙ h.stack_words;
   }
 
-  module _ (f j slots saved : ℕ) (d0 : Data) (link : ℕ) where
-    pub stood_changed : (Needs Needs' : ℕ → Word → Type 0) (to : List Spot) (vs : List Word) (d d' : Data) (w w' : World) → Stood l a cells stack lay f j slots d0 link Needs d w → HoldsWorld l a cells stack lay d' w' → Changed l stack j slots lay to vs d d' → AllOwn l a f saved to
-        → ((y : ℕ) (v : Word) → Needs' y v → spots lay.code (bases stack) j slots d' (place_of a y) ≡ word_of l.width v) → Stood l a cells stack lay f j slots d0 link Needs' d' w'
-    stood_changed Needs Needs' to vs d d' w w' st world ch own vars = record {
+  module _ (framed : Bool) (f j slots saved : ℕ) (d0 : Data) (link : ℕ) where
+    pub stood_changed : (Needs Needs' : ℕ → Word → Type 0) (to : List Spot) (vs : List Word) (d d' : Data) (w w' : World) → Stood l a cells stack lay framed f j slots d0 link Needs d w → HoldsWorld l a cells stack lay d' w' → Changed l stack j slots lay to vs d d' → Home l a cells stack lay framed j link d' → AllOwn l a f saved to
+        → ((y : ℕ) (v : Word) → Needs' y v → spots lay.code (bases stack) j slots d' (place_of a y) ≡ word_of l.width v) → Stood l a cells stack lay framed f j slots d0 link Needs' d' w'
+    stood_changed Needs Needs' to vs d d' w w' st world ch home own vars = record {
       world = world;
       frame = record { sp = ch.sp ∙ st.frame.sp; room = let r = st.frame.room in let n = ch.words in omega arith };
-      home = ch.outside j (inl (omega arith)) ∙ st.home;
+      home = home;
       vars = vars;
       untouched = record {
         above = λ t h. ch.outside t (inr h) ∙ st.untouched.above t h;
@@ -166,14 +166,14 @@ module _ (l : Program) (a : Assignment) (cells stack : ℕ) (lay : Layout) where
     -- variables are bound
     pub stood_bound : (c0 c : Code) (xs : List ℕ) (vs : List Word) (scope later : List ℕ) (env env' : Env) (Must : ℕ → Word → Type 0) (d d' : Data) (w w' : World)
         → saved ≤ slots
-        → Stood l a cells stack lay f j slots d0 link (Needed c0 env Must) d w → HoldsWorld l a cells stack lay d' w' → Changed l stack j slots lay (map (place_of a) xs) vs d d' → with_vars xs vs env ≡ Some env' → Binds l a f slots saved scope xs c later
+        → Stood l a cells stack lay framed f j slots d0 link (Needed c0 env Must) d w → HoldsWorld l a cells stack lay d' w' → Changed l stack j slots lay (map (place_of a) xs) vs d d' → Home l a cells stack lay framed j link d' → with_vars xs vs env ≡ Some env' → Binds l a f slots saved scope xs c later
         → ((y : ℕ) → is_among y (uses c) ≡ true → is_among y (uses c0) ≡ true)
         → ((y : ℕ) (v : Word) → env y ≡ Some v → is_among y scope ≡ true)
         → ((y : ℕ) (v : Word) → Must y v → (is_among y scope ≡ true) × (is_among y later ≡ true))
         → ((y : ℕ) → is_among y scope ≡ true → IsOwn l a f saved (place_of a y))
-        → Stood l a cells stack lay f j slots d0 link (Needed c env' Must) d' w'
-    stood_bound c0 c xs vs scope later env env' Must d d' w w' le st world ch bind binds incl scoped must owned =
-        stood_changed (Needed c0 env Must) (Needed c env' Must) (map (place_of a) xs) vs d d' w w' st world ch binds.1 vars
+        → Stood l a cells stack lay framed f j slots d0 link (Needed c env' Must) d' w'
+    stood_bound c0 c xs vs scope later env env' Must d d' w w' le st world ch home bind binds incl scoped must owned =
+        stood_changed (Needed c0 env Must) (Needed c env' Must) (map (place_of a) xs) vs d d' w w' st world ch home binds.1 vars
       where
         kept : (y : ℕ) (v : Word) → is_among y scope ≡ true → IsLive scope c later y → Needed c0 env Must y v → spots lay.code (bases stack) j slots d' (place_of a y) ≡ word_of l.width v
         kept y v in_scope live need =
@@ -211,7 +211,7 @@ module _ (l : Program) (a : Assignment) (cells stack : ℕ) (lay : Layout) (item
       → Does' lay items begins (λ rs w' p calls'. (d' : Data) × ((p ≡ at (bases stack) lay items m d') × ((calls' ≡ outer) × (Back l a cells stack lay f bound d (result_spots 10 q.results) rs d' w' × (length rs ≡ q.results)))))
       (at (bases stack) lay items t d) (m ∷ outer) w (calls f vs under w)
 
-  module _ (f : ℕ) (q : Procedure) (slots j m : ℕ) (outer : List ℕ) (d0 : Data) (u n : ℕ) where
+  module _ (f : ℕ) (q : Procedure) (framed : Bool) (slots j m : ℕ) (outer : List ℕ) (d0 : Data) (u n : ℕ) where
     -- a procedure returns its results in their registers
     abbrev pub InRegisters : Way → List Spot → Type 0
     InRegisters Returns to = to ≡ result_spots 10 q.results
@@ -220,7 +220,7 @@ module _ (l : Program) (a : Assignment) (cells stack : ℕ) (lay : Layout) (item
 
     -- what is known where a block or the arms of a choice begin, which have their own items, fitting places and needs;
     --     the frame begins at the j-th word of the stack, over u words; m is the item to which the procedure returns
-    pub record Entry (Emitted Fitting : Type 0) (Needs : ℕ → Word → Type 0) (to : List Spot) (way : Way) (Must : ℕ → Word → Type 0) (k : ℕ) (block : List Item) (pos : ℕ) (scope later : List ℕ) (env : Env) (top : ℕ) (under : Option ℕ) (d : Data) (w : World) : Type 0 where
+    pub record Entry (here : Bool) (Emitted Fitting : Type 0) (Needs : ℕ → Word → Type 0) (to : List Spot) (way : Way) (Must : ℕ → Word → Type 0) (k : ℕ) (block : List Item) (pos : ℕ) (scope later : List ℕ) (env : Env) (top : ℕ) (under : Option ℕ) (d : Data) (w : World) : Type 0 where
       pub emits : Emitted
       pub stands : Stands items pos block
       pub ready : Ready way (pos + length block)
@@ -233,16 +233,21 @@ module _ (l : Program) (a : Assignment) (cells stack : ℕ) (lay : Layout) (item
       pub to_own : AllOwn l a f (slots_of (place_of a) (variables q)) to
       pub to_differ : AllApart to
       pub in_registers : InRegisters way to
-      pub stood : Stood l a cells stack lay f j slots d0 (lay.address m) Needs d w
+      pub stood : Stood l a cells stack lay here f j slots d0 (lay.address m) Needs d w
       pub left : w.left ≤ n
       pub top_is : top ≡ 1 + slots + u
       pub under_is : (v : ℕ) → under ≡ Some v → (v ≡ u) × (way ≡ Returns)
 
+    -- a block whose items are said so, where the return address is in the frame or isn't
+    abbrev pub Opened : (here : Bool) (Emitted : Type 0) (c : Code) (to : List Spot) (way : Way) (Must : ℕ → Word → Type 0) (k : ℕ) (block : List Item) (pos : ℕ) (scope later : List ℕ) (env : Env) (top : ℕ) (under : Option ℕ) (d : Data) (w : World) → Type 0
+    Opened here Emitted c to way Must k block pos scope later env top under d w =
+        Entry here Emitted (Fine l a f slots (slots_of (place_of a) (variables q)) scope c later) (Needed c env Must) to way Must k block pos scope later env top under d w
+
     abbrev pub Block : (c : Code) (to : List Spot) (way : Way) (Must : ℕ → Word → Type 0) (k k' : ℕ) (block : List Item) (pos : ℕ) (scope later : List ℕ) (env : Env) (top : ℕ) (under : Option ℕ) (d : Data) (w : World) → Type 0
     Block c to way Must k k' block pos scope later env top under d w =
-        Entry (Emits l a cells stack (words_at a f) (slots_of (place_of a) (variables q)) to way c k k' block) (Fine l a f slots (slots_of (place_of a) (variables q)) scope c later) (Needed c env Must) to way Must k block pos scope later env top under d w
+        Opened framed (Emits l a cells stack (words_at a f) (slots_of (place_of a) (variables q)) framed to way c k k' block) c to way Must k block pos scope later env top under d w
 
     -- the machine does for the block what its run does
     abbrev pub Simulates : Calls → (c : Code) (to : List Spot) (way : Way) (Must : ℕ → Word → Type 0) (pos : ℕ) (env : Env) (top : ℕ) (under : Option ℕ) (d : Data) (w : World) → Type 0
     Simulates calls c to way Must pos env top under d w =
-        Does' lay items begins (Given l a cells stack lay items f j slots d0 m outer to way Must) (at (bases stack) lay items pos d) (m ∷ outer) w (code l (words_at a) room calls env top under c w)
+        Does' lay items begins (Given l a cells stack lay items framed f j slots d0 m outer to way Must) (at (bases stack) lay items pos d) (m ∷ outer) w (code l (words_at a) room calls env top under c w)

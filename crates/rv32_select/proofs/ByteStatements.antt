@@ -26,14 +26,14 @@ use Rattle.rv32_items.specs.declared.Item.TheVariants.{Plain}
 use Rattle.rv32_items.specs.Course.{Layout}
 use Rattle.rv32_select.specs.declared.source.Way.{Way}
 use Rattle.rv32_select.specs.Emit.{plain, held, hold, aside, back, put_code, get_code, move_to}
-use Rattle.rv32_select.specs.IsSelected.{heap_base, heap_end, source}
+use Rattle.rv32_select.specs.IsSelected.{heap_base, heap_end, source, Then}
 use Rattle.rv32_select.proofs.Courses.{Stands, front, back as behind, Goes}
 use Rattle.rv32_select.proofs.Straight.{Data, with_reg, with_stack, Good, good_reg, good_stack, Does, does_on, does_imm, does_op, does_load_stack, does_store_stack, at}
 use Rattle.rv32_select.proofs.FrameViews.{spots, InFrame, Outside, Kept, kept_reg, seen_reg, copied, stores}
 use Rattle.rv32_select.proofs.OperandsRead.{read, IsPlace, holds, held_not_seven, read_same, put_here, put_there}
 use Rattle.rv32_select.proofs.Relation.{bases, HoldsCells, HoldsWorld, Ran, ran_on, wrote, took, Does', does_after, Given, Needed}
 use Rattle.rv32_select.proofs.PlaceFacts.{IsOwn, ProcedureFine, Setting}
-use Rattle.rv32_select.proofs.BlockFacts.{room, Block, Simulates, Changed, own_place, stood_bound, still_scoped}
+use Rattle.rv32_select.proofs.BlockFacts.{room, Opened, Simulates, Changed, own_place, stood_bound, still_scoped}
 use Rattle.rv32_select.proofs.OneBound.{Cut, cut, ready_at, plain_ran, operand_read}
 use Rattle.rv32_select.proofs.WordStatements.{stood_same, number_there}
 use Rattle.rv32_select.proofs.TakeStatement.{scope_owned}
@@ -55,7 +55,7 @@ called_parts items p before after whole e h =
     record { first = front items p (plain before) (Plain Ecall ∷ plain after) both; call = rest.0; second = rest.1 }
 
 module _ (l : Program) (a : Assignment) (cells stack : ℕ) (lay : Layout) (items : List Item) (begins : List ℕ) (s : Setting l a cells stack lay items begins) (calls_n : Calls) (n : ℕ)
-    (f : ℕ) (q : Procedure) (pf : ProcedureFine l a f q) (j m : ℕ) (outer : List ℕ) (d0 : Data) (u : ℕ) where
+    (f : ℕ) (q : Procedure) (pf : ProcedureFine l a f q) (framed : Bool) (j m : ℕ) (outer : List ℕ) (d0 : Data) (u : ℕ) where
   -- the heap's end is a word
   end_small : (d : Data) (w : World) → HoldsWorld l a cells stack lay d w → heap_base + 4 * l.width * cells < 2 ^ 32
   end_small d w h =
@@ -64,19 +64,19 @@ module _ (l : Program) (a : Assignment) (cells stack : ℕ) (lay : Layout) (item
       let same : 4 * l.width * cells ≡ 4 * (l.width * cells) = omega arith in
       omega arith
 
-  pub put_simulated : (o : Operand) (c : Code) (to : List Spot) (way : Way) (Must : ℕ → Word → Type 0) (k k' : ℕ) (block : List Item) (p : ℕ) (scope later : List ℕ) (env : Env) (top : ℕ) (under : Option ℕ) (d : Data) (w : World)
-      → Block l a cells stack lay items begins f q pf.slots j m outer d0 u n (put o c) to way Must k k' block p scope later env top under d w
-      → ((w' : World) (rest : List Item) (p' : ℕ) (d' : Data) → Block l a cells stack lay items begins f q pf.slots j m outer d0 u n c to way Must k k' rest p' scope later env top under d' w'
-      → Simulates l a cells stack lay items begins f q pf.slots j m outer d0 u n calls_n c to way Must p' env top under d' w')
-      → Simulates l a cells stack lay items begins f q pf.slots j m outer d0 u n calls_n (put o c) to way Must p env top under d w
+  pub put_simulated : (Rest : List Item → Type 0) (o : Operand) (c : Code) (to : List Spot) (way : Way) (Must : ℕ → Word → Type 0) (k : ℕ) (block : List Item) (p : ℕ) (scope later : List ℕ) (env : Env) (top : ℕ) (under : Option ℕ) (d : Data) (w : World)
+      → Opened l a cells stack lay items begins f q framed pf.slots j m outer d0 u n true (Then (plain (put_code (heap_end l cells) (source l a o))) Rest block) (put o c) to way Must k block p scope later env top under d w
+      → ((w' : World) (rest : List Item) (p' : ℕ) (d' : Data) → Opened l a cells stack lay items begins f q framed pf.slots j m outer d0 u n true (Rest rest) c to way Must k rest p' scope later env top under d' w'
+      → Simulates l a cells stack lay items begins f q framed pf.slots j m outer d0 u n calls_n c to way Must p' env top under d' w')
+      → Simulates l a cells stack lay items begins f q framed pf.slots j m outer d0 u n calls_n (put o c) to way Must p env top under d w
   unfolding code
-  put_simulated o c to way Must k k' block p scope later env top under d w b more = go (number_in l (words_at a) env o) refl
+  put_simulated Rest o c to way Must k block p scope later env top under d w b more = go (number_in l (words_at a) env o) refl
     where
-      go : (r : Option ℕ) → number_in l (words_at a) env o ≡ r → Does' lay items begins (Given l a cells stack lay items f j pf.slots d0 m outer to way Must) (at (bases stack) lay items p d) (m ∷ outer) w (need r w (λ v. code l (words_at a) (room l a cells stack lay items begins) calls_n env top under c (written v w)))
+      go : (r : Option ℕ) → number_in l (words_at a) env o ≡ r → Does' lay items begins (Given l a cells stack lay items framed f j pf.slots d0 m outer to way Must) (at (bases stack) lay items p d) (m ∷ outer) w (need r w (λ v. code l (words_at a) (room l a cells stack lay items begins) calls_n env top under c (written v w)))
       go None e = tt
       go (Some v) e =
           let src = source l a o in
-          let r = operand_read l a cells stack lay items begins s calls_n n f q pf j m outer d0 u (put o c) scope env Must d w o (number v) b.stood b.scoped b.owned (λ y h. among_left y (used_by o) (uses c) h) b.fine.0 (number_there (operand l (words_at a) env o) v e) in
+          let r = operand_read l a cells stack lay items begins s calls_n n f q pf true j m outer d0 u (put o c) scope env Must d w o (number v) b.stood b.scoped b.owned (λ y h. among_left y (used_by o) (uses c) h) b.fine.0 (number_there (operand l (words_at a) env o) v e) in
           let h = b.stood.world in
           let g = h.good in
           let sp = b.stood.frame.sp in
@@ -132,10 +132,10 @@ module _ (l : Program) (a : Assignment) (cells stack : ℕ) (lay : Layout) (item
             heap_words = h.heap_words;
             stack_words = ap (λ x. 4 * x) same_length ∙ h.stack_words;
           } in
-          let stood = stood_same l a cells stack lay f j pf.slots (slots_of (place_of a) (variables q)) d0 (lay.address m) (Needed (put o c) env Must) (Needed c env Must) d e6 w w' pf.enough b.stood world refl same_length words (seen_back e6 regs_back words) needs in
+          let stood = stood_same l a cells stack lay true f j pf.slots (slots_of (place_of a) (variables q)) d0 (lay.address m) (Needed (put o c) env Must) (Needed c env Must) d e6 w w' pf.enough b.stood world (words j ∙ b.stood.home) refl same_length words (seen_back e6 regs_back words) needs in
           let plain_pos : suc pe + length (plain after) ≡ p + length (plain (put_code (heap_end l cells) src)) = count_calls p before after (put_code (heap_end l cells) src) whole in
           let ran = ran_on lay items begins ran1 (ran_on lay items begins ran2 (subst (λ y. Ran lay items begins (at (bases stack) lay items (suc pe) e4) (m ∷ outer) w' (at (bases stack) lay items y e6) (m ∷ outer) w') plain_pos ran3)) in
-          does_after lay items begins (Given l a cells stack lay items f j pf.slots d0 m outer to way Must) (code l (words_at a) (room l a cells stack lay items begins) calls_n env top under c w') ran
+          does_after lay items begins (Given l a cells stack lay items framed f j pf.slots d0 m outer to way Must) (code l (words_at a) (room l a cells stack lay items begins) calls_n env top under c w') ran
           (more w' b.emits.0 (p + length (plain (put_code (heap_end l cells) src))) e6 (record {
             emits = b.emits.2;
             stands = parts.more;
@@ -277,13 +277,13 @@ module _ (l : Program) (a : Assignment) (cells stack : ℕ) (lay : Layout) (item
       seen_five e (Slot i) p regs' stack' regs words = words (j + (1 + i))
       seen_five e Scratch p regs' stack' regs words = absurd (p.1 refl)
 
-  pub get_simulated : (x : ℕ) (c : Code) (to : List Spot) (way : Way) (Must : ℕ → Word → Type 0) (k k' : ℕ) (block : List Item) (p : ℕ) (scope later : List ℕ) (env : Env) (top : ℕ) (under : Option ℕ) (d : Data) (w : World)
-      → Block l a cells stack lay items begins f q pf.slots j m outer d0 u n (get x c) to way Must k k' block p scope later env top under d w
-      → ((v : Word) (w' : World) (rest : List Item) (p' : ℕ) (d' : Data) → Block l a cells stack lay items begins f q pf.slots j m outer d0 u n c to way Must k k' rest p' (x ∷ scope) later (with_var x v env) top under d' w'
-      → Simulates l a cells stack lay items begins f q pf.slots j m outer d0 u n calls_n c to way Must p' (with_var x v env) top under d' w')
-      → Simulates l a cells stack lay items begins f q pf.slots j m outer d0 u n calls_n (get x c) to way Must p env top under d w
+  pub get_simulated : (Rest : List Item → Type 0) (x : ℕ) (c : Code) (to : List Spot) (way : Way) (Must : ℕ → Word → Type 0) (k : ℕ) (block : List Item) (p : ℕ) (scope later : List ℕ) (env : Env) (top : ℕ) (under : Option ℕ) (d : Data) (w : World)
+      → Opened l a cells stack lay items begins f q framed pf.slots j m outer d0 u n true (Then (plain (get_code (heap_end l cells) (place_of a x))) Rest block) (get x c) to way Must k block p scope later env top under d w
+      → ((v : Word) (w' : World) (rest : List Item) (p' : ℕ) (d' : Data) → Opened l a cells stack lay items begins f q framed pf.slots j m outer d0 u n true (Rest rest) c to way Must k rest p' (x ∷ scope) later (with_var x v env) top under d' w'
+      → Simulates l a cells stack lay items begins f q framed pf.slots j m outer d0 u n calls_n c to way Must p' (with_var x v env) top under d' w')
+      → Simulates l a cells stack lay items begins f q framed pf.slots j m outer d0 u n calls_n (get x c) to way Must p env top under d w
   unfolding code
-  get_simulated x c to way Must k k' block p scope later env top under d w b more = by_input w.input refl
+  get_simulated Rest x c to way Must k block p scope later env top under d w b more = by_input w.input refl
     where
       h : HoldsWorld l a cells stack lay d w
       h = b.stood.world
@@ -334,7 +334,7 @@ module _ (l : Program) (a : Assignment) (cells stack : ℕ) (lay : Layout) (item
           → Goes lay items 1 i (at (bases stack) lay items (p + length (plain (Load Lw 1 2 (pos 0) ∷ Store Sw 0 2 (pos 0) ∷ (aside ++ four 0 63)))) (at_call 0 63 (with_stack (with_reg d 1 (get_or d.stack j 0)) (set_at d.stack j 0)))) (m ∷ outer) [] [] (drop 1 i) (at (bases stack) lay items (suc (p + length (plain (Load Lw 1 2 (pos 0) ∷ Store Sw 0 2 (pos 0) ∷ (aside ++ four 0 63))))) e) (m ∷ outer)
           → Finished x v d e (Load Lw 17 2 (pos 0) ∷ Store Sw 1 2 (pos 0) ∷ OpImm Addi 10 10 (negsuc 0) ∷ Op op.Add 1 10 17 ∷ (back (heap_end l cells) ++ move_to (place_of a x) (Reg 1))) → Good lay.code (bases stack) e
           → (byte_taken i w).cells ≡ w.cells → (byte_taken i w).left ≡ w.left
-          → Does' lay items begins (Given l a cells stack lay items f j pf.slots d0 m outer to way Must) (at (bases stack) lay items p d) (m ∷ outer) w (code l (words_at a) (room l a cells stack lay items begins) calls_n (with_var x (number (next_byte i)) env) top under c (byte_taken i w))
+          → Does' lay items begins (Given l a cells stack lay items framed f j pf.slots d0 m outer to way Must) (at (bases stack) lay items p d) (m ∷ outer) w (code l (words_at a) (room l a cells stack lay items begins) calls_n (with_var x (number (next_byte i)) env) top under c (byte_taken i w))
       answered i byte ten v e is bytes value_is' small step z good cells_same left_same =
           let h = b.stood.world in
           let before = Load Lw 1 2 (pos 0) ∷ Store Sw 0 2 (pos 0) ∷ (aside ++ four 0 63) in
@@ -366,8 +366,8 @@ module _ (l : Program) (a : Assignment) (cells stack : ℕ) (lay : Layout) (item
             words = z.words;
             outside = z.outside;
           } in
-          let stood = stood_bound l a cells stack lay f j pf.slots (slots_of (place_of a) (variables q)) d0 (lay.address m) (get x c) c (x ∷ []) (number (next_byte i) ∷ []) scope later env (with_var x (number (next_byte i)) env) Must d z.to' w w' pf.enough b.stood world ch refl b.fine.0 (λ y z. z) b.scoped b.must b.owned in
-          does_after lay items begins (Given l a cells stack lay items f j pf.slots d0 m outer to way Must) (code l (words_at a) (room l a cells stack lay items begins) calls_n (with_var x (number (next_byte i)) env) top under c w') ran
+          let stood = stood_bound l a cells stack lay true f j pf.slots (slots_of (place_of a) (variables q)) d0 (lay.address m) (get x c) c (x ∷ []) (number (next_byte i) ∷ []) scope later env (with_var x (number (next_byte i)) env) Must d z.to' w w' pf.enough b.stood world ch (z.outside j (inl (omega arith)) ∙ b.stood.home) refl b.fine.0 (λ y z. z) b.scoped b.must b.owned in
+          does_after lay items begins (Given l a cells stack lay items framed f j pf.slots d0 m outer to way Must) (code l (words_at a) (room l a cells stack lay items begins) calls_n (with_var x (number (next_byte i)) env) top under c w') ran
           (more (number (next_byte i)) w' b.emits.0 (p + length (plain (get_code (heap_end l cells) (place_of a x)))) z.to' (record {
             emits = b.emits.2;
             stands = parts.more;
@@ -387,7 +387,7 @@ module _ (l : Program) (a : Assignment) (cells stack : ℕ) (lay : Layout) (item
             under_is = b.under_is;
           }))
 
-      by_input : (i : List ℕ) → w.input ≡ i → Does' lay items begins (Given l a cells stack lay items f j pf.slots d0 m outer to way Must) (at (bases stack) lay items p d) (m ∷ outer) w (code l (words_at a) (room l a cells stack lay items begins) calls_n (with_var x (number (next_byte i)) env) top under c (byte_taken i w))
+      by_input : (i : List ℕ) → w.input ≡ i → Does' lay items begins (Given l a cells stack lay items framed f j pf.slots d0 m outer to way Must) (at (bases stack) lay items p d) (m ∷ outer) w (code l (words_at a) (room l a cells stack lay items begins) calls_n (with_var x (number (next_byte i)) env) top under c (byte_taken i w))
       by_input [] e =
           let h = b.stood.world in
           let sp = b.stood.frame.sp in

@@ -22,7 +22,7 @@ use Rattle.rv32_items.specs.Course.{Layout, Point, label_from, address_from}
 use Rattle.rv32_items.specs.Placed.{is_instruction}
 use Rattle.rv32_select.specs.declared.source.Way.{Way}
 use Rattle.rv32_select.specs.Emit.{plain, moves_code, spot_moves, number_moves, argument_spots, result_spots, save_moves, restore_moves}
-use Rattle.rv32_select.specs.IsSelected.{sources, params_of, argument_spots_of, results_of, result_spots_of, IsOrder, moves_between}
+use Rattle.rv32_select.specs.IsSelected.{sources, params_of, argument_spots_of, results_of, result_spots_of, IsOrder, moves_between, call_items, Then}
 use Rattle.rv32_select.proofs.Courses.{Stands, front, back}
 use Rattle.rv32_select.proofs.Straight.{Data, does_on, at}
 use Rattle.rv32_select.proofs.JumpStretches.{jumped, calls_to, comes_back, there_less}
@@ -32,7 +32,7 @@ use Rattle.rv32_select.proofs.Gathering.{gathered}
 use Rattle.rv32_select.proofs.SavedRegisters.{among_index, index_inside}
 use Rattle.rv32_select.proofs.Relation.{bases, regs_of, word_of, AllHold, HoldsWorld, Keeps, Stood, Back, Ran, ran_on, quiet, Does', does_after, does_then, Given, Needed}
 use Rattle.rv32_select.proofs.PlaceFacts.{NotAmong, IsOwn, Binds, CallFits, SavesFit, ProcedureFine, Setting}
-use Rattle.rv32_select.proofs.BlockFacts.{room, Block, Simulates, CallsSimulated, bound_word, still_scoped, own_places, kept_not_own, apart_not_among, apart_different, world_kept}
+use Rattle.rv32_select.proofs.BlockFacts.{room, Opened, Simulates, CallsSimulated, bound_word, still_scoped, own_places, kept_not_own, apart_not_among, apart_different, world_kept}
 use Rattle.rv32_select.proofs.OneBound.{Cut, cut, ready_at, plain_ran}
 use Rattle.rv32_select.proofs.TakeStatement.{scope_owned}
 use Rattle.rv32_select.proofs.BlockEnds.{all_hold, world_same, good_jumped, jumped_reg, operands_read}
@@ -79,14 +79,14 @@ module _ (l : Program) (a : Assignment) (cells stack : ℕ) (lay : Layout) (f j 
   -- what is needed behind a call has been kept
   pub stood_after : (g site : ℕ) (c0 c : Code) (xs : List ℕ) (steps : List Move) (rs : List Word) (scope later : List ℕ) (env env' : Env) (Must : ℕ → Word → Type 0) (d e : Data) (w w' : World)
       (in_range : (r : ℕ) → is_among r (saves_at a site) ≡ true → (8 ≤ r) × (r < 32)) (room_is : saved + length (saves_at a site) ≤ slots)
-      → Stood l a cells stack lay f j slots d0 link (Needed c0 env Must) d w → Crossed l a lay stack j slots saved g (saves_at a site) d e → HoldsWorld l a cells stack lay e w' → e.regs 2 ≡ d.regs 2
+      → Stood l a cells stack lay true f j slots d0 link (Needed c0 env Must) d w → Crossed l a lay stack j slots saved g (saves_at a site) d e → HoldsWorld l a cells stack lay e w' → e.regs 2 ≡ d.regs 2
       → CallFits l a f g → SavesFit l a f slots saved scope c later site g → Binds l a f slots saved scope xs c later → with_vars xs rs env ≡ Some env'
       → (R : Restored l a lay stack f j slots saved le (saves_at a site) in_range room_is xs steps rs e)
       → ((y : ℕ) → is_among y (uses c) ≡ true → is_among y (uses c0) ≡ true)
       → ((y : ℕ) (v : Word) → env y ≡ Some v → is_among y scope ≡ true)
       → ((y : ℕ) (v : Word) → Must y v → (is_among y scope ≡ true) × (is_among y later ≡ true))
       → ((y : ℕ) → is_among y scope ≡ true → IsOwn l a f saved (place_of a y))
-      → Stood l a cells stack lay f j slots d0 link (Needed c env' Must) R.to w'
+      → Stood l a cells stack lay true f j slots d0 link (Needed c env' Must) R.to w'
   stood_after g site c0 c xs steps rs scope later env env' Must d e w w' in_range room_is st x world sp fits sv binds bind R incl scoped must owned = record {
     world = world_kept l a cells stack lay j slots e R.to w' world R.does.good R.keeps;
     frame = record { sp = R.keeps.frame ∙ sp ∙ st.frame.sp; room = let r = st.frame.room in let n = R.keeps.words in let n1 = world.stack_words in let n2 = st.world.stack_words in omega arith };
@@ -134,9 +134,17 @@ module _ (l : Program) (a : Assignment) (cells stack : ℕ) (lay : Layout) (f j 
       vars y v (inr h) = let both = must y v h in kept y v both.0 (both.0, among_right y (uses c) later both.1) (inr h)
 
 module _ (l : Program) (a : Assignment) (cells stack : ℕ) (lay : Layout) (items : List Item) (begins : List ℕ) (s : Setting l a cells stack lay items begins) (calls_n : Calls) (n : ℕ) (called : CallsSimulated l a cells stack lay items begins calls_n n)
-    (f : ℕ) (q : Procedure) (pf : ProcedureFine l a f q) (j m : ℕ) (outer : List ℕ) (d0 : Data) (u : ℕ) (found : address_from 0 items lay (lay.address m) ≡ Some m) (total : 4 * (j + (1 + pf.slots) + u) ≡ stack) where
-  module _ (g site : ℕ) (os : List Operand) (xs : List ℕ) (c : Code) (to : List Spot) (way : Way) (Must : ℕ → Word → Type 0) (k k' : ℕ) (block : List Item) (p : ℕ) (scope later : List ℕ) (env : Env) (top : ℕ) (under : Option ℕ) (d : Data) (w : World)
-      (b : Block l a cells stack lay items begins f q pf.slots j m outer d0 u n (call g site os xs c) to way Must k k' block p scope later env top under d w) where
+    (f : ℕ) (q : Procedure) (pf : ProcedureFine l a f q) (framed : Bool) (j m : ℕ) (outer : List ℕ) (d0 : Data) (u : ℕ) (found : address_from 0 items lay (lay.address m) ≡ Some m) (total : 4 * (j + (1 + pf.slots) + u) ≡ stack) where
+  -- a call's items, and then others
+  abbrev pub CallEmits : (g site : ℕ) (os : List Operand) (xs : List ℕ) → (List Item → Type 0) → List Item → Type 0
+  CallEmits g site os xs Rest block =
+      (arguments results : List Move)
+      × IsOrder arguments (spot_moves (argument_spots_of l a g) (sources l a os))
+      × IsOrder results (moves_between (map (place_of a) xs) (result_spots_of l g))
+      × Then (call_items l a (slots_of (place_of a) (variables q)) g os (saves_at a site) arguments results) Rest block
+
+  module _ (Rest : List Item → Type 0) (g site : ℕ) (os : List Operand) (xs : List ℕ) (c : Code) (to : List Spot) (way : Way) (Must : ℕ → Word → Type 0) (k : ℕ) (block : List Item) (p : ℕ) (scope later : List ℕ) (env : Env) (top : ℕ) (under : Option ℕ) (d : Data) (w : World)
+      (b : Opened l a cells stack lay items begins f q framed pf.slots j m outer d0 u n true (CallEmits g site os xs Rest block) (call g site os xs c) to way Must k block p scope later env top under d w) where
     pub fit : CallFits l a f g
     fit = b.fine.1.0
 
@@ -196,7 +204,7 @@ module _ (l : Program) (a : Assignment) (cells stack : ℕ) (lay : Layout) (item
         let frame1 = in_frame lay.code (bases stack) j pf.slots b.stood.frame A.keeps in
         let world1 = world_kept l a cells stack lay j pf.slots d A.to w b.stood.world A.does.good A.keeps in
         let same1 = λ (x : Spot) (o : IsOwn l a f (slots_of (place_of a) (variables q)) x). own_same l a lay stack f j pf.slots (slots_of (place_of a) (variables q)) pf.enough (saves_at a site) in_range sv.room d A x o in
-        let stood1 : Stood l a cells stack lay f j pf.slots d0 (lay.address m) (Needed c0 env Must) A.to w = record {
+        let stood1 : Stood l a cells stack lay true f j pf.slots d0 (lay.address m) (Needed c0 env Must) A.to w = record {
           world = world1;
           frame = frame1;
           home = A.keeps.outside j (inl (omega arith)) ∙ b.stood.home;
@@ -206,7 +214,7 @@ module _ (l : Program) (a : Assignment) (cells stack : ℕ) (lay : Layout) (item
             others = λ r keep. A.registers r keep.low keep.high ∙ b.stood.untouched.others r keep;
           };
         } in
-        let reads = operands_read l a cells stack lay items begins s calls_n n f q pf j m outer d0 u c0 scope env Must A.to w os vs stood1 b.scoped b.owned (λ x h. among_left x (used_by_all os) (uses c) h) b.fine.0 e in
+        let reads = operands_read l a cells stack lay items begins s calls_n n f q pf true j m outer d0 u c0 scope env Must A.to w os vs stood1 b.scoped b.owned (λ x h. among_left x (used_by_all os) (uses c) h) b.fine.0 e in
         let places = own_places l a lay stack g j pf.slots 0 to_args (omega arith) g_fine.arguments in
         let z = gathered lay.code (bases stack) j pf.slots b.emits.0 to_args ss A.to order A.does.good frame1 places reads.readable g_fine.arguments_differ in
         let ran1 = plain_ran l a cells stack lay items begins first_code p d z.data' (m ∷ outer) w b.stood.world.good (does_on lay.code (bases stack) A.does z.does) s1 in
@@ -241,9 +249,9 @@ module _ (l : Program) (a : Assignment) (cells stack : ℕ) (lay : Layout) (item
     -- from the procedure's return on
     ended : (rs : List Word) (env' : Env) (e : Data) (v : World) → Crossed l a lay stack j pf.slots (slots_of (place_of a) (variables q)) g (saves_at a site) d e → HoldsWorld l a cells stack lay e v → e.regs 2 ≡ d.regs 2 → v.left ≤ w.left
         → AllHold l.width (result_spots 10 fit.called.results) rs (regs_of e) → length rs ≡ fit.called.results → with_vars xs rs env ≡ Some env'
-        → ((d' : Data) → Block l a cells stack lay items begins f q pf.slots j m outer d0 u n c to way Must k k' b.emits.4.0 (p + length (plain first_code ++ Jump 1 g ∷ plain second_code)) (xs ++ scope) later env' top under d' v
-        → Simulates l a cells stack lay items begins f q pf.slots j m outer d0 u n calls_n c to way Must (p + length (plain first_code ++ Jump 1 g ∷ plain second_code)) env' top under d' v)
-        → Does' lay items begins (Given l a cells stack lay items f j pf.slots d0 m outer to way Must) (at (bases stack) lay items (suc (p + length (plain first_code))) e) (m ∷ outer) v (code l (words_at a) (room l a cells stack lay items begins) calls_n env' top under c v)
+        → ((d' : Data) → Opened l a cells stack lay items begins f q framed pf.slots j m outer d0 u n true (Rest b.emits.4.0) c to way Must k b.emits.4.0 (p + length (plain first_code ++ Jump 1 g ∷ plain second_code)) (xs ++ scope) later env' top under d' v
+        → Simulates l a cells stack lay items begins f q framed pf.slots j m outer d0 u n calls_n c to way Must (p + length (plain first_code ++ Jump 1 g ∷ plain second_code)) env' top under d' v)
+        → Does' lay items begins (Given l a cells stack lay items framed f j pf.slots d0 m outer to way Must) (at (bases stack) lay items (suc (p + length (plain first_code))) e) (m ∷ outer) v (code l (words_at a) (room l a cells stack lay items begins) calls_n env' top under c v)
     ended rs env' e v x world sp left hold many bind more =
         let binds = b.fine.1.1.1.0 in
         let g_fine = s.fine g fit.called fit.is_called in
@@ -257,7 +265,7 @@ module _ (l : Program) (a : Assignment) (cells stack : ℕ) (lay : Layout) (item
         let pj = p + length (plain first_code) in
         let ran = plain_ran l a cells stack lay items begins second_code (suc pj) e R.to (m ∷ outer) v world.good R.does call_stands.1 in
         let behind : suc pj + length (plain second_code) ≡ p + length (plain first_code ++ Jump 1 g ∷ plain second_code) = let y = length-append (plain first_code) (Jump 1 g ∷ plain second_code) in omega arith in
-        does_after lay items begins (Given l a cells stack lay items f j pf.slots d0 m outer to way Must) (code l (words_at a) (room l a cells stack lay items begins) calls_n env' top under c v)
+        does_after lay items begins (Given l a cells stack lay items framed f j pf.slots d0 m outer to way Must) (code l (words_at a) (room l a cells stack lay items begins) calls_n env' top under c v)
         (subst (λ y. Ran lay items begins (at (bases stack) lay items (suc pj) e) (m ∷ outer) v (at (bases stack) lay items y R.to) (m ∷ outer) v) behind ran)
         (more R.to (record {
           emits = b.emits.4.2;
@@ -281,20 +289,20 @@ module _ (l : Program) (a : Assignment) (cells stack : ℕ) (lay : Layout) (item
         apart : (r : ℕ) → is_among r (saves_at a site) ≡ true → NotAmong (Reg r) (map (place_of a) xs)
         apart r among = let y = sv.is_live r among in subst (λ z. NotAmong z (map (place_of a) xs)) y.1.1 (apart_not_among l a scope xs c later y.0 b.fine.1.1.1.0.0 y.1.0)
 
-    pub call_statement : ((rs : List Word) (env' : Env) (d' : Data) (v : World) → Block l a cells stack lay items begins f q pf.slots j m outer d0 u n c to way Must k k' b.emits.4.0 (p + length (plain first_code ++ Jump 1 g ∷ plain second_code)) (xs ++ scope) later env' top under d' v
-        → Simulates l a cells stack lay items begins f q pf.slots j m outer d0 u n calls_n c to way Must (p + length (plain first_code ++ Jump 1 g ∷ plain second_code)) env' top under d' v)
-        → Simulates l a cells stack lay items begins f q pf.slots j m outer d0 u n calls_n (call g site os xs c) to way Must p env top under d w
+    pub call_statement : ((rs : List Word) (env' : Env) (d' : Data) (v : World) → Opened l a cells stack lay items begins f q framed pf.slots j m outer d0 u n true (Rest b.emits.4.0) c to way Must k b.emits.4.0 (p + length (plain first_code ++ Jump 1 g ∷ plain second_code)) (xs ++ scope) later env' top under d' v
+        → Simulates l a cells stack lay items begins f q framed pf.slots j m outer d0 u n calls_n c to way Must (p + length (plain first_code ++ Jump 1 g ∷ plain second_code)) env' top under d' v)
+        → Simulates l a cells stack lay items begins f q framed pf.slots j m outer d0 u n calls_n (call g site os xs c) to way Must p env top under d w
     unfolding code
     call_statement more = by_operands (operands l (words_at a) env os) refl
       where
         by_vars : (r : Option Env) (rs : List Word) → with_vars xs rs env ≡ r → (e : Data) (v : World) → Crossed l a lay stack j pf.slots (slots_of (place_of a) (variables q)) g (saves_at a site) d e → HoldsWorld l a cells stack lay e v → e.regs 2 ≡ d.regs 2 → v.left ≤ w.left
             → AllHold l.width (result_spots 10 fit.called.results) rs (regs_of e) → length rs ≡ fit.called.results
-            → Does' lay items begins (Given l a cells stack lay items f j pf.slots d0 m outer to way Must) (at (bases stack) lay items (suc (p + length (plain first_code))) e) (m ∷ outer) v (need r v (λ env'. code l (words_at a) (room l a cells stack lay items begins) calls_n env' top under c v))
+            → Does' lay items begins (Given l a cells stack lay items framed f j pf.slots d0 m outer to way Must) (at (bases stack) lay items (suc (p + length (plain first_code))) e) (m ∷ outer) v (need r v (λ env'. code l (words_at a) (room l a cells stack lay items begins) calls_n env' top under c v))
         by_vars None rs bind e v x world sp left hold many = tt
         by_vars (Some env') rs bind e v x world sp left hold many = ended rs env' e v x world sp left hold many bind (λ d' b'. more rs env' d' v b')
 
         by_words : (vs : List Word) → operands l (words_at a) env os ≡ Some vs
-            → Does' lay items begins (Given l a cells stack lay items f j pf.slots d0 m outer to way Must) (at (bases stack) lay items p d) (m ∷ outer) w
+            → Does' lay items begins (Given l a cells stack lay items framed f j pf.slots d0 m outer to way Must) (at (bases stack) lay items p d) (m ∷ outer) w
             (then_do (calls_n g vs top w) (λ rs w'. need (with_vars xs rs env) w' (λ env'. code l (words_at a) (room l a cells stack lay items begins) calls_n env' top under c w')))
         by_words vs e =
             let z = begun vs e in
@@ -304,7 +312,7 @@ module _ (l : Program) (a : Assignment) (cells stack : ℕ) (lay : Layout) (item
             let whole_stack : 4 * (j + top) ≡ stack = omega arith in
             let callee = called g fit.called z.place (suc pj) (m ∷ outer) vs top j w z.to' fit.is_called z.found_label z.world (z.sp ∙ b.stood.frame.sp) whole_stack z.link back_found z.hold b.left in
             let G1 = λ (rs : List Word) (w' : World) (p' : Point) (calls' : List ℕ). (d' : Data) × ((p' ≡ at (bases stack) lay items (suc pj) d') × ((calls' ≡ m ∷ outer) × (Back l a cells stack lay g j z.to' (result_spots 10 fit.called.results) rs d' w' × (length rs ≡ fit.called.results)))) in
-            let G = Given l a cells stack lay items f j pf.slots d0 m outer to way Must in
+            let G = Given l a cells stack lay items framed f j pf.slots d0 m outer to way Must in
             let onward = λ (rs : List Word) (w' : World). need (with_vars xs rs env) w' (λ env'. code l (words_at a) (room l a cells stack lay items begins) calls_n env' top under c w') in
             does_after lay items begins G (then_do (calls_n g vs top w) onward) z.ran
             (does_then lay items begins G1 G (at (bases stack) lay items z.place z.to') (suc pj ∷ m ∷ outer) w (calls_n g vs top w) onward callee
@@ -316,7 +324,7 @@ module _ (l : Program) (a : Assignment) (cells stack : ℕ) (lay : Layout) (item
             back_to.world (back_to.sp ∙ sym b.stood.frame.sp) le back_to.results given.1.1.1.1))))
 
         by_operands : (r : Option (List Word)) → operands l (words_at a) env os ≡ r
-            → Does' lay items begins (Given l a cells stack lay items f j pf.slots d0 m outer to way Must) (at (bases stack) lay items p d) (m ∷ outer) w
+            → Does' lay items begins (Given l a cells stack lay items framed f j pf.slots d0 m outer to way Must) (at (bases stack) lay items p d) (m ∷ outer) w
             (need r w (λ vs. then_do (calls_n g vs top w) (λ rs w'. need (with_vars xs rs env) w' (λ env'. code l (words_at a) (room l a cells stack lay items begins) calls_n env' top under c w'))))
         by_operands None e = tt
         by_operands (Some vs) e = by_words vs e

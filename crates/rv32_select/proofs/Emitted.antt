@@ -32,12 +32,13 @@ use Rattle.rv32_select.specs.declared.decides.Comparison.{Comparison}
 use Rattle.rv32_select.specs.declared.source.Way.{Way}
 use Rattle.rv32_select.specs.declared.source.Way.TheVariants.{Follows}
 use Rattle.rv32_select.specs.Emit.{plain, moves_code, number_moves, save_moves, restore_moves, result_spots, set_code, prim_code, load_code, save_code, take_items, put_code, get_code, branch_items, match_items}
-use Rattle.rv32_select.specs.IsSelected.{source, sources, heap_end, heap_full, places, further, way_out, tests_items, no_alternative, argument_spots_of, result_spots_of, results_of, moves_between, is_rare, waits, has_one, last_of, stands_last, Then, Emits, EmitsArms, EmitsLast, EmitsDecided, EmitsDecidedFirst, EmitsDecidedLast}
+use Rattle.rv32_select.specs.IsSelected.{call_items, source, sources, heap_end, heap_full, places, further, way_out, tests_items, no_alternative, argument_spots_of, result_spots_of, results_of, moves_between, is_rare, waits, has_one, last_of, stands_last, Then, Emits, EmitsArms, EmitsLast, EmitsDecided, EmitsDecidedFirst, EmitsDecidedLast}
 use Rattle.rv32_select.specs.Decides.{compares, decides_arms, decides_code, decides, decided, tested, condition, other_condition}
 use Rattle.rv32_select.specs.Ranges.{IsSource, AreSpots, AllInRange, is_spot_in, Different, AreTargets}
 use Rattle.rv32_select.specs.Writable.{Writable, HasPlace, HavePlaces, OperandPlaced, OperandsPlaced, TargetsPlaced, TestsPlaced, CallPlaced, Placed, ArmsPlaced, ArmPlaced, ProcedurePlaced}
-use Rattle.rv32_select.specs.Emitting.{Moved, Sent, Called, TailCalled, Emitted, EmittedArms, EmittedLast, EmittedDecidedFirst, EmittedDecidedLast, Before, ArmsBefore, one_arm}
+use Rattle.rv32_select.specs.Emitting.{link_aside, link_back, Moved, Sent, Called, TailCalled, Emitted, EmittedArms, EmittedLast, EmittedDecidedFirst, EmittedDecidedLast, Before, ArmsBefore, one_arm}
 use Rattle.rv32_select.proofs.Plain.{plain_append}
+use Rattle.rv32_select.proofs.Rounded.{rounded}
 use Rattle.rv32_select.proofs.Sending.{spots_in_range, procedure_at}
 
 -- what is placed in a statement
@@ -89,11 +90,11 @@ undecided f x c h = by_test (compares f)
     by_test false = refl
 
 -- a statement's items
-module _ (l : Program) (a : Assignment) (cells stack words saved : ℕ) (stmt : LowStmt) (old new : List Item) (n : ℕ) where
+module _ (l : Program) (a : Assignment) (cells stack words saved : ℕ) (framed : Bool) (stmt : LowStmt) (old new : List Item) (n : ℕ) where
   abbrev Done : Type 0
-  Done = Before l a cells stack words saved (before_of stmt) old n new n
+  Done = Before l a cells stack words saved framed (before_of stmt) old n new n
 
-  done : (f : Code → Code) → before_of stmt ≡ f → Before l a cells stack words saved f old n new n → Done
+  done : (f : Code → Code) → before_of stmt ≡ f → Before l a cells stack words saved framed f old n new n → Done
   done f e h = rw e h
 
   pub set_done : (x : ℕ) (b : Operand) (p : Spot) (s : Source) → stmt ≡ Set x b → p ≡ place_of a x → (s ≡ source l a b) × IsSource s → new ≡ old ++ plain (set_code p s) → Done
@@ -115,7 +116,7 @@ module _ (l : Program) (a : Assignment) (cells stack words saved : ℕ) (stmt : 
     before_choice = λ c h. undecided f x c (h x);
     emits = λ to way c k rest free h.
         let code = plain (prim_code f (place_of a x) (source l a b) (source l a d)) in
-        subst (λ r. elim r as (λ y. Type 0) [ true ↦ EmitsDecided l a cells stack words saved f (source l a b) (source l a d) to way c n k (code ++ rest) | false ↦ Then code (Emits l a cells stack words saved to way c n k) (code ++ rest) ]) (sym free) (rest, refl, h);
+        subst (λ r. elim r as (λ y. Type 0) [ true ↦ EmitsDecided l a cells stack words saved framed f (source l a b) (source l a d) to way c n k (code ++ rest) | false ↦ Then code (Emits l a cells stack words saved framed to way c n k) (code ++ rest) ]) (sym free) (rest, refl, h);
   })
 
   pub load_done : (x : ℕ) (b : Operand) (k : ℕ) (p : Spot) (s : Source) → stmt ≡ Load x b k → p ≡ place_of a x → (s ≡ source l a b) × IsSource s → new ≡ old ++ plain (load_code p s k) → Done
@@ -148,51 +149,43 @@ module _ (l : Program) (a : Assignment) (cells stack words saved : ℕ) (stmt : 
     emits = λ to way c k rest free h. (rest, refl, h);
   })
 
-  pub put_done : (b : Operand) (s : Source) (end : ℕ) → stmt ≡ Put b → (s ≡ source l a b) × IsSource s → end ≡ heap_end l cells → new ≡ old ++ plain (put_code end s) → Done
-  put_done b s end e from at is = done (put b) (ap before_of e ∙ before_of-Put b) (record {
-    items = plain (put_code (heap_end l cells) (source l a b));
-    is = is ∙ (λ i. old ++ plain (put_code (at i) (from.0 i)));
-    placed = λ c h. h.1;
-    no_choice = λ y c. refl;
-    before_choice = λ c h. refl;
-    emits = λ to way c k rest free h. (rest, refl, h);
-  })
+  pub put_done : (b : Operand) (s : Source) (end : ℕ) (c1 c2 : List Item) → stmt ≡ Put b → (s ≡ source l a b) × IsSource s → end ≡ heap_end l cells → c1 ≡ old ++ link_aside framed → c2 ≡ c1 ++ plain (put_code end s) → new ≡ c2 ++ link_back framed → Done
+  put_done b s end c1 c2 e from at one two three =
+      let r = rounded framed (plain (put_code (heap_end l cells) (source l a b))) old c1 c2 new one (two ∙ (λ i. c1 ++ plain (put_code (at i) (from.0 i)))) three in
+      done (put b) (ap before_of e ∙ before_of-Put b) (record { items = r.items; is = r.is; placed = λ c h. h.1; no_choice = λ y c. refl; before_choice = λ c h. refl; emits = λ to way c k rest free h. r.round (Emits l a cells stack words saved framed to way c n k) rest h })
 
-  pub get_done : (x : ℕ) (p : Spot) (end : ℕ) → stmt ≡ Get x → p ≡ place_of a x → end ≡ heap_end l cells → new ≡ old ++ plain (get_code end p) → Done
-  get_done x p end e at ends is = done (get x) (ap before_of e ∙ before_of-Get x) (record {
-    items = plain (get_code (heap_end l cells) (place_of a x));
-    is = is ∙ (λ i. old ++ plain (get_code (ends i) (at i)));
-    placed = λ c h. h.1;
-    no_choice = λ y c. refl;
-    before_choice = λ c h. refl;
-    emits = λ to way c k rest free h. (rest, refl, h);
-  })
+  pub get_done : (x : ℕ) (p : Spot) (end : ℕ) (c1 c2 : List Item) → stmt ≡ Get x → p ≡ place_of a x → end ≡ heap_end l cells → c1 ≡ old ++ link_aside framed → c2 ≡ c1 ++ plain (get_code end p) → new ≡ c2 ++ link_back framed → Done
+  get_done x p end c1 c2 e at ends one two three =
+      let r = rounded framed (plain (get_code (heap_end l cells) (place_of a x))) old c1 c2 new one (two ∙ (λ i. c1 ++ plain (get_code (ends i) (at i)))) three in
+      done (get x) (ap before_of e ∙ before_of-Get x) (record { items = r.items; is = r.is; placed = λ c h. h.1; no_choice = λ y c. refl; before_choice = λ c h. refl; emits = λ to way c k rest free h. r.round (Emits l a cells stack words saved framed to way c n k) rest h })
 
-  pub call_done : (f site : ℕ) (as' : List Operand) (xs : List ℕ) → stmt ≡ Call f site as' xs → Called l a saved f site as' xs old new → Done
-  call_done f site as' xs e c = done (call f site as' xs) (ap before_of e ∙ before_of-Call f site as' xs) (record {
-    items = _;
-    is = c.is;
-    placed = λ c h. h.1;
-    no_choice = λ y c. refl;
-    before_choice = λ c h. refl;
-    emits = λ to way b k rest free h. (c.arguments, c.results, c.order, c.results_order, (rest, refl, h));
-  })
+  pub call_done : (f site : ℕ) (as' : List Operand) (xs : List ℕ) (c1 c2 : List Item) → stmt ≡ Call f site as' xs → c1 ≡ old ++ link_aside framed → Called l a saved f site as' xs c1 c2 → new ≡ c2 ++ link_back framed → Done
+  call_done f site as' xs c1 c2 e one c three =
+      let r = rounded framed (call_items l a saved f as' (saves_at a site) c.arguments c.results) old c1 c2 new one c.is three in
+      done (call f site as' xs) (ap before_of e ∙ before_of-Call f site as' xs) (record {
+        items = r.items;
+        is = r.is;
+        placed = λ c h. h.1;
+        no_choice = λ y c. refl;
+        before_choice = λ c h. refl;
+        emits = λ to way b k rest free h. (c.arguments, c.results, c.order, c.results_order, r.round (Emits l a cells stack words saved framed to way b n k) rest h);
+      })
 
 pub on_ok : (r : Result (Unit {0}) AllocError) (P Q : Type 0) → (P → Q) → OnOk r P → OnOk r Q
 on_ok (Ok t) P Q f h = f h
 on_ok (Err t) P Q f h = tt
 
-pub join_done : (l : Program) (a : Assignment) (cells stack words saved : ℕ) (stmt : LowStmt) (old new : List Item) (n m : ℕ) (xs items : List ℕ) (b : Box LowBlock Global) (block : LowBlock) (r : Result (Unit {0}) AllocError) → stmt ≡ Join xs b → items ≡ xs → block ≡ b.value
-    → OnOk r (Before l a cells stack words saved (join items (code_of block)) old n new m) → OnOk r (Before l a cells stack words saved (before_of stmt) old n new m)
-join_done l a cells stack words saved stmt old new n m xs items b block (Ok t) e is same h =
+pub join_done : (l : Program) (a : Assignment) (cells stack words saved : ℕ) (framed : Bool) (stmt : LowStmt) (old new : List Item) (n m : ℕ) (xs items : List ℕ) (b : Box LowBlock Global) (block : LowBlock) (r : Result (Unit {0}) AllocError) → stmt ≡ Join xs b → items ≡ xs → block ≡ b.value
+    → OnOk r (Before l a cells stack words saved framed (join items (code_of block)) old n new m) → OnOk r (Before l a cells stack words saved framed (before_of stmt) old n new m)
+join_done l a cells stack words saved framed stmt old new n m xs items b block (Ok t) e is same h =
     let there : before_of stmt ≡ join items (code_of block) = ap before_of e ∙ before_of-Join xs b ∙ (λ i. join (sym is i) (code_of (sym same i))) in
     rw there h
-join_done l a cells stack words saved stmt old new n m xs items b block (Err t) e is same h = tt
+join_done l a cells stack words saved framed stmt old new n m xs items b block (Err t) e is same h = tt
 
-pub join_made : (l : Program) (a : Assignment) (cells stack words saved : ℕ) (c : Code) (xs : List ℕ) (old mid new : List Item) (n label k m : ℕ) (to : List Spot) → to ≡ map (place_of a) xs → label ≡ n → k ≡ suc n
-    → Emitted l a cells stack words saved to (Follows label) c old k mid m → new ≡ mid ++ Label label ∷ [] → Before l a cells stack words saved (join xs c) old n new m
-join_made l a cells stack words saved c xs old mid new n label k m to at is next e then' =
-    let block : Emits l a cells stack words saved (places a xs) (Follows n) c (suc n) m e.items = rw (sym next, sym is, sym at) e.emits in
+pub join_made : (l : Program) (a : Assignment) (cells stack words saved : ℕ) (framed : Bool) (c : Code) (xs : List ℕ) (old mid new : List Item) (n label k m : ℕ) (to : List Spot) → to ≡ map (place_of a) xs → label ≡ n → k ≡ suc n
+    → Emitted l a cells stack words saved framed to (Follows label) c old k mid m → new ≡ mid ++ Label label ∷ [] → Before l a cells stack words saved framed (join xs c) old n new m
+join_made l a cells stack words saved framed c xs old mid new n label k m to at is next e then' =
+    let block : Emits l a cells stack words saved framed (places a xs) (Follows n) c (suc n) m e.items = rw (sym next, sym is, sym at) e.emits in
     record {
       items = e.items ++ Label n ∷ [];
       is = then' ∙ ap (λ x. mid ++ Label x ∷ []) is ∙ ap (λ x. x ++ Label n ∷ []) e.is ∙ append_assoc old e.items (Label n ∷ []);
@@ -348,15 +341,15 @@ pub choice_none : (e : LowEnd) (arms items : List LowArm) (b : Box LowBlock Glob
 choice_none e arms [] b is are none = ap end_of is ∙ end_of-Choose arms b ∙ ap (λ ts. choose (arms_before (map arm_of ts) (code_of b.value))) (sym are)
 choice_none e arms (t ∷ ts) b is are none = absurd (omega (arith, none))
 
-pub arm_made : (l : Program) (a : Assignment) (cells stack words saved : ℕ) (to : List Spot) (way way' : Way) (t : LowArm) (old c1 mid new : List Item) (n label k m : ℕ) → label ≡ n → k ≡ suc n → way' ≡ further way → c1 ≡ old ++ tests_items l a label t.tests
-    → Emitted l a cells stack words saved to way' (code_of t.block) c1 k mid m → new ≡ mid ++ Label label ∷ []
-    → ArmsBefore l a cells stack words saved to way (one_arm (arm_of t)) old n new m
-arm_made l a cells stack words saved to way way' t old c1 mid new n label k m is next w tested e then' =
-    let block : Emits l a cells stack words saved to (further way) (code_of t.block) (suc n) m e.items = rw (sym w, sym next) e.emits in
+pub arm_made : (l : Program) (a : Assignment) (cells stack words saved : ℕ) (framed : Bool) (to : List Spot) (way way' : Way) (t : LowArm) (old c1 mid new : List Item) (n label k m : ℕ) → label ≡ n → k ≡ suc n → way' ≡ further way → c1 ≡ old ++ tests_items l a label t.tests
+    → Emitted l a cells stack words saved framed to way' (code_of t.block) c1 k mid m → new ≡ mid ++ Label label ∷ []
+    → ArmsBefore l a cells stack words saved framed to way (one_arm (arm_of t)) old n new m
+arm_made l a cells stack words saved framed to way way' t old c1 mid new n label k m is next w tested e then' =
+    let block : Emits l a cells stack words saved framed to (further way) (code_of t.block) (suc n) m e.items = rw (sym w, sym next) e.emits in
     let tests = tests_items l a n t.tests in
     let all : new ≡ ((old ++ tests) ++ e.items) ++ Label n ∷ [] = then' ∙ (λ i. mid ++ Label (is i) ∷ []) ∙ ap (λ x. x ++ Label n ∷ []) (e.is ∙ ap (λ x. x ++ e.items) (tested ∙ ap (λ x. old ++ tests_items l a x t.tests) is)) in
     let shape : ((old ++ tests) ++ e.items) ++ Label n ∷ [] ≡ old ++ (tests ++ (e.items ++ Label n ∷ [])) = grind (arith, common_steps) in
-    subst (λ p. ArmsBefore l a cells stack words saved to way (one_arm p) old n new m) (sym (arm_of-parts t)) (record {
+    subst (λ p. ArmsBefore l a cells stack words saved framed to way (one_arm p) old n new m) (sym (arm_of-parts t)) (record {
       items = tests ++ (e.items ++ Label n ∷ []);
       is = all ∙ shape;
       placed = λ as' h. h.2;
@@ -365,7 +358,7 @@ arm_made l a cells stack words saved to way way' t old c1 mid new n label k m is
 
 -- ---- lists of statements and of arms
 
-module _ (l : Program) (a : Assignment) (cells stack words saved : ℕ) where
+module _ (l : Program) (a : Assignment) (cells stack words saved : ℕ) (framed : Bool) where
   -- items that, before those of the rest, are those of the whole
   pub record Towards (whole rest : Code → Code) (old : List Item) (n : ℕ) (new : List Item) (m : ℕ) : Type 0 where
     pub items : List Item
@@ -375,12 +368,12 @@ module _ (l : Program) (a : Assignment) (cells stack words saved : ℕ) where
     pub pending : Code → Bool
     pub settles : (c : Code) → ((x : ℕ) → decides_code x c ≡ false) → pending c ≡ false
     pub emits : (to : List Spot) (way : Way) (c : Code) (k : ℕ) (more : List Item)
-        → pending (rest c) ≡ false → Emits l a cells stack words saved to way (rest c) m k more → Emits l a cells stack words saved to way (whole c) n k (items ++ more)
+        → pending (rest c) ≡ false → Emits l a cells stack words saved framed to way (rest c) m k more → Emits l a cells stack words saved framed to way (whole c) n k (items ++ more)
 
   pub none_yet : (whole : Code → Code) (old : List Item) (n : ℕ) → Towards whole whole old n old n
   none_yet whole old n = record { items = []; is = sym (append-nil old); placed = λ c h. h; pending = λ c. false; settles = λ c h. refl; emits = λ to way c k more free h. h }
 
-  pub one_more : (whole : Code → Code) (s : LowStmt) (rest : List LowStmt) (old mid new : List Item) (n k m : ℕ) → Towards whole (all_before (map before_of (s ∷ rest))) old n mid k → Before l a cells stack words saved (before_of s) mid k new m
+  pub one_more : (whole : Code → Code) (s : LowStmt) (rest : List LowStmt) (old mid new : List Item) (n k m : ℕ) → Towards whole (all_before (map before_of (s ∷ rest))) old n mid k → Before l a cells stack words saved framed (before_of s) mid k new m
       → Towards whole (all_before (map before_of rest)) old n new m
   one_more whole s rest old mid new n k m t b = record {
     items = t.items ++ b.items;
@@ -405,7 +398,7 @@ module _ (l : Program) (a : Assignment) (cells stack words saved : ℕ) where
   within_none items left end old n e = record { towards = none_yet (all_before (map before_of items)) old n; count = omega (arith, e); settled = λ z. refl }
 
   pub within_more : (items : List LowStmt) (i left left' : ℕ) (s : LowStmt) (end : Code) (old mid new : List Item) (n k m : ℕ) (is_last : Bool) → i < length items → s ≡ get_or items i s → left' + 1 ≡ left → is_last ≡ nat_eq left' 0
-      → (is_last ≡ true → decided (before_of s end) ≡ false) → Within items i left end old n mid k → Before l a cells stack words saved (before_of s) mid k new m → Within items (i + 1) left' end old n new m
+      → (is_last ≡ true → decided (before_of s end) ≡ false) → Within items i left end old n mid k → Before l a cells stack words saved framed (before_of s) mid k new m → Within items (i + 1) left' end old n new m
   unfolding one_more
   within_more items i left left' s end old mid new n k m is_last lt is down last free t b =
       let front : drop i items ≡ s ∷ drop (suc i) items = drop-cons items i s lt ∙ ap (λ x. x ∷ drop (suc i) items) (sym is) in
@@ -419,18 +412,18 @@ module _ (l : Program) (a : Assignment) (cells stack words saved : ℕ) where
       })
 
   pub block_made : (b : LowBlock) (items : List LowStmt) (i left : ℕ) (to : List Spot) (way : Way) (old mid new : List Item) (n k m : ℕ) → items ≡ b.stmts → length items ≤ i → Within items i left (end_of b.last) old n mid k
-      → Emitted l a cells stack words saved to way (end_of b.last) mid k new m → Emitted l a cells stack words saved to way (code_of b) old n new m
+      → Emitted l a cells stack words saved framed to way (end_of b.last) mid k new m → Emitted l a cells stack words saved framed to way (code_of b) old n new m
   block_made b items i left to way old mid new n k m is over t e =
       let none = drop_past items i over in
       let count = t.count in
       let settled : t.towards.pending (all_before (map before_of (drop i items)) (end_of b.last)) ≡ false =
       ap (λ ss. t.towards.pending (all_before (map before_of ss) (end_of b.last))) none ∙ t.settled (omega (arith, count, over)) in
-      let last : Emits l a cells stack words saved to way (all_before (map before_of (drop i items)) (end_of b.last)) k m e.items = rw none e.emits in
+      let last : Emits l a cells stack words saved framed to way (all_before (map before_of (drop i items)) (end_of b.last)) k m e.items = rw none e.emits in
       let whole = t.towards.emits to way (end_of b.last) m e.items settled last in
       rw (code_of-parts b) (record {
         items = t.towards.items ++ e.items;
         is = e.is ∙ ap (λ x. x ++ e.items) t.towards.is ∙ append_assoc old t.towards.items e.items;
-        emits = subst (λ ss. Emits l a cells stack words saved to way (all_before (map before_of ss) (end_of b.last)) n m (t.towards.items ++ e.items)) is whole;
+        emits = subst (λ ss. Emits l a cells stack words saved framed to way (all_before (map before_of ss) (end_of b.last)) n m (t.towards.items ++ e.items)) is whole;
       })
 
   -- the last statement, that decides the end
@@ -450,16 +443,16 @@ module _ (l : Program) (a : Assignment) (cells stack words saved : ℕ) where
 
   pub decided_made : (b : LowBlock) (items : List LowStmt) (i left left' : ℕ) (s : LowStmt) (c : Comparison) (to : List Spot) (way : Way) (old mid new : List Item) (n k m : ℕ) → items ≡ b.stmts → i < length items → s ≡ get_or items i s → left' + 1 ≡ left → left' ≡ 0
       → before_of s ≡ prim c.operation c.variable c.left c.right → Within items i left (end_of b.last) old n mid k
-      → Emitted l a cells stack words saved to way (prim c.operation c.variable c.left c.right (end_of b.last)) mid k new m → Emitted l a cells stack words saved to way (code_of b) old n new m
+      → Emitted l a cells stack words saved framed to way (prim c.operation c.variable c.left c.right (end_of b.last)) mid k new m → Emitted l a cells stack words saved framed to way (code_of b) old n new m
   decided_made b items i left left' s c to way old mid new n k m is lt at down none same t e =
       let rest = last_left items i left left' s c (end_of b.last) lt at t.count down none same in
       let settled = ap t.towards.pending rest ∙ t.towards.settles (prim c.operation c.variable c.left c.right (end_of b.last)) (λ x. refl) in
-      let last : Emits l a cells stack words saved to way (all_before (map before_of (drop i items)) (end_of b.last)) k m e.items = rw rest e.emits in
+      let last : Emits l a cells stack words saved framed to way (all_before (map before_of (drop i items)) (end_of b.last)) k m e.items = rw rest e.emits in
       let whole = t.towards.emits to way (end_of b.last) m e.items settled last in
       rw (code_of-parts b) (record {
         items = t.towards.items ++ e.items;
         is = e.is ∙ ap (λ x. x ++ e.items) t.towards.is ∙ append_assoc old t.towards.items e.items;
-        emits = subst (λ ss. Emits l a cells stack words saved to way (all_before (map before_of ss) (end_of b.last)) n m (t.towards.items ++ e.items)) is whole;
+        emits = subst (λ ss. Emits l a cells stack words saved framed to way (all_before (map before_of ss) (end_of b.last)) n m (t.towards.items ++ e.items)) is whole;
       })
 
   -- the statement at hand is placed, and so is the end
@@ -482,13 +475,13 @@ module _ (l : Program) (a : Assignment) (cells stack words saved : ℕ) where
     pub is : new ≡ old ++ items
     pub placed : (c : Code) → ArmsPlaced l a (whole c) → ArmsPlaced l a (rest c)
     pub emits : (c : Code) (k : ℕ) (more : List Item)
-        → EmitsArms l a cells stack words saved to way (rest c) m k more → EmitsArms l a cells stack words saved to way (whole c) n k (items ++ more)
+        → EmitsArms l a cells stack words saved framed to way (rest c) m k more → EmitsArms l a cells stack words saved framed to way (whole c) n k (items ++ more)
 
   pub no_arm_yet : (to : List Spot) (way : Way) (whole : Code → Arms) (old : List Item) (n : ℕ) → TowardsArms to way whole whole old n old n
   no_arm_yet to way whole old n = record { items = []; is = sym (append-nil old); placed = λ c h. h; emits = λ c k more h. h }
 
   pub one_more_arm : (to : List Spot) (way : Way) (whole : Code → Arms) (s : LowArm) (rest : List LowArm) (old mid new : List Item) (n k m : ℕ) → TowardsArms to way whole (arms_before (map arm_of (s ∷ rest))) old n mid k
-      → ArmsBefore l a cells stack words saved to way (one_arm (arm_of s)) mid k new m → TowardsArms to way whole (arms_before (map arm_of rest)) old n new m
+      → ArmsBefore l a cells stack words saved framed to way (one_arm (arm_of s)) mid k new m → TowardsArms to way whole (arms_before (map arm_of rest)) old n new m
   one_more_arm to way whole s rest old mid new n k m t b = record {
     items = t.items ++ b.items;
     is = b.is ∙ ap (λ x. x ++ b.items) t.is ∙ append_assoc old t.items b.items;
@@ -499,7 +492,7 @@ module _ (l : Program) (a : Assignment) (cells stack words saved : ℕ) where
   }
 
   pub arm_added : (to : List Spot) (way : Way) (whole : Code → Arms) (items : List LowArm) (i : ℕ) (s : LowArm) (old mid new : List Item) (n k m : ℕ) → i < length items → s ≡ get_or items i s → TowardsArms to way whole (arms_before (map arm_of (drop i items))) old n mid k
-      → ArmsBefore l a cells stack words saved to way (one_arm (arm_of s)) mid k new m → TowardsArms to way whole (arms_before (map arm_of (drop (i + 1) items))) old n new m
+      → ArmsBefore l a cells stack words saved framed to way (one_arm (arm_of s)) mid k new m → TowardsArms to way whole (arms_before (map arm_of (drop (i + 1) items))) old n new m
   arm_added to way whole items i s old mid new n k m lt is t b =
       let front : drop i items ≡ s ∷ drop (suc i) items = drop-cons items i s lt ∙ ap (λ x. x ∷ drop (suc i) items) (sym is) in
       let next : suc i ≡ i + 1 = omega arith in
@@ -507,9 +500,9 @@ module _ (l : Program) (a : Assignment) (cells stack words saved : ℕ) where
       (one_more_arm to way whole s (drop (suc i) items) old mid new n k m (subst (λ ss. TowardsArms to way whole (arms_before (map arm_of ss)) old n mid k) front t) b)
 
   pub arms_made : (to : List Spot) (way : Way) (whole : Code → Arms) (c : Code) (items : List LowArm) (i : ℕ) (old mid new : List Item) (n k m : ℕ) → length items ≤ i → TowardsArms to way whole (arms_before (map arm_of (drop i items))) old n mid k
-      → Emitted l a cells stack words saved to way c mid k new m → EmittedArms l a cells stack words saved to way (whole c) old n new m
+      → Emitted l a cells stack words saved framed to way c mid k new m → EmittedArms l a cells stack words saved framed to way (whole c) old n new m
   arms_made to way whole c items i old mid new n k m over t e =
-      let last : EmitsArms l a cells stack words saved to way (arms_before (map arm_of (drop i items)) c) k m e.items = rw (drop_past items i over) e.emits in
+      let last : EmitsArms l a cells stack words saved framed to way (arms_before (map arm_of (drop i items)) c) k m e.items = rw (drop_past items i over) e.emits in
       record {
         items = t.items ++ e.items;
         is = e.is ∙ ap (λ x. x ++ e.items) t.is ∙ append_assoc old t.items e.items;
@@ -518,15 +511,15 @@ module _ (l : Program) (a : Assignment) (cells stack words saved : ℕ) where
 
   -- the first arm, behind the others
   pub first_last_made : (to : List Spot) (way way' : Way) (first : LowArm) (t : LowTest) (rest : List LowArm) (c : Code) (old c1 c2 c3 new : List Item) (n label k i m : ℕ) → first.tests ≡ t ∷ [] → label ≡ n → k ≡ suc n → way' ≡ further way
-      → c1 ≡ old ++ match_items label (source l a t.left) t.right → EmittedArms l a cells stack words saved to way' (arms_before (map arm_of rest) c) c1 k c2 i → c3 ≡ c2 ++ Label label ∷ []
-      → Emitted l a cells stack words saved to way (code_of first.block) c3 i new m → EmittedLast l a cells stack words saved to way (arms_before (map arm_of (first ∷ rest)) c) old n new m
+      → c1 ≡ old ++ match_items label (source l a t.left) t.right → EmittedArms l a cells stack words saved framed to way' (arms_before (map arm_of rest) c) c1 k c2 i → c3 ≡ c2 ++ Label label ∷ []
+      → Emitted l a cells stack words saved framed to way (code_of first.block) c3 i new m → EmittedLast l a cells stack words saved framed to way (arms_before (map arm_of (first ∷ rest)) c) old n new m
   first_last_made to way way' first t rest c old c1 c2 c3 new n label k i m one is next w matched others labelled e =
-      let arms' : EmitsArms l a cells stack words saved to (further way) (arms_before (map arm_of rest) c) (suc n) i others.items = rw (sym w, sym next) others.emits in
+      let arms' : EmitsArms l a cells stack words saved framed to (further way) (arms_before (map arm_of rest) c) (suc n) i others.items = rw (sym w, sym next) others.emits in
       let test = match_items n (source l a t.left) t.right in
       let all : new ≡ (((old ++ test) ++ others.items) ++ Label n ∷ []) ++ e.items =
       e.is ∙ ap (λ x. x ++ e.items) (labelled ∙ (λ i. c2 ++ Label (is i) ∷ []) ∙ ap (λ x. x ++ Label n ∷ []) (others.is ∙ ap (λ x. x ++ others.items) (matched ∙ ap (λ x. old ++ match_items x (source l a t.left) t.right) is))) in
       let shape : (((old ++ test) ++ others.items) ++ Label n ∷ []) ++ e.items ≡ old ++ ((test ++ (others.items ++ Label n ∷ [])) ++ e.items) = grind (arith, common_steps) in
-      subst (λ p. EmittedLast l a cells stack words saved to way (one_arm p (arms_before (map arm_of rest) c)) old n new m) (sym (arm_of-parts first)) (record {
+      subst (λ p. EmittedLast l a cells stack words saved framed to way (one_arm p (arms_before (map arm_of rest) c)) old n new m) (sym (arm_of-parts first)) (record {
         items = (test ++ (others.items ++ Label n ∷ [])) ++ e.items;
         is = all ∙ shape;
         emits = (t, one, i, others.items, arms', (e.items, refl, e.emits));
@@ -545,59 +538,59 @@ module _ (l : Program) (a : Assignment) (cells stack words saved : ℕ) where
       subst (λ ss. ArmsPlaced l a (arms_before (map arm_of ss) c)) (drop_past items i over) (t.placed c h)
 
   -- a choice, by where its first arm stands
-  pub last_made : (to : List Spot) (way : Way) (as' : Arms) (old new : List Item) (n m : ℕ) → stands_last way as' ≡ true → EmittedLast l a cells stack words saved to way as' old n new m → Emitted l a cells stack words saved to way (choose as') old n new m
+  pub last_made : (to : List Spot) (way : Way) (as' : Arms) (old new : List Item) (n m : ℕ) → stands_last way as' ≡ true → EmittedLast l a cells stack words saved framed to way as' old n new m → Emitted l a cells stack words saved framed to way (choose as') old n new m
   last_made to way as' old new n m e t = record {
     items = t.items;
     is = t.is;
-    emits = subst (λ r. elim r as (λ x. Type 0) [ true ↦ EmitsLast l a cells stack words saved to way as' n m t.items | false ↦ EmitsArms l a cells stack words saved to way as' n m t.items ]) (sym e) t.emits;
+    emits = subst (λ r. elim r as (λ x. Type 0) [ true ↦ EmitsLast l a cells stack words saved framed to way as' n m t.items | false ↦ EmitsArms l a cells stack words saved framed to way as' n m t.items ]) (sym e) t.emits;
   }
 
-  pub in_order_made : (to : List Spot) (way : Way) (as' : Arms) (old new : List Item) (n m : ℕ) → stands_last way as' ≡ false → EmittedArms l a cells stack words saved to way as' old n new m → Emitted l a cells stack words saved to way (choose as') old n new m
+  pub in_order_made : (to : List Spot) (way : Way) (as' : Arms) (old new : List Item) (n m : ℕ) → stands_last way as' ≡ false → EmittedArms l a cells stack words saved framed to way as' old n new m → Emitted l a cells stack words saved framed to way (choose as') old n new m
   in_order_made to way as' old new n m e t = record {
     items = t.items;
     is = t.is;
-    emits = subst (λ r. elim r as (λ x. Type 0) [ true ↦ EmitsLast l a cells stack words saved to way as' n m t.items | false ↦ EmitsArms l a cells stack words saved to way as' n m t.items ]) (sym e) t.emits;
+    emits = subst (λ r. elim r as (λ x. Type 0) [ true ↦ EmitsLast l a cells stack words saved framed to way as' n m t.items | false ↦ EmitsArms l a cells stack words saved framed to way as' n m t.items ]) (sym e) t.emits;
   }
 
   -- arms of which the first and the others are known, by the rule
   pub last_chosen : (to : List Spot) (way : Way) (arms rest : List LowArm) (first : LowArm) (c : Code) (r : Bool) (old new : List Item) (n m : ℕ) → arms ≡ first ∷ rest → r ≡ (if has_one first.tests then waits way (code_of first.block) c else false) → r ≡ true
-      → EmittedLast l a cells stack words saved to way (arms_before (map arm_of (first ∷ rest)) c) old n new m → Emitted l a cells stack words saved to way (choose (arms_before (map arm_of arms) c)) old n new m
+      → EmittedLast l a cells stack words saved framed to way (arms_before (map arm_of (first ∷ rest)) c) old n new m → Emitted l a cells stack words saved framed to way (choose (arms_before (map arm_of arms) c)) old n new m
   last_chosen to way arms rest first c r old new n m all e t h =
-      subst (λ ts. Emitted l a cells stack words saved to way (choose (arms_before (map arm_of ts) c)) old n new m) (sym all)
+      subst (λ ts. Emitted l a cells stack words saved framed to way (choose (arms_before (map arm_of ts) c)) old n new m) (sym all)
       (last_made to way (arms_before (map arm_of (first ∷ rest)) c) old new n m (rule_is way first rest c ∙ sym e ∙ t) h)
 
   pub order_chosen : (to : List Spot) (way : Way) (arms rest : List LowArm) (first : LowArm) (c : Code) (r : Bool) (old new : List Item) (n m : ℕ) → arms ≡ first ∷ rest → r ≡ (if has_one first.tests then waits way (code_of first.block) c else false) → r ≡ false
-      → EmittedArms l a cells stack words saved to way (arms_before (map arm_of arms) c) old n new m → Emitted l a cells stack words saved to way (choose (arms_before (map arm_of arms) c)) old n new m
+      → EmittedArms l a cells stack words saved framed to way (arms_before (map arm_of arms) c) old n new m → Emitted l a cells stack words saved framed to way (choose (arms_before (map arm_of arms) c)) old n new m
   order_chosen to way arms rest first c r old new n m all e t h =
       let rule = ap (λ ts. stands_last way (arms_before (map arm_of ts) c)) all ∙ rule_is way first rest c ∙ sym e ∙ t in
       in_order_made to way (arms_before (map arm_of arms) c) old new n m rule h
 
   -- a choice that a comparison decides
   pub decided_first_made : (to : List Spot) (way way' : Way) (first : LowArm) (rest : List LowArm) (c : Code) (f : PrimOp) (left right : Source) (number : ℕ) (old c1 c2 c3 new : List Item) (n label k i m : ℕ) → label ≡ n → k ≡ suc n → way' ≡ further way → number ≡ tested first.tests
-      → c1 ≡ old ++ branch_items (other_condition f number) label left right → Emitted l a cells stack words saved to way' (code_of first.block) c1 k c2 i → c3 ≡ c2 ++ Label label ∷ []
-      → EmittedArms l a cells stack words saved to way (arms_before (map arm_of rest) c) c3 i new m → EmittedDecidedFirst l a cells stack words saved f left right to way (arms_before (map arm_of (first ∷ rest)) c) old n new m
+      → c1 ≡ old ++ branch_items (other_condition f number) label left right → Emitted l a cells stack words saved framed to way' (code_of first.block) c1 k c2 i → c3 ≡ c2 ++ Label label ∷ []
+      → EmittedArms l a cells stack words saved framed to way (arms_before (map arm_of rest) c) c3 i new m → EmittedDecidedFirst l a cells stack words saved framed f left right to way (arms_before (map arm_of (first ∷ rest)) c) old n new m
   decided_first_made to way way' first rest c f left right number old c1 c2 c3 new n label k i m is next w which branched inner labelled e =
-      let block : Emits l a cells stack words saved to (further way) (code_of first.block) (suc n) i inner.items = rw (sym w, sym next) inner.emits in
+      let block : Emits l a cells stack words saved framed to (further way) (code_of first.block) (suc n) i inner.items = rw (sym w, sym next) inner.emits in
       let test = branch_items (other_condition f (tested first.tests)) n left right in
       let all : new ≡ (((old ++ test) ++ inner.items) ++ Label n ∷ []) ++ e.items =
       e.is ∙ ap (λ x. x ++ e.items) (labelled ∙ (λ i. c2 ++ Label (is i) ∷ []) ∙ ap (λ x. x ++ Label n ∷ []) (inner.is ∙ ap (λ x. x ++ inner.items) (branched ∙ (λ i. old ++ branch_items (other_condition f (which i)) (is i) left right)))) in
       let shape : (((old ++ test) ++ inner.items) ++ Label n ∷ []) ++ e.items ≡ old ++ ((test ++ (inner.items ++ Label n ∷ [])) ++ e.items) = grind (arith, common_steps) in
-      subst (λ p. EmittedDecidedFirst l a cells stack words saved f left right to way (one_arm p (arms_before (map arm_of rest) c)) old n new m) (sym (arm_of-parts first)) (record {
+      subst (λ p. EmittedDecidedFirst l a cells stack words saved framed f left right to way (one_arm p (arms_before (map arm_of rest) c)) old n new m) (sym (arm_of-parts first)) (record {
         items = (test ++ (inner.items ++ Label n ∷ [])) ++ e.items;
         is = all ∙ shape;
         emits = (i, inner.items, block, (e.items, refl, e.emits));
       })
 
   pub decided_last_made : (to : List Spot) (way way' : Way) (first : LowArm) (rest : List LowArm) (c : Code) (f : PrimOp) (left right : Source) (number : ℕ) (old c1 c2 c3 new : List Item) (n label k i m : ℕ) → label ≡ n → k ≡ suc n → way' ≡ further way → number ≡ tested first.tests
-      → c1 ≡ old ++ branch_items (condition f number) label left right → EmittedArms l a cells stack words saved to way' (arms_before (map arm_of rest) c) c1 k c2 i → c3 ≡ c2 ++ Label label ∷ []
-      → Emitted l a cells stack words saved to way (code_of first.block) c3 i new m → EmittedDecidedLast l a cells stack words saved f left right to way (arms_before (map arm_of (first ∷ rest)) c) old n new m
+      → c1 ≡ old ++ branch_items (condition f number) label left right → EmittedArms l a cells stack words saved framed to way' (arms_before (map arm_of rest) c) c1 k c2 i → c3 ≡ c2 ++ Label label ∷ []
+      → Emitted l a cells stack words saved framed to way (code_of first.block) c3 i new m → EmittedDecidedLast l a cells stack words saved framed f left right to way (arms_before (map arm_of (first ∷ rest)) c) old n new m
   decided_last_made to way way' first rest c f left right number old c1 c2 c3 new n label k i m is next w which branched others labelled e =
-      let arms' : EmitsArms l a cells stack words saved to (further way) (arms_before (map arm_of rest) c) (suc n) i others.items = rw (sym w, sym next) others.emits in
+      let arms' : EmitsArms l a cells stack words saved framed to (further way) (arms_before (map arm_of rest) c) (suc n) i others.items = rw (sym w, sym next) others.emits in
       let test = branch_items (condition f (tested first.tests)) n left right in
       let all : new ≡ (((old ++ test) ++ others.items) ++ Label n ∷ []) ++ e.items =
       e.is ∙ ap (λ x. x ++ e.items) (labelled ∙ (λ i. c2 ++ Label (is i) ∷ []) ∙ ap (λ x. x ++ Label n ∷ []) (others.is ∙ ap (λ x. x ++ others.items) (branched ∙ (λ i. old ++ branch_items (condition f (which i)) (is i) left right)))) in
       let shape : (((old ++ test) ++ others.items) ++ Label n ∷ []) ++ e.items ≡ old ++ ((test ++ (others.items ++ Label n ∷ [])) ++ e.items) = grind (arith, common_steps) in
-      subst (λ p. EmittedDecidedLast l a cells stack words saved f left right to way (one_arm p (arms_before (map arm_of rest) c)) old n new m) (sym (arm_of-parts first)) (record {
+      subst (λ p. EmittedDecidedLast l a cells stack words saved framed f left right to way (one_arm p (arms_before (map arm_of rest) c)) old n new m) (sym (arm_of-parts first)) (record {
         items = (test ++ (others.items ++ Label n ∷ [])) ++ e.items;
         is = all ∙ shape;
         emits = (i, others.items, arms', (e.items, refl, e.emits));
@@ -605,33 +598,33 @@ module _ (l : Program) (a : Assignment) (cells stack words saved : ℕ) where
 
   -- a comparison and its choice
   decided_choice : (to : List Spot) (way : Way) (as' : Arms) (f : PrimOp) (x : ℕ) (b d : Operand) (left right : Source) (n m : ℕ) (items : List Item) → left ≡ source l a b → right ≡ source l a d → decides f x (choose as') ≡ true
-      → EmitsDecided l a cells stack words saved f left right to way (choose as') n m items → Emits l a cells stack words saved to way (prim f x b d (choose as')) n m items
+      → EmitsDecided l a cells stack words saved framed f left right to way (choose as') n m items → Emits l a cells stack words saved framed to way (prim f x b d (choose as')) n m items
   decided_choice to way as' f x b d left right n m items from and is h =
-      let there : EmitsDecided l a cells stack words saved f (source l a b) (source l a d) to way (choose as') n m items = rw (sym from, sym and) h in
-      subst (λ r. elim r as (λ y. Type 0) [ true ↦ EmitsDecided l a cells stack words saved f (source l a b) (source l a d) to way (choose as') n m items | false ↦ Then (plain (prim_code f (place_of a x) (source l a b) (source l a d))) (Emits l a cells stack words saved to way (choose as') n m) items ]) (sym is) there
+      let there : EmitsDecided l a cells stack words saved framed f (source l a b) (source l a d) to way (choose as') n m items = rw (sym from, sym and) h in
+      subst (λ r. elim r as (λ y. Type 0) [ true ↦ EmitsDecided l a cells stack words saved framed f (source l a b) (source l a d) to way (choose as') n m items | false ↦ Then (plain (prim_code f (place_of a x) (source l a b) (source l a d))) (Emits l a cells stack words saved framed to way (choose as') n m) items ]) (sym is) there
 
   pub decided_last_chosen : (to : List Spot) (way : Way) (first : LowArm) (rest : List LowArm) (c : Code) (f : PrimOp) (x : ℕ) (b d : Operand) (left right : Source) (r : Bool) (old new : List Item) (n m : ℕ) → left ≡ source l a b → right ≡ source l a d
       → r ≡ (if has_one first.tests then waits way (code_of first.block) c else false) → r ≡ true → decides f x (choose (arms_before (map arm_of (first ∷ rest)) c)) ≡ true
-      → EmittedDecidedLast l a cells stack words saved f left right to way (arms_before (map arm_of (first ∷ rest)) c) old n new m → Emitted l a cells stack words saved to way (prim f x b d (choose (arms_before (map arm_of (first ∷ rest)) c))) old n new m
+      → EmittedDecidedLast l a cells stack words saved framed f left right to way (arms_before (map arm_of (first ∷ rest)) c) old n new m → Emitted l a cells stack words saved framed to way (prim f x b d (choose (arms_before (map arm_of (first ∷ rest)) c))) old n new m
   decided_last_chosen to way first rest c f x b d left right r old new n m from and e t is h =
       let as' = arms_before (map arm_of (first ∷ rest)) c in
       record {
         items = h.items;
         is = h.is;
         emits = decided_choice to way as' f x b d left right n m h.items from and is
-            (subst (λ r. elim r as (λ y. Type 0) [ true ↦ EmitsDecidedLast l a cells stack words saved f left right to way as' n m h.items | false ↦ EmitsDecidedFirst l a cells stack words saved f left right to way as' n m h.items ]) (sym (rule_is way first rest c ∙ sym e ∙ t)) h.emits);
+            (subst (λ r. elim r as (λ y. Type 0) [ true ↦ EmitsDecidedLast l a cells stack words saved framed f left right to way as' n m h.items | false ↦ EmitsDecidedFirst l a cells stack words saved framed f left right to way as' n m h.items ]) (sym (rule_is way first rest c ∙ sym e ∙ t)) h.emits);
       }
 
   pub decided_first_chosen : (to : List Spot) (way : Way) (first : LowArm) (rest : List LowArm) (c : Code) (f : PrimOp) (x : ℕ) (b d : Operand) (left right : Source) (r : Bool) (old new : List Item) (n m : ℕ) → left ≡ source l a b → right ≡ source l a d
       → r ≡ (if has_one first.tests then waits way (code_of first.block) c else false) → r ≡ false → decides f x (choose (arms_before (map arm_of (first ∷ rest)) c)) ≡ true
-      → EmittedDecidedFirst l a cells stack words saved f left right to way (arms_before (map arm_of (first ∷ rest)) c) old n new m → Emitted l a cells stack words saved to way (prim f x b d (choose (arms_before (map arm_of (first ∷ rest)) c))) old n new m
+      → EmittedDecidedFirst l a cells stack words saved framed f left right to way (arms_before (map arm_of (first ∷ rest)) c) old n new m → Emitted l a cells stack words saved framed to way (prim f x b d (choose (arms_before (map arm_of (first ∷ rest)) c))) old n new m
   decided_first_chosen to way first rest c f x b d left right r old new n m from and e t is h =
       let as' = arms_before (map arm_of (first ∷ rest)) c in
       record {
         items = h.items;
         is = h.is;
         emits = decided_choice to way as' f x b d left right n m h.items from and is
-            (subst (λ r. elim r as (λ y. Type 0) [ true ↦ EmitsDecidedLast l a cells stack words saved f left right to way as' n m h.items | false ↦ EmitsDecidedFirst l a cells stack words saved f left right to way as' n m h.items ]) (sym (rule_is way first rest c ∙ sym e ∙ t)) h.emits);
+            (subst (λ r. elim r as (λ y. Type 0) [ true ↦ EmitsDecidedLast l a cells stack words saved framed f left right to way as' n m h.items | false ↦ EmitsDecidedFirst l a cells stack words saved framed f left right to way as' n m h.items ]) (sym (rule_is way first rest c ∙ sym e ∙ t)) h.emits);
       }
 
   -- where a comparison decides the end of a block, that is a choice with an arm
@@ -640,12 +633,12 @@ module _ (l : Program) (a : Assignment) (cells stack words saved : ℕ) where
 
   -- ---- ends
 
-  pub give_made : (e : LowEnd) (as' : List Operand) (to : List Spot) (way : Way) (old mid new : List Item) (n : ℕ) → e ≡ Give as' → Sent to (sources l a as') old mid → new ≡ mid ++ way_out words way → Emitted l a cells stack words saved to way (end_of e) old n new n
+  pub give_made : (e : LowEnd) (as' : List Operand) (to : List Spot) (way : Way) (old mid new : List Item) (n : ℕ) → e ≡ Give as' → Sent to (sources l a as') old mid → new ≡ mid ++ way_out framed words way → Emitted l a cells stack words saved framed to way (end_of e) old n new n
   give_made e as' to way old mid new n is s out =
       let piece = plain (moves_code s.steps ++ number_moves to (sources l a as')) in
       rw (ap end_of is ∙ end_of-Give as') (record {
-        items = piece ++ way_out words way;
-        is = out ∙ ap (λ x. x ++ way_out words way) s.is ∙ append_assoc old piece (way_out words way);
+        items = piece ++ way_out framed words way;
+        is = out ∙ ap (λ x. x ++ way_out framed words way) s.is ∙ append_assoc old piece (way_out framed words way);
         emits = (refl, s.steps, s.order, refl);
       })
 
@@ -655,18 +648,18 @@ module _ (l : Program) (a : Assignment) (cells stack words saved : ℕ) where
   pub give_placed : (e : LowEnd) (as' : List Operand) → e ≡ Give as' → Placed l a (end_of e) → OperandsPlaced l a as'
   give_placed e as' is h = subst (Placed l a) (ap end_of is ∙ end_of-Give as') h
 
-  pub tail_made : (e : LowEnd) (f site : ℕ) (as' : List Operand) (to : List Spot) (way : Way) (old new : List Item) (n : ℕ) → e ≡ Tail f site as' → TailCalled l a words f as' old new → Emitted l a cells stack words saved to way (end_of e) old n new n
+  pub tail_made : (e : LowEnd) (f site : ℕ) (as' : List Operand) (to : List Spot) (way : Way) (old new : List Item) (n : ℕ) → e ≡ Tail f site as' → TailCalled l a framed words f as' old new → Emitted l a cells stack words saved framed to way (end_of e) old n new n
   tail_made e f site as' to way old new n is t = rw (ap end_of is ∙ end_of-Tail f site as') (record { items = _; is = t.is; emits = (refl, t.steps, t.order, refl) })
 
   pub choose_placed : (e : LowEnd) (arms : List LowArm) (b : Box LowBlock Global) → e ≡ Choose arms b → Placed l a (end_of e) → ArmsPlaced l a (arms_before (map arm_of arms) (code_of b.value))
   choose_placed e arms b is h = subst (Placed l a) (ap end_of is ∙ end_of-Choose arms b) h
 
-  pub choose_made : (e : LowEnd) (arms : List LowArm) (b : Box LowBlock Global) (to : List Spot) (way : Way) (old new : List Item) (n m : ℕ) → e ≡ Choose arms b → Emitted l a cells stack words saved to way (choose (arms_before (map arm_of arms) (code_of b.value))) old n new m
-      → Emitted l a cells stack words saved to way (end_of e) old n new m
+  pub choose_made : (e : LowEnd) (arms : List LowArm) (b : Box LowBlock Global) (to : List Spot) (way : Way) (old new : List Item) (n m : ℕ) → e ≡ Choose arms b → Emitted l a cells stack words saved framed to way (choose (arms_before (map arm_of arms) (code_of b.value))) old n new m
+      → Emitted l a cells stack words saved framed to way (end_of e) old n new m
   choose_made e arms b to way old new n m is t = rw (ap end_of is ∙ end_of-Choose arms b) t
 
-  pub fail_made : (e : LowEnd) (to : List Spot) (way : Way) (old new : List Item) (n : ℕ) → e ≡ Fail → new ≡ old ++ Jump 0 (no_alternative l) ∷ [] → Emitted l a cells stack words saved to way (end_of e) old n new n
-  fail_made e to way old new n is put' = rw (ap end_of is ∙ end_of-Fail) (record { items = Jump 0 (no_alternative l) ∷ []; is = put'; emits = (refl, refl) })
+  pub fail_made : (e : LowEnd) (to : List Spot) (way : Way) (old new : List Item) (n : ℕ) → e ≡ Fail → new ≡ old ++ Jump 5 (no_alternative l) ∷ [] → Emitted l a cells stack words saved framed to way (end_of e) old n new n
+  fail_made e to way old new n is put' = rw (ap end_of is ∙ end_of-Fail) (record { items = Jump 5 (no_alternative l) ∷ []; is = put'; emits = (refl, refl) })
 
 pub chosen_placed : (l : Program) (a : Assignment) (e : LowEnd) (arms items : List LowArm) (b : Box LowBlock Global) (block : LowBlock) → e ≡ Choose arms b → items ≡ arms → block ≡ b.value → Placed l a (end_of e) → ArmsPlaced l a (arms_before (map arm_of items) (code_of block))
 chosen_placed l a e arms items b block is are same h =

@@ -1,5 +1,5 @@
 -- The items of a block: its labels, where they go, and how many words they take.
-use Rattle.std.proofs.Common.{◌≡◌, ℕ, suc, ◌+◌, ◌*◌, ◌<◌, ◌≤◌, List, [], ◌∷◌, ◌++◌, length, ◌⊎◌, inl, inr, refl, sym, subst, arith, length-append, append_assoc}
+use Rattle.std.proofs.Common.{◌≡◌, ℕ, suc, ◌+◌, ◌*◌, ◌<◌, ◌≤◌, List, [], ◌∷◌, ◌++◌, length, ◌⊎◌, inl, inr, refl, sym, subst, arith, length-append, append_assoc, Bool, true, false}
 use Rattle.std.specs.Prelude.{pos}
 use Rattle.std.proofs.lemmas.List.{length-map}
 use Rattle.rv32_isa.specs.declared.instr.Instr.{Instr}
@@ -20,11 +20,11 @@ use Rattle.rv32_items.specs.declared.Cond.{Cond}
 use Rattle.rv32_select.specs.declared.source.Source.{Source}
 use Rattle.rv32_select.specs.declared.source.Way.{Way}
 use Rattle.rv32_select.specs.declared.source.Way.TheVariants.{Returns, Follows, Jumps}
-use Rattle.rv32_select.specs.Emit.{plain, moves_code, spot_moves, number_moves, take_items, leave_code, save_moves, restore_moves, prim_code, branch_items, test_items, match_items}
+use Rattle.rv32_select.specs.Emit.{put_link, take_link, plain, moves_code, spot_moves, number_moves, take_items, leave_code, save_moves, restore_moves, prim_code, branch_items, test_items, match_items}
 use Rattle.rv32_select.specs.Decides.{decides, tested, condition, other_condition}
-use Rattle.rv32_select.specs.IsSelected.{IsOrder, moves_between, heap_end, heap_full, step, no_alternative, source, sources, places, argument_spots_of, result_spots_of, further, way_out, tests_items, call_items, stands_last, Then, Emits, EmitsArms, EmitsLast, EmitsDecided, EmitsDecidedFirst, EmitsDecidedLast}
+use Rattle.rv32_select.specs.IsSelected.{Round, IsOrder, moves_between, heap_end, heap_full, step, no_alternative, source, sources, places, argument_spots_of, result_spots_of, further, way_out, tests_items, call_items, stands_last, Then, Emits, EmitsArms, EmitsLast, EmitsDecided, EmitsDecidedFirst, EmitsDecidedLast}
 use Rattle.rv32_select.specs.Writable.{Placed, ArmsPlaced}
-use Rattle.rv32_select.proofs.StaticPieces.{Piece, piece_append, piece_more, set_piece, prim_piece, load_word_piece, save_word_piece, put_piece, get_piece, leave_piece, save_piece, restore_piece}
+use Rattle.rv32_select.proofs.StaticPieces.{Piece, piece_append, piece_more, set_piece, prim_piece, load_word_piece, save_word_piece, put_piece, get_piece, piece_one, leave_piece, save_piece, restore_piece}
 use Rattle.rv32_select.proofs.EmittedLabels.{whichever, emits_up, arms_up}
 use Rattle.rv32_select.proofs.Parts.{sent_code, between_code, Part, inside_part, code_part, part_append, part_more, part_then, part_under, jump_part, take_part, compare_part, two_words_part, closed_part, tested_part}
 
@@ -47,7 +47,7 @@ module _ (l : Program) (a : Assignment) (cells stack : ℕ) where
   same_way (Follows n) k h = h
   same_way (Jumps n) k h = h
 
-  module _ (words saved : ℕ) where
+  module _ (words saved : ℕ) (framed : Bool) where
     -- the most words that a block's items take
     abbrev most : Code → ℕ
     most c = 8 * code_size c + 256 * length (calls_in c)
@@ -66,6 +66,17 @@ module _ (l : Program) (a : Assignment) (cells stack : ℕ) where
 
     places_length : (xs : List ℕ) → length (places a xs) ≡ length xs
     places_length xs = length-map xs (place_of a)
+
+    -- a piece that needs x1, and the block behind it
+    rounded_part : (way : Way) (here : Bool) (n m j more bound : ℕ) (Few : Type 0) (piece items : List Item) (Rest : List Item → Type 0) → j + more + 2 ≤ bound → Part procs (Outer way) n n j Few piece → Round here piece Rest items
+        → ((rest : List Item) → Rest rest → Part procs (Outer way) n m more Few rest) → Part procs (Outer way) n m bound Few items
+    rounded_part way true n m j more bound Few piece items Rest le p h behind = part_then procs (Outer way) Few n n m j more bound piece h.0 items h.1 (omega arith) p (behind h.0 h.2)
+    rounded_part way false n m j more bound Few piece items Rest le p h behind =
+        let put' = code_part procs (Outer way) Few n 1 put_link (piece_one _ tt) in
+        let take' = code_part procs (Outer way) Few n 1 take_link (piece_one _ tt) in
+        let last = part_then procs (Outer way) Few n n m 1 more (1 + more) (plain take_link) h.2.2.0 h.2.0 h.2.2.1 (omega arith) take' (behind h.2.2.0 h.2.2.2) in
+        let middle = part_then procs (Outer way) Few n n m j (1 + more) (j + (1 + more)) piece h.2.0 h.0 h.2.1 (omega arith) p last in
+        part_then procs (Outer way) Few n n m 1 (j + (1 + more)) bound (plain put_link) h.0 items h.1 (omega arith) put' middle
 
     call_part : (way : Way) (Few : Type 0) (f site : ℕ) (os : List Operand) (xs : List ℕ) (arguments results : List Move) (n : ℕ) → f < procs → length (saves_at a site) ≤ 24
         → IsOrder arguments (spot_moves (argument_spots_of l a f) (sources l a os))
@@ -89,36 +100,36 @@ module _ (l : Program) (a : Assignment) (cells stack : ℕ) where
         (code_part procs (Outer way) Few n _ behind q)))
 
     -- a return, or the way to the label behind
-    out_part : (way : Way) (Few : Type 0) (n : ℕ) → Part procs (Outer way) n n 5 Few (way_out words way)
+    out_part : (way : Way) (Few : Type 0) (n : ℕ) → Part procs (Outer way) n n 5 Few (way_out framed words way)
     out_part Returns Few n =
-        let p = leave_piece words in
-        let q = code_part procs (Outer Returns) Few n 4 (leave_code words) p in
-        part_append procs (Outer Returns) Few n n n 4 1 (plain (leave_code words)) (Plain (Jalr 0 1 (pos 0)) ∷ []) q
+        let p = leave_piece framed words in
+        let q = code_part procs (Outer Returns) Few n 4 (leave_code framed words) p in
+        part_append procs (Outer Returns) Few n n n 4 1 (plain (leave_code framed words)) (Plain (Jalr 0 1 (pos 0)) ∷ []) q
         (record { counts = λ k. omega arith; goes = (refl, tt); size = λ f. omega arith })
     out_part (Follows k) Few n = record { counts = λ j. omega arith; goes = tt; size = λ f. omega arith }
     out_part (Jumps k) Few n =
         part_more procs (Outer (Jumps k)) Few n n 3 5 _ (omega arith) (jump_part procs (Outer (Jumps k)) Few n 0 k (inr refl) (λ e. absurd (cc)))
 
     give_part : (to : List Spot) (way : Way) (Few : Type 0) (os : List Operand) (steps : List Move) (n : ℕ) → IsOrder steps (spot_moves to (sources l a os))
-        → Part procs (Outer way) n n (6 * length os + 5) Few (plain (moves_code steps ++ number_moves to (sources l a os)) ++ way_out words way)
+        → Part procs (Outer way) n n (6 * length os + 5) Few (plain (moves_code steps ++ number_moves to (sources l a os)) ++ way_out framed words way)
     give_part to way Few os steps n order =
         let from = sources l a os in
         let e = sources_length os in
         let p = piece_more (6 * length from) (6 * length os) _ (omega (arith, e)) (sent_code steps to from order) in
-        part_append procs (Outer way) Few n n n (6 * length os) 5 (plain (moves_code steps ++ number_moves to from)) (way_out words way) (code_part procs (Outer way) Few n _ _ p) (out_part way Few n)
+        part_append procs (Outer way) Few n n n (6 * length os) 5 (plain (moves_code steps ++ number_moves to from)) (way_out framed words way) (code_part procs (Outer way) Few n _ _ p) (out_part way Few n)
 
     tail_part : (way : Way) (Few : Type 0) (f : ℕ) (os : List Operand) (steps : List Move) (n : ℕ) → f < procs → IsOrder steps (spot_moves (argument_spots_of l a f) (sources l a os))
-        → Part procs (Outer way) n n (6 * length os + 7) Few (plain (moves_code steps ++ (number_moves (argument_spots_of l a f) (sources l a os) ++ leave_code words)) ++ Jump 0 f ∷ [])
+        → Part procs (Outer way) n n (6 * length os + 7) Few (plain (moves_code steps ++ (number_moves (argument_spots_of l a f) (sources l a os) ++ leave_code framed words)) ++ Jump 0 f ∷ [])
     tail_part way Few f os steps n lt order =
         let to = argument_spots_of l a f in
         let from = sources l a os in
         let e = sources_length os in
         let sent = sent_code steps to from order in
-        let p = piece_append (6 * length from) 4 (moves_code steps ++ number_moves to from) (leave_code words) sent (leave_piece words) in
-        let same : (moves_code steps ++ number_moves to from) ++ leave_code words ≡ moves_code steps ++ (number_moves to from ++ leave_code words) = append_assoc (moves_code steps) (number_moves to from) (leave_code words) in
+        let p = piece_append (6 * length from) 4 (moves_code steps ++ number_moves to from) (leave_code framed words) sent (leave_piece framed words) in
+        let same : (moves_code steps ++ number_moves to from) ++ leave_code framed words ≡ moves_code steps ++ (number_moves to from ++ leave_code framed words) = append_assoc (moves_code steps) (number_moves to from) (leave_code framed words) in
         let q = piece_more (6 * length from + 4) (6 * length os + 4) _ (omega (arith, e)) (subst (Piece (6 * length from + 4)) same p) in
         part_more procs (Outer way) Few n n (6 * length os + 4 + 3) (6 * length os + 7) _ (omega arith)
-        (part_append procs (Outer way) Few n n n (6 * length os + 4) 3 (plain (moves_code steps ++ (number_moves to from ++ leave_code words))) (Jump 0 f ∷ [])
+        (part_append procs (Outer way) Few n n n (6 * length os + 4) 3 (plain (moves_code steps ++ (number_moves to from ++ leave_code framed words))) (Jump 0 f ∷ [])
         (code_part procs (Outer way) Few n _ _ q)
         (jump_part procs (Outer way) Few n 0 f (inl (omega (arith, lt))) (λ e. absurd (cc))))
 
@@ -201,11 +212,11 @@ module _ (l : Program) (a : Assignment) (cells stack : ℕ) where
         (part_under procs (Outer way) Behind Few k m most' rest behind_few q)
 
     mutual
-      pub block_part : (c : Code) (to : List Spot) (way : Way) (n m : ℕ) (items : List Item) → 3 + procs ≤ n → Placed l a c → Emits l a cells stack words saved to way c n m items → Block way c n m items
+      pub block_part : (c : Code) (to : List Spot) (way : Way) (n m : ℕ) (items : List Item) → 3 + procs ≤ n → Placed l a c → Emits l a cells stack words saved framed to way c n m items → Block way c n m items
       block_part (set x b c) to way n m items le p h =
           coded way n m 6 (most c) (most (set x b c)) (FewTests c) _ h.0 items (omega arith) (set_piece (place_of a x) (source l a b)) h.1 (block_part c to way n m h.0 le p.2 h.2)
       block_part (prim f x b d c) to way n m items le p h =
-          whichever (EmitsDecided l a cells stack words saved f (source l a b) (source l a d) to way c n m items) (Then (plain (prim_code f (place_of a x) (source l a b) (source l a d))) (Emits l a cells stack words saved to way c n m) items) (decides f x c)
+          whichever (EmitsDecided l a cells stack words saved framed f (source l a b) (source l a d) to way c n m items) (Then (plain (prim_code f (place_of a x) (source l a b) (source l a d))) (Emits l a cells stack words saved framed to way c n m) items) (decides f x c)
           (λ z. part_more procs (Outer way) (FewTests c) n m (9 + most c) (most (prim f x b d c)) items (omega arith) (decided_part c f (source l a b) (source l a d) to way n m items le p.3 z))
           (λ z. coded way n m 11 (most c) (most (prim f x b d c)) (FewTests c) _ z.0 items (omega arith) (prim_piece f (place_of a x) (source l a b) (source l a d)) z.1 (block_part c to way n m z.0 le p.3 z.2))
           h
@@ -219,16 +230,16 @@ module _ (l : Program) (a : Assignment) (cells stack : ℕ) where
           (take_part procs (Outer way) (FewTests c) n (step l) (heap_full l) (places a xs) (inl (omega arith)))
           (block_part c to way n m h.0 le p.2 h.2)
       block_part (put b c) to way n m items le p h =
-          coded way n m 21 (most c) (most (put b c)) (FewTests c) _ h.0 items (omega arith) (put_piece (heap_end l cells) (source l a b)) h.1 (block_part c to way n m h.0 le p.1 h.2)
+          rounded_part way framed n m 21 (most c) (most (put b c)) (FewTests c) _ items (Emits l a cells stack words saved framed to way c n m) (omega arith) (code_part procs (Outer way) (FewTests c) n 21 _ (put_piece (heap_end l cells) (source l a b))) h (λ rest r. block_part c to way n m rest le p.1 r)
       block_part (get x c) to way n m items le p h =
-          coded way n m 27 (most c) (most (get x c)) (FewTests c) _ h.0 items (omega arith) (get_piece (heap_end l cells) (place_of a x)) h.1 (block_part c to way n m h.0 le p.1 h.2)
+          rounded_part way framed n m 27 (most c) (most (get x c)) (FewTests c) _ items (Emits l a cells stack words saved framed to way c n m) (omega arith) (code_part procs (Outer way) (FewTests c) n 27 _ (get_piece (heap_end l cells) (place_of a x))) h (λ rest r. block_part c to way n m rest le p.1 r)
       block_part (call f site os xs c) to way n m items le p h =
           let called = p.0 in
-          part_then procs (Outer way) (FewTests c) n n m (147 + 6 * length os + 6 * length xs) (most c) (most (call f site os xs c)) (call_items l a saved f os (saves_at a site) h.0 h.1) h.4.0 items h.4.1 (omega arith)
-          (call_part way (FewTests c) f site os xs h.0 h.1 n called.0 called.3 h.2 h.3)
-          (block_part c to way n m h.4.0 le p.1 h.4.2)
+          rounded_part way framed n m (147 + 6 * length os + 6 * length xs) (most c) (most (call f site os xs c)) (FewTests c) (call_items l a saved f os (saves_at a site) h.0 h.1) items (Emits l a cells stack words saved framed to way c n m) (omega arith)
+          (call_part way (FewTests c) f site os xs h.0 h.1 n called.0 called.3 h.2 h.3) h.4
+          (λ rest r. block_part c to way n m rest le p.1 r)
       block_part (join xs b c) to way n m items le p h =
-          let up = emits_up l a cells stack words saved b (places a xs) (Follows n) (suc n) h.0 h.1 h.2 in
+          let up = emits_up l a cells stack words saved framed b (places a xs) (Follows n) (suc n) h.0 h.1 h.2 in
           let first = block_part b (places a xs) (Follows n) (suc n) h.0 h.1 (omega (arith, le)) p.1 h.2 in
           let rest = block_part c to way h.0 m h.3.0 (omega (arith, le, up)) p.2 h.3.2 in
           joined way xs b c n h.0 m h.1 h.3.0 items le first rest h.3.1
@@ -239,33 +250,33 @@ module _ (l : Program) (a : Assignment) (cells stack : ℕ) where
           let e = h.0 in
           ended way n m (6 * length os + 7) (most (tail f site os)) (FewTests (tail f site os)) _ items e h.3 (omega arith) (tail_part way (FewTests (tail f site os)) f os h.1 n p.0 h.2)
       block_part (choose as') to way n m items le p h =
-          let part : ArmsBlock way as' n m items = whichever (EmitsLast l a cells stack words saved to way as' n m items) (EmitsArms l a cells stack words saved to way as' n m items) (stands_last way as')
+          let part : ArmsBlock way as' n m items = whichever (EmitsLast l a cells stack words saved framed to way as' n m items) (EmitsArms l a cells stack words saved framed to way as' n m items) (stands_last way as')
           (λ z. last_part as' to way n m items le p z) (λ z. arms_part as' to way n m items le p z) h in
           part_more procs (Outer way) (ArmsFewTests as') n m (arms_most as') (most (choose as')) items (omega arith) part
       block_part fail to way n m items le p h =
-          ended way n m 3 (most fail) (FewTests fail) _ items h.0 h.1 (omega arith) (jump_part procs (Outer way) (FewTests fail) n 0 (no_alternative l) (inl (omega arith)) (λ e. absurd (cc)))
+          ended way n m 3 (most fail) (FewTests fail) _ items h.0 h.1 (omega arith) (jump_part procs (Outer way) (FewTests fail) n 5 (no_alternative l) (inl (omega arith)) (λ e. absurd (cc)))
 
-      pub arms_part : (as' : Arms) (to : List Spot) (way : Way) (n m : ℕ) (items : List Item) → 3 + procs ≤ n → ArmsPlaced l a as' → EmitsArms l a cells stack words saved to way as' n m items → ArmsBlock way as' n m items
+      pub arms_part : (as' : Arms) (to : List Spot) (way : Way) (n m : ℕ) (items : List Item) → 3 + procs ≤ n → ArmsPlaced l a as' → EmitsArms l a cells stack words saved framed to way as' n m items → ArmsBlock way as' n m items
       arms_part (otherwise c) to way n m items le p h = block_part c to way n m items le p h
       arms_part (arm ts c as') to way n m items le p h =
-          let up = emits_up l a cells stack words saved c to (further way) (suc n) h.0 h.1 h.2 in
+          let up = emits_up l a cells stack words saved framed c to (further way) (suc n) h.0 h.1 h.2 in
           let first = block_part c to (further way) (suc n) h.0 h.1 (omega (arith, le)) p.1 h.2 in
           let rest = arms_part as' to way h.0 m h.3.0 (omega (arith, le, up)) p.2 h.3.2 in
           chosen way ts c as' n h.0 m h.1 h.3.0 items le first rest h.3.1
 
-      pub last_part : (as' : Arms) (to : List Spot) (way : Way) (n m : ℕ) (items : List Item) → 3 + procs ≤ n → ArmsPlaced l a as' → EmitsLast l a cells stack words saved to way as' n m items → ArmsBlock way as' n m items
+      pub last_part : (as' : Arms) (to : List Spot) (way : Way) (n m : ℕ) (items : List Item) → 3 + procs ≤ n → ArmsPlaced l a as' → EmitsLast l a cells stack words saved framed to way as' n m items → ArmsBlock way as' n m items
       last_part (otherwise c) to way n m items le p h = absurd h
       last_part (arm ts c as') to way n m items le p h =
-          let up = arms_up l a cells stack words saved as' to (further way) (suc n) h.2 h.3 h.4 in
+          let up = arms_up l a cells stack words saved framed as' to (further way) (suc n) h.2 h.3 h.4 in
           let first = arms_part as' to (further way) (suc n) h.2 h.3 (omega (arith, le)) p.2 h.4 in
           let rest = block_part c to way h.2 m h.5.0 (omega (arith, le, up)) p.1 h.5.2 in
           subst (λ x. ArmsBlock way (arm x c as') n m items) (sym h.1) (turned way h.0 c as' n h.2 m h.3 h.5.0 items le first rest h.5.1)
 
-      decided_part : (c : Code) (f : PrimOp) (left right : Source) (to : List Spot) (way : Way) (n m : ℕ) (items : List Item) → 3 + procs ≤ n → Placed l a c → EmitsDecided l a cells stack words saved f left right to way c n m items
+      decided_part : (c : Code) (f : PrimOp) (left right : Source) (to : List Spot) (way : Way) (n m : ℕ) (items : List Item) → 3 + procs ≤ n → Placed l a c → EmitsDecided l a cells stack words saved framed f left right to way c n m items
           → Part procs (Outer way) n m (9 + most c) (FewTests c) items
       decided_part (choose as') f left right to way n m items le p h =
           part_more procs (Outer way) (ArmsFewTests as') n m (9 + arms_most as') (9 + most (choose as')) items (omega arith)
-          (whichever (EmitsDecidedLast l a cells stack words saved f left right to way as' n m items) (EmitsDecidedFirst l a cells stack words saved f left right to way as' n m items) (stands_last way as')
+          (whichever (EmitsDecidedLast l a cells stack words saved framed f left right to way as' n m items) (EmitsDecidedFirst l a cells stack words saved framed f left right to way as' n m items) (stands_last way as')
           (λ z. decided_last_part as' f left right to way n m items le p z) (λ z. decided_first_part as' f left right to way n m items le p z) h)
       decided_part (set x b c) f left right to way n m items le p h = absurd h
       decided_part (prim g x b d c) f left right to way n m items le p h = absurd h
@@ -280,12 +291,12 @@ module _ (l : Program) (a : Assignment) (cells stack : ℕ) where
       decided_part (tail g site os) f left right to way n m items le p h = absurd h
       decided_part fail f left right to way n m items le p h = absurd h
 
-      decided_first_part : (as' : Arms) (f : PrimOp) (left right : Source) (to : List Spot) (way : Way) (n m : ℕ) (items : List Item) → 3 + procs ≤ n → ArmsPlaced l a as' → EmitsDecidedFirst l a cells stack words saved f left right to way as' n m items
+      decided_first_part : (as' : Arms) (f : PrimOp) (left right : Source) (to : List Spot) (way : Way) (n m : ℕ) (items : List Item) → 3 + procs ≤ n → ArmsPlaced l a as' → EmitsDecidedFirst l a cells stack words saved framed f left right to way as' n m items
           → Part procs (Outer way) n m (9 + arms_most as') (ArmsFewTests as') items
       decided_first_part (otherwise c) f left right to way n m items le p h = absurd h
       decided_first_part (arm ts c as') f left right to way n m items le p h =
           let Few = ArmsFewTests (arm ts c as') in
-          let up = emits_up l a cells stack words saved c to (further way) (suc n) h.0 h.1 h.2 in
+          let up = emits_up l a cells stack words saved framed c to (further way) (suc n) h.0 h.1 h.2 in
           let both = length-append (calls_in c) (arms_calls as') in
           let one = two_words_part procs (λ j. n ≡ j) Few (other_condition f (tested ts)) n n left right refl in
           part_more procs (Outer way) Few n m (9 + most c + arms_most as') (9 + arms_most (arm ts c as')) items (omega (arith, both))
@@ -293,12 +304,12 @@ module _ (l : Program) (a : Assignment) (cells stack : ℕ) where
           (block_part c to (further way) (suc n) h.0 h.1 (omega (arith, le)) p.1 h.2)
           (arms_part as' to way h.0 m h.3.0 (omega (arith, le, up)) p.2 h.3.2) h.3.1)
 
-      decided_last_part : (as' : Arms) (f : PrimOp) (left right : Source) (to : List Spot) (way : Way) (n m : ℕ) (items : List Item) → 3 + procs ≤ n → ArmsPlaced l a as' → EmitsDecidedLast l a cells stack words saved f left right to way as' n m items
+      decided_last_part : (as' : Arms) (f : PrimOp) (left right : Source) (to : List Spot) (way : Way) (n m : ℕ) (items : List Item) → 3 + procs ≤ n → ArmsPlaced l a as' → EmitsDecidedLast l a cells stack words saved framed f left right to way as' n m items
           → Part procs (Outer way) n m (9 + arms_most as') (ArmsFewTests as') items
       decided_last_part (otherwise c) f left right to way n m items le p h = absurd h
       decided_last_part (arm ts c as') f left right to way n m items le p h =
           let Few = ArmsFewTests (arm ts c as') in
-          let up = arms_up l a cells stack words saved as' to (further way) (suc n) h.0 h.1 h.2 in
+          let up = arms_up l a cells stack words saved framed as' to (further way) (suc n) h.0 h.1 h.2 in
           let both = length-append (calls_in c) (arms_calls as') in
           let one = two_words_part procs (λ j. n ≡ j) Few (condition f (tested ts)) n n left right refl in
           part_more procs (Outer way) Few n m (9 + arms_most as' + most c) (9 + arms_most (arm ts c as')) items (omega (arith, both))

@@ -1,5 +1,5 @@
 -- Items of procedures that were put behind others.
-use Rattle.std.proofs.Common.{◌≡◌, ℕ, ◌+◌, ◌<◌, ◌≤◌, ◌-◌, zero, List, [], ◌∷◌, ◌++◌, map, length, refl, sym, ap, ◌∙◌, append_assoc, append-nil, arith, subst, get_or, drop, suc, Some}
+use Rattle.std.proofs.Common.{◌≡◌, ℕ, ◌+◌, ◌<◌, ◌≤◌, ◌-◌, zero, List, [], ◌∷◌, ◌++◌, map, length, refl, sym, ap, ◌∙◌, append_assoc, append-nil, arith, subst, get_or, drop, suc, Some, Bool}
 use Rattle.std.specs.Prelude.{slice_get}
 use Rattle.std.proofs.lemmas.List.{length-map}
 use Rattle.std.proofs.lemmas.Option.{same_Some}
@@ -32,18 +32,18 @@ few_spots low a q xs made spots p is e h =
     let size : length spots ≡ length q.params = ap length (params_are a q xs made spots is e h).0 ∙ length-map q.params (place_of a) in
     omega (arith, size, p.few_params)
 
-pub procedure_made : (low : Low) (a : Assignment) (cells stack : ℕ) (procs : List LowProc) (f : ℕ) (q : LowProc) (words saved full base : ℕ) (params results : List Spot) (old mid new : List Item) (n m : ℕ) → f < length low.procs → procs ≡ low.procs → q ≡ get_or procs f q
-    → words ≡ words_at a f → saved ≡ slots_of (place_of a) (variables (procedure_of q)) → (params ≡ map (place_of a) q.params) × AreSpots params → full ≡ stack_full (program_of low) → base ≡ stack_end - stack → mid ≡ old ++ entry_items f words base full params → results ≡ result_spots 10 q.results
-    → Emitted (program_of low) a cells stack words saved results Returns (code_of q.body) mid n new m → EmittedProcedure (program_of low) a cells stack f old n new m
-procedure_made low a cells stack procs f q words saved full base params results old mid new n m lt e is at first_saved given fulls bases comes rs b =
-    let entry = entry_items f (words_at a f) (stack_end - stack) (stack_full (program_of low)) (map (place_of a) q.params) in
-    let first : mid ≡ old ++ entry = comes ∙ (λ i. old ++ entry_items f (at i) (bases i) (fulls i) (given.0 i)) in
+pub procedure_made : (low : Low) (a : Assignment) (cells stack : ℕ) (procs : List LowProc) (f : ℕ) (q : LowProc) (words saved full base : ℕ) (framed : Bool) (params results : List Spot) (old mid new : List Item) (n m : ℕ) → f < length low.procs → procs ≡ low.procs → q ≡ get_or procs f q
+    → words ≡ words_at a f → saved ≡ slots_of (place_of a) (variables (procedure_of q)) → (params ≡ map (place_of a) q.params) × AreSpots params → full ≡ stack_full (program_of low) → base ≡ stack_end - stack → mid ≡ old ++ entry_items f words framed base full params → results ≡ result_spots 10 q.results
+    → Emitted (program_of low) a cells stack words saved framed results Returns (code_of q.body) mid n new m → EmittedProcedure (program_of low) a cells stack f old n new m
+procedure_made low a cells stack procs f q words saved full base framed params results old mid new n m lt e is at first_saved given fulls bases comes rs b =
+    let entry = entry_items f (words_at a f) framed (stack_end - stack) (stack_full (program_of low)) (map (place_of a) q.params) in
+    let first : mid ≡ old ++ entry = comes ∙ (λ i. old ++ entry_items f (at i) framed (bases i) (fulls i) (given.0 i)) in
     record {
       items = entry ++ b.items;
       is = b.is ∙ ap (λ x. x ++ b.items) first ∙ append_assoc old entry b.items;
       emits = λ p there.
           let same : procedure_of q ≡ p = same_Some (procedure_of q) p (sym (result_at low procs f q lt e is) ∙ there) in
-          subst (λ p. EmitsProcedure (program_of low) a cells stack f p n m (entry ++ b.items)) same (record { block = b.items; body = rw (sym at, sym first_saved, sym rs) b.emits; is = refl });
+          subst (λ p. EmitsProcedure (program_of low) a cells stack f p n m (entry ++ b.items)) same (record { framed = framed; block = b.items; body = rw (sym at, sym first_saved, sym rs) b.emits; is = refl });
     }
 
 module _ (l : Program) (a : Assignment) (cells stack : ℕ) where

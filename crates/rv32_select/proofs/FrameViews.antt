@@ -49,6 +49,7 @@ module _ (c : Stretch) (b : Bases) (j slots : ℕ) where
   -- what a piece of code leaves as it was, beside registers of variables and slots
   pub record Kept (d d' : Data) : Type 0 where
     pub heap : d'.heap ≡ d.heap
+    pub link : d'.regs 1 ≡ d.regs 1
     pub frame : d'.regs 2 ≡ d.regs 2
     pub next : d'.regs 3 ≡ d.regs 3
     pub end : d'.regs 4 ≡ d.regs 4
@@ -56,11 +57,12 @@ module _ (c : Stretch) (b : Bases) (j slots : ℕ) where
     pub outside : (t : ℕ) → Outside t → get_or d'.stack t 0 ≡ get_or d.stack t 0
 
   pub kept : (d : Data) → Kept d d
-  kept d = record { heap = refl; frame = refl; next = refl; end = refl; words = refl; outside = λ t h. refl }
+  kept d = record { heap = refl; link = refl; frame = refl; next = refl; end = refl; words = refl; outside = λ t h. refl }
 
   pub kept_on : {d e f : Data} → Kept d e → Kept e f → Kept d f
   kept_on h k = record {
     heap = k.heap ∙ h.heap;
+    link = k.link ∙ h.link;
     frame = k.frame ∙ h.frame;
     next = k.next ∙ h.next;
     end = k.end ∙ h.end;
@@ -75,6 +77,7 @@ module _ (c : Stretch) (b : Bases) (j slots : ℕ) where
   pub kept_reg : (d : Data) (r v : ℕ) → 5 ≤ r → Kept d (with_reg d r v)
   kept_reg d r v h = record {
     heap = refl;
+    link = set_there d.regs r v 1 (omega arith);
     frame = set_there d.regs r v 2 (omega arith);
     next = set_there d.regs r v 3 (omega arith);
     end = set_there d.regs r v 4 (omega arith);
@@ -85,6 +88,7 @@ module _ (c : Stretch) (b : Bases) (j slots : ℕ) where
   pub kept_slot : (d : Data) (k v : ℕ) → k < slots → Kept d (with_stack d (set d.stack (j + (1 + k)) v))
   kept_slot d k v lt = record {
     heap = refl;
+    link = refl;
     frame = refl;
     next = refl;
     end = refl;

@@ -116,11 +116,14 @@ module _ (b : Bases) (lay : Layout) (items : List Item) where
   abbrev pub jumped : (n link : ℕ) → Data → Data
   jumped n link d = with_regs d (lay.far n (set_reg d.regs link (lay.address (suc n))))
 
-  pub jumps : (n t l : ℕ) (d : Data) (input calls : List ℕ) → slice_get items n ≡ Some (Jump 0 l) → label_from 0 items l ≡ Some t → Goes lay items 1 input (at b lay items n d) calls [] [] input (at b lay items t (jumped n 0 d)) calls
-  jumps n t l d input calls here to =
+  pub links : (n t link l : ℕ) (d : Data) (input calls : List ℕ) → nat_eq link 1 ≡ false → slice_get items n ≡ Some (Jump link l) → label_from 0 items l ≡ Some t → Goes lay items 1 input (at b lay items n d) calls [] [] input (at b lay items t (jumped n link d)) calls
+  links n t link l d input calls no_call here to =
       let p = at b lay items n d in
-      goes_by n d (at b lay items t (jumped n 0 d)) (Jump 0 l) input calls here
-      (ap (λ o. to_item lay items o (lay.far n (set_reg d.regs 0 (lay.address (suc n)))) p) to) refl refl
+      goes_by n d (at b lay items t (jumped n link d)) (Jump link l) input calls here
+      (ap (λ o. to_item lay items o (lay.far n (set_reg d.regs link (lay.address (suc n)))) p) to) no_call refl
+
+  pub jumps : (n t l : ℕ) (d : Data) (input calls : List ℕ) → slice_get items n ≡ Some (Jump 0 l) → label_from 0 items l ≡ Some t → Goes lay items 1 input (at b lay items n d) calls [] [] input (at b lay items t (jumped n 0 d)) calls
+  jumps n t l d input calls here to = links n t 0 l d input calls refl here to
 
   pub calls_to : (n t l : ℕ) (d : Data) (input calls : List ℕ) → slice_get items n ≡ Some (Jump 1 l) → label_from 0 items l ≡ Some t → Goes lay items 1 input (at b lay items n d) calls [] [] input (at b lay items t (jumped n 1 d)) (suc n ∷ calls)
   unfolding turn

@@ -2,6 +2,7 @@ pub mod Plain
 pub mod Courses
 pub mod Straight
 pub mod JumpStretches
+pub mod Linked
 pub mod NumberParts
 pub mod FrameViews
 pub mod Arithmetic
@@ -17,6 +18,8 @@ pub mod WordStatements
 pub mod TakenCells
 pub mod Stops
 pub mod RoomTaken
+pub mod Rounded
+pub mod RoundStatements
 pub mod TakeStatement
 pub mod BlockEnds
 pub mod GiveStatement

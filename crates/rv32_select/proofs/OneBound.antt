@@ -22,7 +22,7 @@ use Rattle.low_code.specs.Literals.{IsSmall}
 use Rattle.rv32_select.proofs.Courses.{Stands, front, back, Goes}
 use Rattle.rv32_select.proofs.Straight.{Data, Good, Does, plain_length, at, block}
 use Rattle.rv32_select.proofs.OperandsRead.{read, Readable, Sets, sets_source}
-use Rattle.rv32_select.proofs.Relation.{bases, word_of, HoldsWorld, Stood, Ran, quiet, Does', does_after, Given, Needed}
+use Rattle.rv32_select.proofs.Relation.{bases, word_of, HoldsWorld, home_kept, Stood, Ran, quiet, Does', does_after, Given, Needed}
 use Rattle.rv32_select.proofs.PlaceFacts.{IsOwn, Binds, Fine, ProcedureFine, Setting}
 use Rattle.rv32_select.proofs.BlockFacts.{room, Ready, Block, Simulates, Changed, own_place, world_kept, stood_bound, still_scoped}
 use Rattle.seq.specs.Lists.{is_among}
@@ -67,12 +67,12 @@ module _ (l : Program) (a : Assignment) (cells stack : ℕ) (lay : Layout) (item
       omega arith
 
 module _ (l : Program) (a : Assignment) (cells stack : ℕ) (lay : Layout) (items : List Item) (begins : List ℕ) (s : Setting l a cells stack lay items begins) (calls_n : Calls) (n : ℕ)
-    (f : ℕ) (q : Procedure) (pf : ProcedureFine l a f q) (j m : ℕ) (outer : List ℕ) (d0 : Data) (u : ℕ) where
+    (f : ℕ) (q : Procedure) (pf : ProcedureFine l a f q) (framed : Bool) (j m : ℕ) (outer : List ℕ) (d0 : Data) (u : ℕ) where
   abbrev saved : ℕ
   saved = slots_of (place_of a) (variables q)
 
   -- an operand is read as its word
-  pub operand_read : (c0 : Code) (scope : List ℕ) (env : Env) (Must : ℕ → Word → Type 0) (d : Data) (w : World) (o : Operand) (v : Word) → Stood l a cells stack lay f j pf.slots d0 (lay.address m) (Needed c0 env Must) d w
+  pub operand_read : (c0 : Code) (scope : List ℕ) (env : Env) (Must : ℕ → Word → Type 0) (d : Data) (w : World) (o : Operand) (v : Word) → Stood l a cells stack lay framed f j pf.slots d0 (lay.address m) (Needed c0 env Must) d w
       → ((x : ℕ) (v : Word) → env x ≡ Some v → is_among x scope ≡ true) → ((x : ℕ) → is_among x scope ≡ true → IsOwn l a f (slots_of (place_of a) (variables q)) (place_of a x))
       → ((x : ℕ) → is_among x (used_by o) ≡ true → is_among x (uses c0) ≡ true) → IsSmall o → operand l (words_at a) env o ≡ Some v
       → Readable lay.code (bases stack) j pf.slots (source l a o) × (read lay.code (bases stack) j pf.slots d (source l a o) ≡ word_of l.width v)
@@ -100,20 +100,20 @@ module _ (l : Program) (a : Assignment) (cells stack : ℕ) (lay : Layout) (item
 
   -- code that puts a word at the place of a variable, and then the rest of the block
   pub one_bound : (c0 c : Code) (is : List Instr) (x : ℕ) (v : Word) (to : List Spot) (way : Way) (Must : ℕ → Word → Type 0) (k k' : ℕ) (block rest : List Item) (pos : ℕ) (scope later : List ℕ) (env : Env) (top : ℕ) (under : Option ℕ) (d : Data) (w : World)
-      → (b : Block l a cells stack lay items begins f q pf.slots j m outer d0 u n c0 to way Must k k' block pos scope later env top under d w)
-      → block ≡ plain is ++ rest → Emits l a cells stack (words_at a f) (slots_of (place_of a) (variables q)) to way c k k' rest
+      → (b : Block l a cells stack lay items begins f q framed pf.slots j m outer d0 u n c0 to way Must k k' block pos scope later env top under d w)
+      → block ≡ plain is ++ rest → Emits l a cells stack (words_at a f) (slots_of (place_of a) (variables q)) framed to way c k k' rest
       → Sets lay.code (bases stack) j pf.slots is d (place_of a x) (word_of l.width v)
       → Binds l a f pf.slots (slots_of (place_of a) (variables q)) scope (x ∷ []) c later → Fine l a f pf.slots (slots_of (place_of a) (variables q)) (x ∷ scope) c later
       → ((y : ℕ) → is_among y (uses c) ≡ true → is_among y (uses c0) ≡ true)
-      → ((d' : Data) → Block l a cells stack lay items begins f q pf.slots j m outer d0 u n c to way Must k k' rest (pos + length (plain is)) (x ∷ scope) later (with_var x v env) top under d' w
-      → Simulates l a cells stack lay items begins f q pf.slots j m outer d0 u n calls_n c to way Must (pos + length (plain is)) (with_var x v env) top under d' w)
-      → Does' lay items begins (Given l a cells stack lay items f j pf.slots d0 m outer to way Must) (at (bases stack) lay items pos d) (m ∷ outer) w (code l (words_at a) (room l a cells stack lay items begins) calls_n (with_var x v env) top under c w)
+      → ((d' : Data) → Block l a cells stack lay items begins f q framed pf.slots j m outer d0 u n c to way Must k k' rest (pos + length (plain is)) (x ∷ scope) later (with_var x v env) top under d' w
+      → Simulates l a cells stack lay items begins f q framed pf.slots j m outer d0 u n calls_n c to way Must (pos + length (plain is)) (with_var x v env) top under d' w)
+      → Does' lay items begins (Given l a cells stack lay items framed f j pf.slots d0 m outer to way Must) (at (bases stack) lay items pos d) (m ∷ outer) w (code l (words_at a) (room l a cells stack lay items begins) calls_n (with_var x v env) top under c w)
   one_bound c0 c is x v to way Must k k' block rest pos scope later env top under d w b e emits sets binds fine incl more =
       let parts = cut items pos (plain is) rest block e b.stands in
       let ch = changed_by v sets in
-      let stood = stood_bound l a cells stack lay f j pf.slots (slots_of (place_of a) (variables q)) d0 (lay.address m) c0 c (x ∷ []) (v ∷ []) scope later env (with_var x v env) Must d sets.to w w pf.enough b.stood (world_kept l a cells stack lay j pf.slots d sets.to w b.stood.world sets.does.good sets.keeps) ch refl binds incl b.scoped b.must b.owned in
+      let stood = stood_bound l a cells stack lay framed f j pf.slots (slots_of (place_of a) (variables q)) d0 (lay.address m) c0 c (x ∷ []) (v ∷ []) scope later env (with_var x v env) Must d sets.to w w pf.enough b.stood (world_kept l a cells stack lay j pf.slots d sets.to w b.stood.world sets.does.good sets.keeps) ch (home_kept l a cells stack lay framed j (lay.address m) d sets.to sets.keeps.link (sets.keeps.outside j (inl (omega arith))) b.stood.home) refl binds incl b.scoped b.must b.owned in
       let ran = plain_ran l a cells stack lay items begins is pos d sets.to (m ∷ outer) w b.stood.world.good sets.does parts.first in
-      does_after lay items begins (Given l a cells stack lay items f j pf.slots d0 m outer to way Must) (code l (words_at a) (room l a cells stack lay items begins) calls_n (with_var x v env) top under c w) ran
+      does_after lay items begins (Given l a cells stack lay items framed f j pf.slots d0 m outer to way Must) (code l (words_at a) (room l a cells stack lay items begins) calls_n (with_var x v env) top under c w) ran
       (more sets.to (record {
         emits = emits;
         stands = parts.more;
@@ -143,17 +143,17 @@ module _ (l : Program) (a : Assignment) (cells stack : ℕ) (lay : Layout) (item
 
   -- a variable gets an operand
   pub set_simulated : (x : ℕ) (o : Operand) (c : Code) (to : List Spot) (way : Way) (Must : ℕ → Word → Type 0) (k k' : ℕ) (block : List Item) (pos : ℕ) (scope later : List ℕ) (env : Env) (top : ℕ) (under : Option ℕ) (d : Data) (w : World)
-      → Block l a cells stack lay items begins f q pf.slots j m outer d0 u n (set x o c) to way Must k k' block pos scope later env top under d w
-      → ((v : Word) (rest : List Item) (pos' : ℕ) (d' : Data) → Block l a cells stack lay items begins f q pf.slots j m outer d0 u n c to way Must k k' rest pos' (x ∷ scope) later (with_var x v env) top under d' w
-      → Simulates l a cells stack lay items begins f q pf.slots j m outer d0 u n calls_n c to way Must pos' (with_var x v env) top under d' w)
-      → Simulates l a cells stack lay items begins f q pf.slots j m outer d0 u n calls_n (set x o c) to way Must pos env top under d w
+      → Block l a cells stack lay items begins f q framed pf.slots j m outer d0 u n (set x o c) to way Must k k' block pos scope later env top under d w
+      → ((v : Word) (rest : List Item) (pos' : ℕ) (d' : Data) → Block l a cells stack lay items begins f q framed pf.slots j m outer d0 u n c to way Must k k' rest pos' (x ∷ scope) later (with_var x v env) top under d' w
+      → Simulates l a cells stack lay items begins f q framed pf.slots j m outer d0 u n calls_n c to way Must pos' (with_var x v env) top under d' w)
+      → Simulates l a cells stack lay items begins f q framed pf.slots j m outer d0 u n calls_n (set x o c) to way Must pos env top under d w
   unfolding code
   set_simulated x o c to way Must k k' block pos scope later env top under d w b more = go (operand l (words_at a) env o) refl
     where
       G : List Word → World → Point → List ℕ → Type 0
-      G = Given l a cells stack lay items f j pf.slots d0 m outer to way Must
+      G = Given l a cells stack lay items framed f j pf.slots d0 m outer to way Must
 
-      go : (r : Option Word) → operand l (words_at a) env o ≡ r → Does' lay items begins (Given l a cells stack lay items f j pf.slots d0 m outer to way Must) (at (bases stack) lay items pos d) (m ∷ outer) w (need r w (λ v. code l (words_at a) (room l a cells stack lay items begins) calls_n (with_var x v env) top under c w))
+      go : (r : Option Word) → operand l (words_at a) env o ≡ r → Does' lay items begins (Given l a cells stack lay items framed f j pf.slots d0 m outer to way Must) (at (bases stack) lay items pos d) (m ∷ outer) w (need r w (λ v. code l (words_at a) (room l a cells stack lay items begins) calls_n (with_var x v env) top under c w))
       go None e = tt
       go (Some v) e =
           let is = set_code (place_of a x) (source l a o) in

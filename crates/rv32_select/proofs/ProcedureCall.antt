@@ -49,9 +49,9 @@ module _ (l : Program) (a : Assignment) (cells stack : ℕ) (lay : Layout) (item
   -- what is to be known of the procedure's block
   abbrev pub BodySimulates : Type 0
   BodySimulates =
-      (j m : ℕ) (outer : List ℕ) (d0 : Data) (u k k' : ℕ) (block : List Item) (p : ℕ) (env : Env) (d : Data) (w : World) → address_from 0 items lay (lay.address m) ≡ Some m → 4 * (j + (1 + pf.slots) + u) ≡ stack
-      → Block l a cells stack lay items begins f q pf.slots j m outer d0 u n q.body (result_spots 10 q.results) Returns (NoMust l a cells stack lay items begins s f q pf) k k' block p q.params [] env (u + words_at a f) (Some u) d w
-      → Simulates l a cells stack lay items begins f q pf.slots j m outer d0 u n (calls l (words_at a) (room l a cells stack lay items begins) n) q.body (result_spots 10 q.results) Returns (NoMust l a cells stack lay items begins s f q pf) p env (u + words_at a f) (Some u) d w
+      (framed : Bool) (j m : ℕ) (outer : List ℕ) (d0 : Data) (u k k' : ℕ) (block : List Item) (p : ℕ) (env : Env) (d : Data) (w : World) → address_from 0 items lay (lay.address m) ≡ Some m → 4 * (j + (1 + pf.slots) + u) ≡ stack
+      → Block l a cells stack lay items begins f q framed pf.slots j m outer d0 u n q.body (result_spots 10 q.results) Returns (NoMust l a cells stack lay items begins s f q pf) k k' block p q.params [] env (u + words_at a f) (Some u) d w
+      → Simulates l a cells stack lay items begins f q framed pf.slots j m outer d0 u n (calls l (words_at a) (room l a cells stack lay items begins) n) q.body (result_spots 10 q.results) Returns (NoMust l a cells stack lay items begins s f q pf) p env (u + words_at a f) (Some u) d w
 
   pub call_simulated : BodySimulates → (t m : ℕ) (outer : List ℕ) (vs : List Word) (under bound : ℕ) (w : World) (d : Data)
       → slice_get l.procs f ≡ Some q → label_from 0 items f ≡ Some t
@@ -87,7 +87,7 @@ module _ (l : Program) (a : Assignment) (cells stack : ℕ) (lay : Layout) (item
           let j = bound - (1 + pf.slots) in
           let w' = spent f (under + words_at a f) left w in
           let whole : bound - (1 + pf.slots) + (1 + pf.slots) ≡ bound = omega arith in
-          let block : Block l a cells stack lay items begins f q pf.slots (bound - (1 + pf.slots)) m outer d under n q.body (result_spots 10 q.results) Returns (NoMust l a cells stack lay items begins s f q pf) st.first st.last st.emits.block z.start q.params [] env (under + words_at a f) (Some under) z.to (spent f (under + words_at a f) left w) = record {
+          let block : Block l a cells stack lay items begins f q st.emits.framed pf.slots (bound - (1 + pf.slots)) m outer d under n q.body (result_spots 10 q.results) Returns (NoMust l a cells stack lay items begins s f q pf) st.first st.last st.emits.block z.start q.params [] env (under + words_at a f) (Some under) z.to (spent f (under + words_at a f) left w) = record {
             emits = st.emits.body;
             stands = z.stands;
             ready = tt;
@@ -105,9 +105,9 @@ module _ (l : Program) (a : Assignment) (cells stack : ℕ) (lay : Layout) (item
             top_is = omega arith;
             under_is = λ v k. ((cc), refl);
           } in
-          let done = bodies (bound - (1 + pf.slots)) m outer d under st.first st.last st.emits.block z.start env z.to w' home (omega arith) block in
+          let done = bodies st.emits.framed (bound - (1 + pf.slots)) m outer d under st.first st.last st.emits.block z.start env z.to w' home (omega arith) block in
           let answer = code l (words_at a) (room l a cells stack lay items begins) (calls l (words_at a) (room l a cells stack lay items begins) n) env (under + words_at a f) (Some under) q.body w' in
-          let GB = Given l a cells stack lay items f (bound - (1 + pf.slots)) pf.slots d m outer (result_spots 10 q.results) Returns (NoMust l a cells stack lay items begins s f q pf) in
+          let GB = Given l a cells stack lay items st.emits.framed f (bound - (1 + pf.slots)) pf.slots d m outer (result_spots 10 q.results) Returns (NoMust l a cells stack lay items begins s f q pf) in
           let G' = λ (rs : List Word) (w' : World) (p : Point) (calls' : List ℕ). (d' : Data) × ((p ≡ at (bases stack) lay items m d') × ((calls' ≡ outer) × (Back l a cells stack lay f bound d (result_spots 10 q.results) rs d' w' × (length rs ≡ q.results)))) in
           does_after lay items begins G' (as_many q.results answer) z.ran
           (does_then lay items begins GB G' (at (bases stack) lay items z.start z.to) (m ∷ outer) w' answer (λ rs w'. cond (nat_eq (length rs) q.results) (gives rs w') (stops missing w')) done

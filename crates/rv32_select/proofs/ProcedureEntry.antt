@@ -1,5 +1,5 @@
 -- The entry of a procedure: its label, the test of the stack, its frame and its parameters.
-use Rattle.std.proofs.Common.{◌≡◌, ◌≢◌, ℕ, suc, ◌+◌, ◌-◌, ◌*◌, ◌<◌, ◌≤◌, List, [], ◌∷◌, ◌++◌, map, length, get_or, set, true, false, Some, inl, inr, refl, sym, ap, ◌∙◌, subst, arith, length-append, get_or-set_same, get_or-set_other}
+use Rattle.std.proofs.Common.{◌≡◌, ◌≢◌, ℕ, suc, ◌+◌, ◌-◌, ◌*◌, ◌<◌, ◌≤◌, List, [], ◌∷◌, ◌++◌, map, length, get_or, set, true, false, Some, inl, inr, refl, sym, ap, ◌∙◌, subst, arith, length-append, get_or-set_same, get_or-set_other, Bool}
 use Rattle.std.specs.Prelude.{pos, nat_lt, slice_get}
 use Rattle.std.proofs.lemmas.Bool.Decides.{nat_tests}
 use Rattle.std.proofs.lemmas.Option.{slice_get_within}
@@ -21,7 +21,7 @@ use Rattle.rv32_items.specs.declared.Cond.TheVariants.{Ltu}
 use Rattle.rv32_items.specs.declared.Item.{Item}
 use Rattle.rv32_items.specs.declared.Item.TheVariants.{Branch}
 use Rattle.rv32_items.specs.Course.{Layout, label_from}
-use Rattle.rv32_select.specs.Emit.{plain, add_to, load_constant, argument_spots, parameters_code, entry_items}
+use Rattle.rv32_select.specs.Emit.{plain, link_put, add_to, load_constant, argument_spots, parameters_code, entry_items}
 use Rattle.rv32_select.specs.IsSelected.{stack_end}
 use Rattle.rv32_select.proofs.Courses.{Stands, front, back}
 use Rattle.rv32_select.proofs.Straight.{Data, with_reg, with_stack, Good, Does, does_nothing, does_on, does_store_stack, at}
@@ -29,12 +29,13 @@ use Rattle.rv32_select.proofs.NumberParts.{value_is, does_add, does_number}
 use Rattle.rv32_select.proofs.JumpStretches.{with_regs, passes, branches, goes_on}
 use Rattle.rv32_select.proofs.FrameViews.{spots, InFrame, Kept, kept, kept_on, in_frame, stores}
 use Rattle.rv32_select.proofs.OperandsRead.{IsPlace, put_here, put_there}
-use Rattle.rv32_select.proofs.Relation.{bases, regs_of, word_of, AllHold, HoldsWorld, Stood, Ran, Ends, ran_on, ends_on, quiet, enters, Needed}
+use Rattle.rv32_select.proofs.Relation.{bases, regs_of, word_of, AllHold, HoldsWorld, home_kept, Stood, Ran, Ends, ran_on, ends_on, quiet, enters, Needed}
 use Rattle.rv32_select.proofs.PlaceFacts.{NotAmong, AllApart, AllOwn, AllFree, ProcedureFine, StandsAt, Setting}
 use Rattle.rv32_select.proofs.BlockFacts.{bound_word, own_place, apart_different}
 use Rattle.rv32_select.proofs.OneBound.{plain_ran}
 use Rattle.rv32_select.proofs.Stops.{good_far, stack_full_stop}
 use Rattle.rv32_select.proofs.BlockEnds.{world_same}
+use Rattle.rv32_select.proofs.Linked.{link_put_done}
 use Rattle.rv32_machine.proofs.Registers.{set_there}
 
 -- ---- parameters go to their slots
@@ -134,12 +135,12 @@ module _ (l : Program) (a : Assignment) (cells stack : ℕ) (lay : Layout) (item
   NoMust x v = ⊥
 
   -- where the procedure's block begins: what its entry has made of the data
-  pub record Entered (t m bound under left : ℕ) (outer : List ℕ) (vs : List Word) (d : Data) (w : World) (env : Env) (block : List Item) : Type 0 where
+  pub record Entered (framed : Bool) (t m bound under left : ℕ) (outer : List ℕ) (vs : List Word) (d : Data) (w : World) (env : Env) (block : List Item) : Type 0 where
     pub start : ℕ
     pub to : Data
     pub stands : Stands items start block
     pub ran : Ran lay items begins (at (bases stack) lay items t d) (m ∷ outer) w (at (bases stack) lay items start to) (m ∷ outer) (spent f (under + words_at a f) left w)
-    pub stood : Stood l a cells stack lay f (bound - (1 + pf.slots)) pf.slots d (lay.address m) (Needed q.body env NoMust) to (spent f (under + words_at a f) left w)
+    pub stood : Stood l a cells stack lay framed f (bound - (1 + pf.slots)) pf.slots d (lay.address m) (Needed q.body env NoMust) to (spent f (under + words_at a f) left w)
 
   module _ (t m bound under left : ℕ) (outer : List ℕ) (vs : List Word) (w : World) (d : Data) (is_q : slice_get l.procs f ≡ Some q) (found : label_from 0 items f ≡ Some t) (h : HoldsWorld l a cells stack lay d w)
       (sp : d.regs 2 ≡ (bases stack).stack + 4 * bound) (total : 4 * (bound + under) ≡ stack) (link : d.regs 1 ≡ lay.address m) (args : AllHold l.width (argument_spots 0 (map (place_of a) q.params)) vs (regs_of d)) (units : w.left ≡ suc left) where
@@ -159,20 +160,20 @@ module _ (l : Program) (a : Assignment) (cells stack : ℕ) (lay : Layout) (item
         let two : Some at_stands.place ≡ Some t = sym here ∙ found in
         cc
 
-    entry_stands : Stands items t (entry_items f (words_at a f) (stack_end - stack) (2 + length l.procs) (map (place_of a) q.params) ++ at_stands.emits.block)
-    entry_stands = subst (λ x. Stands items x (entry_items f (words_at a f) (stack_end - stack) (2 + length l.procs) (map (place_of a) q.params) ++ at_stands.emits.block)) place_is (subst (λ x. Stands items at_stands.place x) at_stands.emits.is at_stands.stands)
+    entry_stands : Stands items t (entry_items f (words_at a f) at_stands.emits.framed (stack_end - stack) (2 + length l.procs) (map (place_of a) q.params) ++ at_stands.emits.block)
+    entry_stands = subst (λ x. Stands items x (entry_items f (words_at a f) at_stands.emits.framed (stack_end - stack) (2 + length l.procs) (map (place_of a) q.params) ++ at_stands.emits.block)) place_is (subst (λ x. Stands items at_stands.place x) at_stands.emits.is at_stands.stands)
 
     labelled : Ran lay items begins (at (bases stack) lay items t d) (m ∷ outer) w (at (bases stack) lay items (suc t) d) (m ∷ outer) (spent f (under + words_at a f) left w)
     labelled = enters lay items begins f (under + words_at a f) left w (s.begins_procedures f (slice_get_within l.procs f q is_q)) units (passes (bases stack) lay items t f d w.input (m ∷ outer) entry_stands.0)
 
-    rest_stands : Stands items (suc t) (plain (add_to 2 2 (negated (4 * words_at a f)) ++ load_constant 5 (stack_end - stack)) ++ (Branch Ltu 2 5 (2 + length l.procs) ∷ plain (Store Sw 1 2 (pos 0) ∷ parameters_code 0 (map (place_of a) q.params))))
-    rest_stands = front items (suc t) (plain (add_to 2 2 (negated (4 * words_at a f)) ++ load_constant 5 (stack_end - stack)) ++ (Branch Ltu 2 5 (2 + length l.procs) ∷ plain (Store Sw 1 2 (pos 0) ∷ parameters_code 0 (map (place_of a) q.params)))) at_stands.emits.block entry_stands.1
+    rest_stands : Stands items (suc t) (plain (add_to 2 2 (negated (4 * words_at a f)) ++ load_constant 5 (stack_end - stack)) ++ (Branch Ltu 2 5 (2 + length l.procs) ∷ plain (link_put at_stands.emits.framed ++ parameters_code 0 (map (place_of a) q.params))))
+    rest_stands = front items (suc t) (plain (add_to 2 2 (negated (4 * words_at a f)) ++ load_constant 5 (stack_end - stack)) ++ (Branch Ltu 2 5 (2 + length l.procs) ∷ plain (link_put at_stands.emits.framed ++ parameters_code 0 (map (place_of a) q.params)))) at_stands.emits.block entry_stands.1
 
     tested : FrameTested bound (suc t) d (m ∷ outer) (spent f (under + words_at a f) left w) []
-    tested = frame_tested bound (suc t) d (m ∷ outer) (spent f (under + words_at a f) left w) [] h.good (front items (suc t) (plain (add_to 2 2 (negated (4 * words_at a f)) ++ load_constant 5 (stack_end - stack))) (Branch Ltu 2 5 (2 + length l.procs) ∷ plain (Store Sw 1 2 (pos 0) ∷ parameters_code 0 (map (place_of a) q.params))) rest_stands)
+    tested = frame_tested bound (suc t) d (m ∷ outer) (spent f (under + words_at a f) left w) [] h.good (front items (suc t) (plain (add_to 2 2 (negated (4 * words_at a f)) ++ load_constant 5 (stack_end - stack))) (Branch Ltu 2 5 (2 + length l.procs) ∷ plain (link_put at_stands.emits.framed ++ parameters_code 0 (map (place_of a) q.params))) rest_stands)
 
-    branch_stands : Stands items (suc t + length (plain (add_to 2 2 (negated (4 * words_at a f)) ++ load_constant 5 (stack_end - stack)))) (Branch Ltu 2 5 (2 + length l.procs) ∷ plain (Store Sw 1 2 (pos 0) ∷ parameters_code 0 (map (place_of a) q.params)))
-    branch_stands = back items (suc t) (plain (add_to 2 2 (negated (4 * words_at a f)) ++ load_constant 5 (stack_end - stack))) (Branch Ltu 2 5 (2 + length l.procs) ∷ plain (Store Sw 1 2 (pos 0) ∷ parameters_code 0 (map (place_of a) q.params))) rest_stands
+    branch_stands : Stands items (suc t + length (plain (add_to 2 2 (negated (4 * words_at a f)) ++ load_constant 5 (stack_end - stack)))) (Branch Ltu 2 5 (2 + length l.procs) ∷ plain (link_put at_stands.emits.framed ++ parameters_code 0 (map (place_of a) q.params)))
+    branch_stands = back items (suc t) (plain (add_to 2 2 (negated (4 * words_at a f)) ++ load_constant 5 (stack_end - stack))) (Branch Ltu 2 5 (2 + length l.procs) ∷ plain (link_put at_stands.emits.framed ++ parameters_code 0 (map (place_of a) q.params))) rest_stands
 
     -- no room for the frame
     pub stack_is_full : stack < 4 * (under + words_at a f) → Ends lay items begins (at (bases stack) lay items t d) (m ∷ outer) w (spent f (under + words_at a f) left w) 5
@@ -189,7 +190,7 @@ module _ (l : Program) (a : Assignment) (cells stack : ℕ) (lay : Layout) (item
         ends_on lay items begins ran (stop.ends (with_regs z.to (lay.far n z.to.regs)) (m ∷ outer) w' (good_far items lay (bases stack) s.rises n z.to z.good))
 
     -- the frame is made
-    pub entered : (env : Env) → 4 * (under + words_at a f) ≤ stack → with_vars q.params vs no_vars ≡ Some env → Entered t m bound under left outer vs d w env at_stands.emits.block
+    pub entered : (env : Env) → 4 * (under + words_at a f) ≤ stack → with_vars q.params vs no_vars ≡ Some env → Entered at_stands.emits.framed t m bound under left outer vs d w env at_stands.emits.block
     entered env fits bind =
         let z = tested in
         let few = s.stack_few in
@@ -202,29 +203,27 @@ module _ (l : Program) (a : Assignment) (cells stack : ℕ) (lay : Layout) (item
         let step = goes_on (bases stack) lay items n (2 + length l.procs) 2 5 Ltu z.to w.input (m ∷ outer) branch_stands.0 on in
         let len = h.stack_words in
         let same_length = ap length z.stack' in
-        let two : plus (value z.to.regs 2) 0 ≡ (bases stack).stack + 4 * (bound - (1 + pf.slots)) = let x = z.sp in omega arith in
-        let one : value z.to.regs 1 ≡ d.regs 1 = z.same 1 (omega arith) (omega arith) in
-        let store = does_store_stack lay.code (bases stack) 1 2 (pos 0) (bound - (1 + pf.slots)) (d.regs 1) z.to z.good (omega arith) two (omega arith) one in
-        let e1 = with_stack z.to (set z.to.stack (bound - (1 + pf.slots)) (d.regs 1)) in
-        let longer = length-set z.to.stack (bound - (1 + pf.slots)) (d.regs 1) in
-        let frame1 : InFrame lay.code (bases stack) (bound - (1 + pf.slots)) pf.slots e1 = record { sp = z.sp ∙ sum; room = omega arith } in
+        let P = link_put_done l a cells stack lay at_stands.emits.framed (bound - (1 + pf.slots)) z.to z.good (z.sp ∙ sum) (omega arith) in
+        let e1 = P.to in
+        let longer = P.words in
+        let frame1 : InFrame lay.code (bases stack) (bound - (1 + pf.slots)) pf.slots e1 = record { sp = P.regs 2 ∙ z.sp ∙ sum; room = omega arith } in
         let own = pf.params.1 in
         let df = apart_different l a [] q.params q.body [] pf.params.0 in
         let many : length (map (place_of a) q.params) ≡ length vs = places_many (place_of a) q.params ∙ vars_as_many q.params vs no_vars env bind in
-        let same_regs = λ (r : ℕ) (lo : 8 ≤ r) (hi : r < 32). z.same r (omega arith) (omega arith) in
+        let same_regs = λ (r : ℕ) (lo : 8 ≤ r) (hi : r < 32). P.regs r ∙ z.same r (omega arith) (omega arith) in
         let args1 = args_same l a lay stack f (bound - (1 + pf.slots)) pf.slots (slots_of (place_of a) (variables q)) pf.enough 0 (map (place_of a) q.params) vs d e1 pf.arguments same_regs args in
-        let pr = parameters_put l a lay stack f (bound - (1 + pf.slots)) pf.slots (slots_of (place_of a) (variables q)) pf.enough 0 (map (place_of a) q.params) vs e1 store.good frame1 own df pf.arguments many args1 in
-        let does = does_on lay.code (bases stack) store pr.does in
-        let push = plain_ran l a cells stack lay items begins (Store Sw 1 2 (pos 0) ∷ parameters_code 0 (map (place_of a) q.params)) (suc n) z.to pr.to (m ∷ outer) w' z.good does branch_stands.1 in
+        let pr = parameters_put l a lay stack f (bound - (1 + pf.slots)) pf.slots (slots_of (place_of a) (variables q)) pf.enough 0 (map (place_of a) q.params) vs e1 P.does.good frame1 own df pf.arguments many args1 in
+        let does = does_on lay.code (bases stack) P.does pr.does in
+        let push = plain_ran l a cells stack lay items begins (link_put at_stands.emits.framed ++ parameters_code 0 (map (place_of a) q.params)) (suc n) z.to pr.to (m ∷ outer) w' z.good does branch_stands.1 in
         let whole = ran_on lay items begins labelled (ran_on lay items begins z.ran (ran_on lay items begins (quiet lay items begins w' w' step refl refl refl refl refl) push)) in
-        let world1 = world_same l a cells stack lay d pr.to w h pr.does.good (pr.keeps.next ∙ z.same 3 (omega arith) (omega arith)) (pr.keeps.end ∙ z.same 4 (omega arith) (omega arith)) (pr.keeps.heap ∙ z.heap) (pr.keeps.words ∙ longer ∙ same_length) in
+        let world1 = world_same l a cells stack lay d pr.to w h pr.does.good (pr.keeps.next ∙ P.regs 3 ∙ z.same 3 (omega arith) (omega arith)) (pr.keeps.end ∙ P.regs 4 ∙ z.same 4 (omega arith) (omega arith)) (pr.keeps.heap ∙ P.heap ∙ z.heap) (pr.keeps.words ∙ longer ∙ same_length) in
         record {
-          start = suc n + length (plain (Store Sw 1 2 (pos 0) ∷ parameters_code 0 (map (place_of a) q.params)));
+          start = suc n + length (plain (link_put at_stands.emits.framed ++ parameters_code 0 (map (place_of a) q.params)));
           to = pr.to;
           stands =
-              let b1 = back items t (entry_items f (words_at a f) (stack_end - stack) (2 + length l.procs) (map (place_of a) q.params)) at_stands.emits.block entry_stands in
-              let e = length-append (plain (add_to 2 2 (negated (4 * words_at a f)) ++ load_constant 5 (stack_end - stack))) (Branch Ltu 2 5 (2 + length l.procs) ∷ plain (Store Sw 1 2 (pos 0) ∷ parameters_code 0 (map (place_of a) q.params))) in
-              subst (λ x. Stands items x at_stands.emits.block) (let y : t + length (entry_items f (words_at a f) (stack_end - stack) (2 + length l.procs) (map (place_of a) q.params)) ≡ suc n + length (plain (Store Sw 1 2 (pos 0) ∷ parameters_code 0 (map (place_of a) q.params))) = omega arith in y) b1;
+              let b1 = back items t (entry_items f (words_at a f) at_stands.emits.framed (stack_end - stack) (2 + length l.procs) (map (place_of a) q.params)) at_stands.emits.block entry_stands in
+              let e = length-append (plain (add_to 2 2 (negated (4 * words_at a f)) ++ load_constant 5 (stack_end - stack))) (Branch Ltu 2 5 (2 + length l.procs) ∷ plain (link_put at_stands.emits.framed ++ parameters_code 0 (map (place_of a) q.params))) in
+              subst (λ x. Stands items x at_stands.emits.block) (let y : t + length (entry_items f (words_at a f) at_stands.emits.framed (stack_end - stack) (2 + length l.procs) (map (place_of a) q.params)) ≡ suc n + length (plain (link_put at_stands.emits.framed ++ parameters_code 0 (map (place_of a) q.params))) = omega arith in y) b1;
           ran = whole;
           stood = record {
             world = record {
@@ -239,11 +238,11 @@ module _ (l : Program) (a : Assignment) (cells stack : ℕ) (lay : Layout) (item
               stack_words = world1.stack_words;
             };
             frame = in_frame lay.code (bases stack) (bound - (1 + pf.slots)) pf.slots frame1 pr.keeps;
-            home = pr.keeps.outside (bound - (1 + pf.slots)) (inl (omega arith)) ∙ get_or-set_same z.to.stack (bound - (1 + pf.slots)) (d.regs 1) 0 (omega arith) ∙ link;
+            home = home_kept l a cells stack lay at_stands.emits.framed (bound - (1 + pf.slots)) (lay.address m) e1 pr.to pr.keeps.link (pr.keeps.outside (bound - (1 + pf.slots)) (inl (omega arith))) (P.home (lay.address m) (z.same 1 (omega arith) (omega arith) ∙ link));
             vars = λ y v need. vars_are pr.to y v (bound - (1 + pf.slots)) env bind pr.hold need;
             untouched = record {
-              above = λ x le. pr.keeps.outside x (inr le) ∙ get_or-set_other z.to.stack (bound - (1 + pf.slots)) x (d.regs 1) 0 (omega arith) ∙ ap (λ st. get_or st x 0) z.stack';
-              others = λ r k. pr.registers r k.low k.high ∙ (let lo = k.low in z.same r (omega arith) (omega arith));
+              above = λ x le. pr.keeps.outside x (inr le) ∙ P.others x (omega arith) ∙ ap (λ st. get_or st x 0) z.stack';
+              others = λ r k. pr.registers r k.low k.high ∙ P.regs r ∙ (let lo = k.low in z.same r (omega arith) (omega arith));
             };
           };
         }

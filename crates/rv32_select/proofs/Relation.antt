@@ -1,5 +1,5 @@
 -- How the machine's data stand for the state of a run of low code, and what it is that the machine does what a run does.
-use Rattle.std.proofs.Common.{◌≡◌, ℕ, suc, ◌+◌, ◌-◌, ◌*◌, ◌%◌, ◌<◌, ◌≤◌, List, [], ◌∷◌, ◌++◌, length, get_or, true, false, Some, ◌⊎◌, refl, sym, ap, ◌∙◌, subst, arith, append_assoc}
+use Rattle.std.proofs.Common.{◌≡◌, ℕ, suc, ◌+◌, ◌-◌, ◌*◌, ◌%◌, ◌<◌, ◌≤◌, List, [], ◌∷◌, ◌++◌, length, get_or, true, false, Some, ◌⊎◌, refl, sym, ap, ◌∙◌, subst, arith, append_assoc, Bool}
 use Rattle.std.specs.Prelude.{drop, slice_get}
 use Rattle.std.proofs.lemmas.Grind.{common_steps}
 use Rattle.headline.specs.Carries.{IsBytes}
@@ -79,12 +79,17 @@ module _ (l : Program) (a : Assignment) (cells stack : ℕ) (lay : Layout) where
     pub above : (t : ℕ) → bound ≤ t → get_or d.stack t 0 ≡ get_or d0.stack t 0
     pub others : (r : ℕ) → Keeps l a f r → d.regs r ≡ d0.regs r
 
+  -- where the return address is: in the frame's first word, or in x1
+  abbrev pub Home : (framed : Bool) → (j link : ℕ) → Data → Type 0
+  Home true j link d = get_or d.stack j 0 ≡ link
+  Home false j link d = d.regs 1 ≡ link
+
   -- within procedure f, whose frame's first word is the j-th of the stack and has so many slots: the places of the variables that
-  -- are needed have their words, and the return address is in the frame
-  pub record Stood (f j slots : ℕ) (d0 : Data) (link : ℕ) (Needs : ℕ → Word → Type 0) (d : Data) (w : World) : Type 0 where
+  -- are needed have their words, and the return address is where it should be
+  pub record Stood (framed : Bool) (f j slots : ℕ) (d0 : Data) (link : ℕ) (Needs : ℕ → Word → Type 0) (d : Data) (w : World) : Type 0 where
     pub world : HoldsWorld d w
     pub frame : InFrame lay.code (bases stack) j slots d
-    pub home : get_or d.stack j 0 ≡ link
+    pub home : Home framed j link d
     pub vars : (x : ℕ) (v : Word) → Needs x v → spots lay.code (bases stack) j slots d (place_of a x) ≡ word_of l.width v
     pub untouched : Untouched f (j + (1 + slots)) d0 d
 
@@ -94,6 +99,12 @@ module _ (l : Program) (a : Assignment) (cells stack : ℕ) (lay : Layout) where
     pub sp : d.regs 2 ≡ (bases stack).stack + 4 * bound
     pub untouched : Untouched f bound d0 d
     pub results : AllHold l.width to vs (regs_of d)
+
+-- the return address stays where it is
+pub home_kept : (l : Program) (a : Assignment) (cells stack : ℕ) (lay : Layout) (framed : Bool) (j link : ℕ) (d d' : Data) → d'.regs 1 ≡ d.regs 1 → get_or d'.stack j 0 ≡ get_or d.stack j 0
+    → Home l a cells stack lay framed j link d → Home l a cells stack lay framed j link d'
+home_kept l a cells stack lay true j link d d' one word h = word ∙ h
+home_kept l a cells stack lay false j link d d' one word h = one ∙ h
 
 -- ---- the machine's way beside a run
 
@@ -286,15 +297,15 @@ module _ (lay : Layout) (items : List Item) (begins : List ℕ) where
 module _ (l : Program) (a : Assignment) (cells stack : ℕ) (lay : Layout) (items : List Item) where
   -- where a block's words and the machine are behind it: returned from the procedure to item m, or at the item of a label. `Must`
   -- says the words of the variables that are needed there
-  abbrev pub Given : (f j slots : ℕ) → (d0 : Data) → (m : ℕ) → (outer : List ℕ) → (to : List Spot) → Way → (Must : ℕ → Word → Type 0) → List Word → World → Point → List ℕ → Type 0
-  Given f j slots d0 m outer to Returns Must vs w q calls =
+  abbrev pub Given : (framed : Bool) → (f j slots : ℕ) → (d0 : Data) → (m : ℕ) → (outer : List ℕ) → (to : List Spot) → Way → (Must : ℕ → Word → Type 0) → List Word → World → Point → List ℕ → Type 0
+  Given framed f j slots d0 m outer to Returns Must vs w q calls =
       (d : Data) × ((q ≡ at (bases stack) lay items m d) × ((calls ≡ outer) × Back l a cells stack lay f (j + (1 + slots)) d0 to vs d w))
-  Given f j slots d0 m outer to (Follows n) Must vs w q calls =
+  Given framed f j slots d0 m outer to (Follows n) Must vs w q calls =
       (t : ℕ) × ((d : Data) × ((label_from 0 items n ≡ Some t) × ((q ≡ at (bases stack) lay items t d) × ((calls ≡ m ∷ outer)
-      × (Stood l a cells stack lay f j slots d0 (lay.address m) Must d w × AllHold l.width to vs (spots lay.code (bases stack) j slots d))))))
-  Given f j slots d0 m outer to (Jumps n) Must vs w q calls =
+      × (Stood l a cells stack lay framed f j slots d0 (lay.address m) Must d w × AllHold l.width to vs (spots lay.code (bases stack) j slots d))))))
+  Given framed f j slots d0 m outer to (Jumps n) Must vs w q calls =
       (t : ℕ) × ((d : Data) × ((label_from 0 items n ≡ Some t) × ((q ≡ at (bases stack) lay items t d) × ((calls ≡ m ∷ outer)
-      × (Stood l a cells stack lay f j slots d0 (lay.address m) Must d w × AllHold l.width to vs (spots lay.code (bases stack) j slots d))))))
+      × (Stood l a cells stack lay framed f j slots d0 (lay.address m) Must d w × AllHold l.width to vs (spots lay.code (bases stack) j slots d))))))
 
 -- a variable that a block uses, and its word
 abbrev pub InUse : Code → Env → ℕ → Word → Type 0

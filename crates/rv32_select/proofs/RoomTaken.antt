@@ -44,6 +44,7 @@ module _ (l : Program) (a : Assignment) (cells stack : ℕ) (lay : Layout) (item
     pub next : to.regs 3 ≡ d.regs 3 + step * length ss
     pub end : to.regs 4 ≡ d.regs 4
     pub heap : to.heap ≡ d.heap
+    pub link : to.regs 1 ≡ d.regs 1
     pub sp : to.regs 2 ≡ d.regs 2
     pub words : length to.stack ≡ length d.stack
     pub outside : (t : ℕ) → Outside lay.code (bases stack) j slots t → get_or to.stack t 0 ≡ get_or d.stack t 0
@@ -76,6 +77,7 @@ module _ (l : Program) (a : Assignment) (cells stack : ℕ) (lay : Layout) (item
           next = z.keeps.next;
           end = z.keeps.end;
           heap = z.keeps.heap;
+          link = z.keeps.link;
           sp = z.keeps.frame;
           words = z.keeps.words;
           outside = z.keeps.outside;
@@ -110,6 +112,7 @@ module _ (l : Program) (a : Assignment) (cells stack : ℕ) (lay : Layout) (item
           next = refl;
           end = made.end ∙ keeps.end;
           heap = made.heap ∙ keeps.heap;
+          link = made.link ∙ keeps.link;
           sp = made.sp ∙ keeps.frame;
           words = made.words ∙ keeps.words;
           outside = λ y o. made.outside y o ∙ keeps.outside y o;

@@ -88,7 +88,7 @@ module _ (l : Program) (a : Assignment) (cells stack : ℕ) (items : List Item) 
       }))
   procedures_stand (r ∷ qs) g n m p piece h at above (suc f) q e =
       let on : suc g + f ≡ g + suc f = omega arith in
-      let up = emits_up l a cells stack (words_at a g) (slots_of (place_of a) (variables r)) r.body (result_spots 10 r.results) Returns n h.0 h.3.block h.3.body in
+      let up = emits_up l a cells stack (words_at a g) (slots_of (place_of a) (variables r)) h.3.framed r.body (result_spots 10 r.results) Returns n h.0 h.3.block h.3.body in
       subst (λ k. StandsAt l a cells stack items k q) on
       (procedures_stand qs (suc g) h.0 m (p + length h.1) h.2 h.4 (back items p h.1 h.2 (subst (Stands items p) h.5 at)) (omega arith) f q e)
 

@@ -11,7 +11,7 @@ use Rattle.parallel_move.specs.declared.Move.{Move}
 use Rattle.parallel_move.specs.Moves.{counted, ends}
 use Rattle.rv32_select.specs.declared.source.Source.{Source}
 use Rattle.rv32_select.specs.declared.source.Source.TheVariants.{At, Number}
-use Rattle.rv32_select.specs.Emit.{is_short, load_constant, add_to, copy, reach, load_slot, store_slot, move_to, moves_code, keep, held, hold, number_into, spot_moves, number_moves, set_code, operation, is_immediate, immediate, operands_held, operate_on, is_free, operate_in_order, target, prim_code, load_code, save_code, is_offset, go_on, next_offset, cells_code, cells_below, aside, back, call_code, put_code, byte_given, get_code, parameters_code, leave_code, save_moves, restore_moves, globals_code}
+use Rattle.rv32_select.specs.Emit.{link_put, is_short, load_constant, add_to, copy, reach, load_slot, store_slot, move_to, moves_code, keep, held, hold, number_into, spot_moves, number_moves, set_code, operation, is_immediate, immediate, operands_held, operate_on, is_free, operate_in_order, target, prim_code, load_code, save_code, is_offset, go_on, next_offset, cells_code, cells_below, aside, back, call_code, put_code, byte_given, get_code, parameters_code, leave_code, save_moves, restore_moves, globals_code}
 
 -- neither a branch nor a jump, nor AUIPC
 abbrev pub IsStraight : Instr → Type 0
@@ -248,8 +248,13 @@ parameters_piece i (s ∷ ss) =
     piece_more (3 + 3 * length ss) (3 * length (s ∷ ss)) _ (omega arith)
     (piece_append 3 (3 * length ss) (keep (8 + i) s) _ (keep_piece (8 + i) s) (parameters_piece (suc i) ss))
 
-pub leave_piece : (words : ℕ) → Piece 4 (leave_code words)
-leave_piece words = piece_cons 3 _ _ tt (add_piece 2 2 (4 * words))
+pub leave_piece : (framed : Bool) (words : ℕ) → Piece 4 (leave_code framed words)
+leave_piece true words = piece_cons 3 _ _ tt (add_piece 2 2 (4 * words))
+leave_piece false words = piece_more 3 4 _ (omega arith) (add_piece 2 2 (4 * words))
+
+pub link_piece : (framed : Bool) → Piece 1 (link_put framed)
+link_piece true = piece_one _ tt
+link_piece false = piece_nil 1
 
 pub save_piece : (first : ℕ) (rs : List ℕ) → Piece (3 * length rs) (moves_code (save_moves first rs))
 save_piece first [] = piece_nil 0

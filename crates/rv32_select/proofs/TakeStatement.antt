@@ -22,7 +22,7 @@ use Rattle.rv32_select.proofs.Straight.{Data, at}
 use Rattle.rv32_select.proofs.FrameViews.{spots}
 use Rattle.rv32_select.proofs.TakenCells.{AllAt}
 use Rattle.rv32_select.proofs.RoomTaken.{Takes, takes}
-use Rattle.rv32_select.proofs.Relation.{bases, AllHold, HoldsCells, HoldsWorld, ran_on, quiet, Does', does_after, Given}
+use Rattle.rv32_select.proofs.Relation.{bases, AllHold, HoldsCells, HoldsWorld, home_kept, ran_on, quiet, Does', does_after, Given}
 use Rattle.rv32_select.proofs.CellWords.{cells_taken}
 use Rattle.rv32_select.proofs.PlaceFacts.{IsOwn, AllOwn, ProcedureFine, Setting}
 use Rattle.rv32_select.proofs.BlockFacts.{room, Block, Simulates, Changed, or_true, own_places, apart_different, stood_bound, still_scoped}
@@ -46,12 +46,12 @@ scope_owned l a f saved (x ∷ xs) scope own owned y h = elim (or_true (nat_eq y
 ]
 
 module _ (l : Program) (a : Assignment) (cells stack : ℕ) (lay : Layout) (items : List Item) (begins : List ℕ) (s : Setting l a cells stack lay items begins) (calls_n : Calls) (n : ℕ)
-    (f : ℕ) (q : Procedure) (pf : ProcedureFine l a f q) (j m : ℕ) (outer : List ℕ) (d0 : Data) (u : ℕ) where
+    (f : ℕ) (q : Procedure) (pf : ProcedureFine l a f q) (framed : Bool) (j m : ℕ) (outer : List ℕ) (d0 : Data) (u : ℕ) where
   pub take_simulated : (xs : List ℕ) (c : Code) (to : List Spot) (way : Way) (Must : ℕ → Word → Type 0) (k k' : ℕ) (block : List Item) (p : ℕ) (scope later : List ℕ) (env : Env) (top : ℕ) (under : Option ℕ) (d : Data) (w : World)
-      → Block l a cells stack lay items begins f q pf.slots j m outer d0 u n (take xs c) to way Must k k' block p scope later env top under d w
-      → ((env' : Env) (rest : List Item) (p' : ℕ) (d' : Data) (w' : World) → Block l a cells stack lay items begins f q pf.slots j m outer d0 u n c to way Must k k' rest p' (xs ++ scope) later env' top under d' w'
-      → Simulates l a cells stack lay items begins f q pf.slots j m outer d0 u n calls_n c to way Must p' env' top under d' w')
-      → Simulates l a cells stack lay items begins f q pf.slots j m outer d0 u n calls_n (take xs c) to way Must p env top under d w
+      → Block l a cells stack lay items begins f q framed pf.slots j m outer d0 u n (take xs c) to way Must k k' block p scope later env top under d w
+      → ((env' : Env) (rest : List Item) (p' : ℕ) (d' : Data) (w' : World) → Block l a cells stack lay items begins f q framed pf.slots j m outer d0 u n c to way Must k k' rest p' (xs ++ scope) later env' top under d' w'
+      → Simulates l a cells stack lay items begins f q framed pf.slots j m outer d0 u n calls_n c to way Must p' env' top under d' w')
+      → Simulates l a cells stack lay items begins f q framed pf.slots j m outer d0 u n calls_n (take xs c) to way Must p env top under d w
   unfolding code
   take_simulated xs c to way Must k k' block p scope later env top under d w b more = by_room (nat_lt cells (length w.cells + length xs)) refl
     where
@@ -90,7 +90,7 @@ module _ (l : Program) (a : Assignment) (cells stack : ℕ) (lay : Layout) (item
           (own_places l a lay stack f j pf.slots (slots_of (place_of a) (variables q)) (map (place_of a) xs) pf.enough own) (apart_different l a scope xs c later b.fine.1.0.0) (omega arith)
 
       with_room : length w.cells + length xs ≤ cells → (env' : Env) → with_vars xs (cell_places (length w.cells) xs) env ≡ Some env' →
-          Does' lay items begins (Given l a cells stack lay items f j pf.slots d0 m outer to way Must) (at (bases stack) lay items p d) (m ∷ outer) w (code l (words_at a) (room l a cells stack lay items begins) calls_n env' top under c (with_cells (replicate (length xs) (empty_cell l (words_at a))) w))
+          Does' lay items begins (Given l a cells stack lay items framed f j pf.slots d0 m outer to way Must) (at (bases stack) lay items p d) (m ∷ outer) w (code l (words_at a) (room l a cells stack lay items begins) calls_n env' top under c (with_cells (replicate (length xs) (empty_cell l (words_at a))) w))
       with_room fits env' bind =
           let same = product in
           let w' = with_cells (replicate (length xs) (empty_cell l (words_at a))) w in
@@ -119,10 +119,10 @@ module _ (l : Program) (a : Assignment) (cells stack : ℕ) (lay : Layout) (item
             words = made.words;
             outside = made.outside;
           } in
-          let stood = stood_bound l a cells stack lay f j pf.slots (slots_of (place_of a) (variables q)) d0 (lay.address m) (take xs c) c xs (cell_places (length w.cells) xs) scope later env env' Must d made.to w w' pf.enough b.stood world ch bind b.fine.1.0 (λ y e. e) b.scoped b.must b.owned in
+          let stood = stood_bound l a cells stack lay framed f j pf.slots (slots_of (place_of a) (variables q)) d0 (lay.address m) (take xs c) c xs (cell_places (length w.cells) xs) scope later env env' Must d made.to w w' pf.enough b.stood world ch (home_kept l a cells stack lay framed j (lay.address m) d made.to made.link (made.outside j (inl (omega arith))) b.stood.home) bind b.fine.1.0 (λ y e. e) b.scoped b.must b.owned in
           let p' = p + length (take_items (4 * l.width) (1 + length l.procs) (map (place_of a) xs)) in
           let taken = quiet lay items begins w w' (stays lay items w.input (at (bases stack) lay items p' made.to) (m ∷ outer)) refl refl refl refl refl in
-          does_after lay items begins (Given l a cells stack lay items f j pf.slots d0 m outer to way Must) (code l (words_at a) (room l a cells stack lay items begins) calls_n env' top under c w') (ran_on lay items begins made.ran taken)
+          does_after lay items begins (Given l a cells stack lay items framed f j pf.slots d0 m outer to way Must) (code l (words_at a) (room l a cells stack lay items begins) calls_n env' top under c w') (ran_on lay items begins made.ran taken)
           (more env' b.emits.0 p' made.to w' (record {
             emits = b.emits.2;
             stands = parts.more;
@@ -143,12 +143,12 @@ module _ (l : Program) (a : Assignment) (cells stack : ℕ) (lay : Layout) (item
           }))
 
       by_vars : length w.cells + length xs ≤ cells → (r : Option Env) → with_vars xs (cell_places (length w.cells) xs) env ≡ r →
-          Does' lay items begins (Given l a cells stack lay items f j pf.slots d0 m outer to way Must) (at (bases stack) lay items p d) (m ∷ outer) w (need r w (λ env'. code l (words_at a) (room l a cells stack lay items begins) calls_n env' top under c (with_cells (replicate (length xs) (empty_cell l (words_at a))) w)))
+          Does' lay items begins (Given l a cells stack lay items framed f j pf.slots d0 m outer to way Must) (at (bases stack) lay items p d) (m ∷ outer) w (need r w (λ env'. code l (words_at a) (room l a cells stack lay items begins) calls_n env' top under c (with_cells (replicate (length xs) (empty_cell l (words_at a))) w)))
       by_vars fits None e = tt
       by_vars fits (Some env') e = with_room fits env' e
 
       by_room : (t : Bool) → nat_lt cells (length w.cells + length xs) ≡ t →
-          Does' lay items begins (Given l a cells stack lay items f j pf.slots d0 m outer to way Must) (at (bases stack) lay items p d) (m ∷ outer) w (elim t [
+          Does' lay items begins (Given l a cells stack lay items framed f j pf.slots d0 m outer to way Must) (at (bases stack) lay items p d) (m ∷ outer) w (elim t [
             | true ↦ stops heap_full' w
             | false ↦ need (with_vars xs (cell_places (length w.cells) xs) env) w (λ env'. code l (words_at a) (room l a cells stack lay items begins) calls_n env' top under c (with_cells (replicate (length xs) (empty_cell l (words_at a))) w))
           ])

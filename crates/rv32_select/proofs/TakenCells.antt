@@ -93,6 +93,7 @@ module _ (c : Stretch) (b : Bases) (j slots : ℕ) where
     pub each : AllAt step ss n (spots c b j slots to)
     pub others : (t : Spot) → IsPlace c b j slots t → NotAmong t ss → spots c b j slots to t ≡ spots c b j slots d t
     pub five : to.regs 5 ≡ d.regs 5
+    pub link : to.regs 1 ≡ d.regs 1
     pub sp : to.regs 2 ≡ d.regs 2
     pub end : to.regs 4 ≡ d.regs 4
     pub heap : to.heap ≡ d.heap
@@ -105,7 +106,7 @@ module _ (c : Stretch) (b : Bases) (j slots : ℕ) where
   seen_three d x Scratch o = absurd (o.1 refl)
 
   pub celled : (step off : ℕ) (ss : List Spot) (d : Data) (n : ℕ) → Good c b d → InFrame c b j slots d → AllPlaces c b j slots ss → AllApart ss → d.regs 3 + off ≡ n → n + step * length ss < 2 ^ 32 → Celled step off ss d n
-  celled step off [] d n g f places df e lt = record { to = d; does = does_nothing c b d g; each = tt; others = λ t o ne. refl; five = refl; sp = refl; end = refl; heap = refl; words = refl; outside = λ t o. refl }
+  celled step off [] d n g f places df e lt = record { to = d; does = does_nothing c b d g; each = tt; others = λ t o ne. refl; five = refl; link = refl; sp = refl; end = refl; heap = refl; words = refl; outside = λ t o. refl }
   celled step off (s ∷ ss) d n g f places df e lt =
       let more_room : step * suc (length ss) ≡ step + step * length ss = omega arith in
       let sum : plus (d.regs 3) off ≡ n = omega arith in
@@ -122,6 +123,7 @@ module _ (c : Stretch) (b : Bases) (j slots : ℕ) where
         each = (more.others s places.0 df.0 ∙ seen_three p.to z.three s places.0 ∙ p.here, more.each);
         others = λ t o ne. more.others t o ne.1 ∙ seen_three p.to z.three t o ∙ p.others t o ne.0;
         five = more.five ∙ p.five;
+        link = more.link ∙ p.keeps.link;
         sp = more.sp ∙ p.keeps.frame;
         end = more.end ∙ p.keeps.end;
         heap = more.heap ∙ p.keeps.heap;

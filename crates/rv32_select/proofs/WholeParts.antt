@@ -17,10 +17,10 @@ use Rattle.rv32_items.specs.declared.Item.{Item}
 use Rattle.rv32_items.specs.declared.Item.TheVariants.{Branch, Jump}
 use Rattle.rv32_items.specs.Placed.{is_instruction, size_of, times}
 use Rattle.rv32_select.specs.declared.source.Way.TheVariants.{Returns}
-use Rattle.rv32_select.specs.Emit.{plain, is_short, load_constant, add_to, number_moves, result_spots, parameters_code, exit_with, room_items, globals_code, start_items, stop_items}
+use Rattle.rv32_select.specs.Emit.{plain, is_short, load_constant, add_to, number_moves, result_spots, parameters_code, exit_with, room_items, globals_code, start_items, stop_items, link_put}
 use Rattle.rv32_select.specs.IsSelected.{heap_base, stack_end, heap_end, heap_full, step, stack_full, no_alternative, places, sources, argument_spots_of, EmitsProcedure, EmitsProcedures, start_argument, first_call, IsSelected}
 use Rattle.rv32_select.specs.Writable.{ProcedurePlaced, Writable}
-use Rattle.rv32_select.proofs.StaticPieces.{piece_append, piece_cons, number_piece, add_piece, parameters_piece, globals_piece, sent_piece}
+use Rattle.rv32_select.proofs.StaticPieces.{piece_append, number_piece, add_piece, parameters_piece, globals_piece, sent_piece, link_piece, piece_more}
 use Rattle.rv32_select.proofs.Flowing.{Goes, goes_both, below, below_more, Counts}
 use Rattle.rv32_select.proofs.EmittedLabels.{procedure_up}
 use Rattle.rv32_select.proofs.Parts.{Part, code_part, part_append, part_more, jump_part, branch_part, room_part}
@@ -67,17 +67,17 @@ module _ (l : Program) (a : Assignment) (cells stack : ℕ) where
     pub goes : Goes procs Far items
     pub size : Few → size_of items ≤ most
 
-  entry_part : (Few : Type 0) (n words base : ℕ) (params : List Spot)
-      → Part procs Far n n (9 + 3 * length params) Few (plain (add_to 2 2 (negated (4 * words)) ++ load_constant 5 base) ++ Branch Ltu 2 5 (stack_full l) ∷ plain (Store Sw 1 2 (pos 0) ∷ parameters_code 0 params))
-  entry_part Few n words base params =
+  entry_part : (Few : Type 0) (framed : Bool) (n words base : ℕ) (params : List Spot)
+      → Part procs Far n n (9 + 3 * length params) Few (plain (add_to 2 2 (negated (4 * words)) ++ load_constant 5 base) ++ Branch Ltu 2 5 (stack_full l) ∷ plain (link_put framed ++ parameters_code 0 params))
+  entry_part Few framed n words base params =
       let first = add_to 2 2 (negated (4 * words)) ++ load_constant 5 base in
-      let behind = Store Sw 1 2 (pos 0) ∷ parameters_code 0 params in
+      let behind = link_put framed ++ parameters_code 0 params in
       part_more procs Far Few n n (5 + (3 + suc (3 * length params))) (9 + 3 * length params) (plain first ++ Branch Ltu 2 5 (stack_full l) ∷ plain behind) (omega arith)
       (part_append procs Far Few n n n 5 (3 + suc (3 * length params)) (plain first) (Branch Ltu 2 5 (stack_full l) ∷ plain behind)
       (code_part procs Far Few n 5 first (piece_append 3 2 (add_to 2 2 (negated (4 * words))) (load_constant 5 base) (add_piece 2 2 (negated (4 * words))) (number_piece 5 base)))
       (part_append procs Far Few n n n 3 (suc (3 * length params)) (Branch Ltu 2 5 (stack_full l) ∷ []) (plain behind)
       (branch_part procs Far Few n Ltu 2 5 (stack_full l) (inl (omega arith)))
-      (code_part procs Far Few n (suc (3 * length params)) behind (piece_cons (3 * length params) (Store Sw 1 2 (pos 0)) (parameters_code 0 params) tt (parameters_piece 0 params)))))
+      (code_part procs Far Few n (suc (3 * length params)) behind (piece_more (1 + 3 * length params) (suc (3 * length params)) behind (omega arith) (piece_append 1 (3 * length params) (link_put framed) (parameters_code 0 params) (link_piece framed) (parameters_piece 0 params))))))
 
   procedure_part : (f n m : ℕ) (q : Procedure) (items : List Item) → f < procs → 3 + procs ≤ n → ProcedurePlaced l a q → EmitsProcedure l a cells stack f q n m items
       → Procedures f (suc f) n m (64 + 8 * (length q.params + code_size q.body) + 256 * length (calls_in q.body)) (FewTests q.body) items
@@ -88,9 +88,9 @@ module _ (l : Program) (a : Assignment) (cells stack : ℕ) where
       let Few = FewTests q.body in
       let count = length-map q.params (place_of a) in
       let first = add_to 2 2 (negated (4 * words)) ++ load_constant 5 base in
-      let behind = Branch Ltu 2 5 (stack_full l) ∷ plain (Store Sw 1 2 (pos 0) ∷ parameters_code 0 params) in
-      let block = block_part l a cells stack words (slots_of (place_of a) (variables q)) q.body (result_spots 10 q.results) Returns n m e.block le placed.body e.body in
-      let p = part_append procs Far Few n n m (9 + 3 * length params) (8 * code_size q.body + 256 * length (calls_in q.body)) (plain first ++ behind) e.block (entry_part Few n words base params) block in
+      let behind = Branch Ltu 2 5 (stack_full l) ∷ plain (link_put e.framed ++ parameters_code 0 params) in
+      let block = block_part l a cells stack words (slots_of (place_of a) (variables q)) e.framed q.body (result_spots 10 q.results) Returns n m e.block le placed.body e.body in
+      let p = part_append procs Far Few n n m (9 + 3 * length params) (8 * code_size q.body + 256 * length (calls_in q.body)) (plain first ++ behind) e.block (entry_part Few e.framed n words base params) block in
       subst (Procedures f (suc f) n m (64 + 8 * (length q.params + code_size q.body) + 256 * length (calls_in q.body)) Few) (sym e.is) (record {
         counts = λ k. let c = p.counts k in let b = below_more f k (times k ((plain first ++ behind) ++ e.block)) in omega arith;
         goes = ((λ h. ap (λ is. is_instruction (slice_get is 0)) (append_assoc (plain first) behind e.block) ∙ first_of_code first (behind ++ e.block) (some_append (add_to 2 2 (negated (4 * words))) (load_constant 5 base) (some_sum 2 2 (negated (4 * words))))), p.goes);

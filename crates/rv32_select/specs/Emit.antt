@@ -329,18 +329,35 @@ abbrev pub result_spots : (r n : ℕ) → List Spot
 result_spots r zero = []
 result_spots r (suc n) = Reg r ∷ result_spots (suc r) n
 
+-- the return address goes to the frame's first word, and comes back
+abbrev pub put_link : List Instr
+put_link = Store Sw 1 2 (pos 0) ∷ []
+
+abbrev pub take_link : List Instr
+take_link = Load Lw 1 2 (pos 0) ∷ []
+
+-- in a framed procedure it is there from the entry to the end; in another one it stays in x1
+abbrev pub link_put : (framed : Bool) → List Instr
+link_put true = put_link
+link_put false = []
+
+abbrev pub link_taken : (framed : Bool) → List Instr
+link_taken true = take_link
+link_taken false = []
+
 -- x2 goes down by the frame; where it is then below the stack, the stack is full
-abbrev pub entry_items : (label words stack_base stack_full : ℕ) → (params : List Spot) → List Item
-entry_items label words stack_base stack_full params =
+abbrev pub entry_items : (label words : ℕ) → (framed : Bool) → (stack_base stack_full : ℕ)
+    → (params : List Spot) → List Item
+entry_items label words framed stack_base stack_full params =
     Label label ∷ (plain (add_to 2 2 (negated (4 * words)) ++ load_constant 5 stack_base)
-    ++ Branch Ltu 2 5 stack_full ∷ plain (Store Sw 1 2 (pos 0) ∷ parameters_code 0 params))
+    ++ Branch Ltu 2 5 stack_full ∷ plain (link_put framed ++ parameters_code 0 params))
 
--- the return address comes back, and x2 goes up
-abbrev pub leave_code : (words : ℕ) → List Instr
-leave_code words = Load Lw 1 2 (pos 0) ∷ add_to 2 2 (4 * words)
+-- the return address is in x1 again, and x2 goes up
+abbrev pub leave_code : (framed : Bool) → (words : ℕ) → List Instr
+leave_code framed words = link_taken framed ++ add_to 2 2 (4 * words)
 
-abbrev pub return_items : (words : ℕ) → List Item
-return_items words = plain (leave_code words) ++ Plain (Jalr 0 1 (pos 0)) ∷ []
+abbrev pub return_items : (framed : Bool) → (words : ℕ) → List Item
+return_items framed words = plain (leave_code framed words) ++ Plain (Jalr 0 1 (pos 0)) ∷ []
 
 -- registers are saved in the slots from `first` on, and come back
 abbrev pub save_moves : (first : ℕ) → List ℕ → List Move

@@ -12,7 +12,7 @@ use Rattle.rv32_items.specs.declared.Item.TheVariants.{Jump}
 use Rattle.rv32_select.specs.declared.source.Source.{Source}
 use Rattle.rv32_select.specs.declared.decides.Comparison.{Comparison}
 use Rattle.rv32_select.specs.declared.source.Way.{Way}
-use Rattle.rv32_select.specs.Emit.{plain, moves_code, spot_moves, number_moves, leave_code}
+use Rattle.rv32_select.specs.Emit.{put_link, take_link, plain, moves_code, spot_moves, number_moves, leave_code}
 use Rattle.rv32_select.specs.IsSelected.{IsOrder, sources, places, argument_spots_of, result_spots_of, moves_between, call_items, Emits, EmitsArms, EmitsLast, EmitsDecidedFirst, EmitsDecidedLast, EmitsProcedure}
 use Rattle.rv32_select.specs.Decides.{decides_code, decides, decided}
 use Rattle.rv32_select.specs.Writable.{Placed, ArmsPlaced}
@@ -45,6 +45,15 @@ abbrev pub Deciding : (is_last : Bool) → (before : Code → Code) → (end : C
 Deciding is_last before end None = is_last ≡ true → decided (before end) ≡ false
 Deciding is_last before end (Some c) = (is_last ≡ true) × Comparing before end (Some c)
 
+-- before and behind a piece that needs x1
+abbrev pub link_aside : (framed : Bool) → List Item
+link_aside true = []
+link_aside false = plain put_link
+
+abbrev pub link_back : (framed : Bool) → List Item
+link_back true = []
+link_back false = plain take_link
+
 module _ (l : Program) (a : Assignment) where
   pub record Called (saved f site : ℕ) (as' : List Operand) (xs : List ℕ) (old new : List Item)
       : Type 0 where
@@ -54,45 +63,45 @@ module _ (l : Program) (a : Assignment) where
     pub results_order : IsOrder results (moves_between (places a xs) (result_spots_of l f))
     pub is : new ≡ old ++ call_items l a saved f as' (saves_at a site) arguments results
 
-  pub record TailCalled (words f : ℕ) (as' : List Operand) (old new : List Item) : Type 0 where
+  pub record TailCalled (framed : Bool) (words f : ℕ) (as' : List Operand) (old new : List Item) : Type 0 where
     pub steps : List Move
     pub order : IsOrder steps (spot_moves (argument_spots_of l a f) (sources l a as'))
     pub is : new
         ≡ old ++ (plain (moves_code steps
-        ++ (number_moves (argument_spots_of l a f) (sources l a as') ++ leave_code words))
+        ++ (number_moves (argument_spots_of l a f) (sources l a as') ++ leave_code framed words))
         ++ Jump 0 f ∷ [])
 
-module _ (l : Program) (a : Assignment) (cells stack words saved : ℕ) where
+module _ (l : Program) (a : Assignment) (cells stack words saved : ℕ) (framed : Bool) where
   -- a block
   pub record Emitted (to : List Spot) (way : Way) (c : Code) (old : List Item)
       (n : ℕ) (new : List Item) (m : ℕ) : Type 0 where
     pub items : List Item
     pub is : new ≡ old ++ items
-    pub emits : Emits l a cells stack words saved to way c n m items
+    pub emits : Emits l a cells stack words saved framed to way c n m items
 
   pub record EmittedArms (to : List Spot) (way : Way) (c : Arms) (old : List Item)
       (n : ℕ) (new : List Item) (m : ℕ) : Type 0 where
     pub items : List Item
     pub is : new ≡ old ++ items
-    pub emits : EmitsArms l a cells stack words saved to way c n m items
+    pub emits : EmitsArms l a cells stack words saved framed to way c n m items
 
   pub record EmittedLast (to : List Spot) (way : Way) (c : Arms) (old : List Item)
       (n : ℕ) (new : List Item) (m : ℕ) : Type 0 where
     pub items : List Item
     pub is : new ≡ old ++ items
-    pub emits : EmitsLast l a cells stack words saved to way c n m items
+    pub emits : EmitsLast l a cells stack words saved framed to way c n m items
 
   pub record EmittedDecidedFirst (f : PrimOp) (left right : Source) (to : List Spot) (way : Way)
       (c : Arms) (old : List Item) (n : ℕ) (new : List Item) (m : ℕ) : Type 0 where
     pub items : List Item
     pub is : new ≡ old ++ items
-    pub emits : EmitsDecidedFirst l a cells stack words saved f left right to way c n m items
+    pub emits : EmitsDecidedFirst l a cells stack words saved framed f left right to way c n m items
 
   pub record EmittedDecidedLast (f : PrimOp) (left right : Source) (to : List Spot) (way : Way)
       (c : Arms) (old : List Item) (n : ℕ) (new : List Item) (m : ℕ) : Type 0 where
     pub items : List Item
     pub is : new ≡ old ++ items
-    pub emits : EmitsDecidedLast l a cells stack words saved f left right to way c n m items
+    pub emits : EmitsDecidedLast l a cells stack words saved framed f left right to way c n m items
 
   -- a statement before any block that it doesn't decide
   pub record Before (before : Code → Code) (old : List Item) (n : ℕ) (new : List Item) (m : ℕ)
@@ -104,8 +113,8 @@ module _ (l : Program) (a : Assignment) (cells stack words saved : ℕ) where
     pub before_choice : (c : Code) → ((x : ℕ) → decides_code x c ≡ false)
         → decided (before c) ≡ false
     pub emits : (to : List Spot) (way : Way) (c : Code) (k : ℕ) (rest : List Item)
-        → decided (before c) ≡ false → Emits l a cells stack words saved to way c m k rest
-        → Emits l a cells stack words saved to way (before c) n k (items ++ rest)
+        → decided (before c) ≡ false → Emits l a cells stack words saved framed to way c m k rest
+        → Emits l a cells stack words saved framed to way (before c) n k (items ++ rest)
 
   -- an arm, or several, before any others
   pub record ArmsBefore (to : List Spot) (way : Way) (before : Arms → Arms)
@@ -114,8 +123,8 @@ module _ (l : Program) (a : Assignment) (cells stack words saved : ℕ) where
     pub is : new ≡ old ++ items
     pub placed : (as' : Arms) → ArmsPlaced l a (before as') → ArmsPlaced l a as'
     pub emits : (as' : Arms) (k : ℕ) (rest : List Item)
-        → EmitsArms l a cells stack words saved to way as' m k rest
-        → EmitsArms l a cells stack words saved to way (before as') n k (items ++ rest)
+        → EmitsArms l a cells stack words saved framed to way as' m k rest
+        → EmitsArms l a cells stack words saved framed to way (before as') n k (items ++ rest)
 
 -- a procedure
 pub record EmittedProcedure (l : Program) (a : Assignment) (cells stack f : ℕ)

@@ -18,7 +18,7 @@ use Rattle.rv32_select.specs.declared.source.Source.{Source}
 use Rattle.rv32_select.specs.declared.source.Source.TheVariants.{At, Number}
 use Rattle.rv32_select.specs.declared.source.Way.{Way}
 use Rattle.rv32_select.specs.declared.source.Way.TheVariants.{Returns, Follows, Jumps}
-use Rattle.rv32_select.specs.Emit.{plain, moves_code, spot_moves, number_moves, set_code, prim_code, load_code, save_code, take_items, put_code, get_code, exit_with, argument_spots, result_spots, entry_items, leave_code, return_items, save_moves, restore_moves, branch_items, test_items, match_items, start_items, stop_items}
+use Rattle.rv32_select.specs.Emit.{put_link, take_link, plain, moves_code, spot_moves, number_moves, set_code, prim_code, load_code, save_code, take_items, put_code, get_code, exit_with, argument_spots, result_spots, entry_items, leave_code, return_items, save_moves, restore_moves, branch_items, test_items, match_items, start_items, stop_items}
 use Rattle.rv32_select.specs.Decides.{decides, tested, condition, other_condition}
 
 -- the heap's first address, and the end of the frames
@@ -45,6 +45,12 @@ Passed tests Block Behind n m items =
     (k : ℕ) × (block : List Item) × Block (suc n) k block
     × Then (tests ++ (block ++ Label n ∷ [])) (Behind k m) items
 
+-- a piece that needs x1: where the return address isn't in the frame, it is there meanwhile
+abbrev pub Round : (framed : Bool) → (piece : List Item) → (List Item → Type 0) → List Item → Type 0
+Round true piece Rest items = Then piece Rest items
+Round false piece Rest items =
+    Then (plain put_link) (Then piece (Then (plain take_link) Rest)) items
+
 -- moves from one list of spots to another
 abbrev pub moves_between : (to from : List Spot) → List Move
 moves_between [] from = []
@@ -57,10 +63,10 @@ further Returns = Returns
 further (Follows label) = Jumps label
 further (Jumps label) = Jumps label
 
-abbrev pub way_out : (words : ℕ) → Way → List Item
-way_out words Returns = return_items words
-way_out words (Follows label) = []
-way_out words (Jumps label) = Jump 0 label ∷ []
+abbrev pub way_out : (framed : Bool) → (words : ℕ) → Way → List Item
+way_out framed words Returns = return_items framed words
+way_out framed words (Follows label) = []
+way_out framed words (Jumps label) = Jump 0 label ∷ []
 
 -- a block that likely runs rarely: it calls a procedure, or has no alternative
 abbrev pub is_rare : Code → Bool
@@ -170,8 +176,8 @@ module _ (l : Program) (a : Assignment) where
 
 module _ (l : Program) (a : Assignment) (cells stack : ℕ) where
   -- in a procedure whose frame has so many words, of which the slots from `saved` on are for saved
-  -- registers
-  module _ (words saved : ℕ) where
+  -- registers, and the first one is the return address's or isn't
+  module _ (words saved : ℕ) (framed : Bool) where
     abbrev mutual
       -- the items of a block that gives its words to these spots and goes this way then; n is the
       -- first label of its own, and m the next one behind them
@@ -191,14 +197,14 @@ module _ (l : Program) (a : Assignment) (cells stack : ℕ) where
       Emits to way (take xs c) n m items =
           Then (take_items (step l) (heap_full l) (places a xs)) (Emits to way c n m) items
       Emits to way (put b c) n m items =
-          Then (plain (put_code (heap_end l cells) (source l a b))) (Emits to way c n m) items
+          Round framed (plain (put_code (heap_end l cells) (source l a b))) (Emits to way c n m) items
       Emits to way (get x c) n m items =
-          Then (plain (get_code (heap_end l cells) (place_of a x))) (Emits to way c n m) items
+          Round framed (plain (get_code (heap_end l cells) (place_of a x))) (Emits to way c n m) items
       Emits to way (call f site as' xs c) n m items =
           (arguments results : List Move)
           × IsOrder arguments (spot_moves (argument_spots_of l a f) (sources l a as'))
           × IsOrder results (moves_between (places a xs) (result_spots_of l f))
-          × Then (call_items l a saved f as' (saves_at a site) arguments results)
+          × Round framed (call_items l a saved f as' (saves_at a site) arguments results)
           (Emits to way c n m) items
       Emits to way (join xs b c) n m items =
           (k : ℕ) × (block : List Item) × Emits (places a xs) (Follows n) b (suc n) k block
@@ -206,18 +212,19 @@ module _ (l : Program) (a : Assignment) (cells stack : ℕ) where
       Emits to way (give as') n m items =
           (m ≡ n) × (steps : List Move) × IsOrder steps (spot_moves to (sources l a as'))
           × (items
-          ≡ plain (moves_code steps ++ number_moves to (sources l a as')) ++ way_out words way)
+          ≡ plain (moves_code steps ++ number_moves to (sources l a as')) ++ way_out framed words way)
       Emits to way (tail f site as') n m items =
           (m ≡ n) × (steps : List Move)
           × IsOrder steps (spot_moves (argument_spots_of l a f) (sources l a as'))
           × (items ≡ plain (moves_code steps
-          ++ (number_moves (argument_spots_of l a f) (sources l a as') ++ leave_code words))
+          ++ (number_moves (argument_spots_of l a f) (sources l a as') ++ leave_code framed words))
           ++ Jump 0 f ∷ [])
       Emits to way (choose as') n m items = elim (stands_last way as') [
         | true ↦ EmitsLast to way as' n m items
         | false ↦ EmitsArms to way as' n m items
       ]
-      Emits to way fail n m items = (m ≡ n) × (items ≡ Jump 0 (no_alternative l) ∷ [])
+      -- at the stop x5 has the address behind this jump, which tells where no alternative was
+      Emits to way fail n m items = (m ≡ n) × (items ≡ Jump 5 (no_alternative l) ∷ [])
 
       pub EmitsArms : (to : List Spot) → Way → Arms → (n m : ℕ) → List Item → Type 0
       EmitsArms to way (otherwise c) n m items = Emits to way c n m items
@@ -260,11 +267,12 @@ module _ (l : Program) (a : Assignment) (cells stack : ℕ) where
 
   -- procedure f: its entry, and its block
   pub record EmitsProcedure (f : ℕ) (q : Procedure) (n m : ℕ) (items : List Item) : Type 0 where
+    pub framed : Bool
     pub block : List Item
-    pub body : Emits (words_at a f) (slots_of (place_of a) (variables q))
+    pub body : Emits (words_at a f) (slots_of (place_of a) (variables q)) framed
         (result_spots 10 q.results) Returns q.body n m block
     pub is : items
-        ≡ entry_items f (words_at a f) (stack_end - stack) (stack_full l) (places a q.params)
+        ≡ entry_items f (words_at a f) framed (stack_end - stack) (stack_full l) (places a q.params)
         ++ block
 
   -- the procedures from number f on

@@ -4,12 +4,12 @@
 ghost use Rattle.std.specs.Prelude.{◌≡◌, ◌++◌, [], ◌∷◌, ◌<◌, ◌+◌, ◌*◌, ◌≤◌, suc, length, map, slice_get, Some, OnOk, IfOk, true, false, if◌then◌else◌};
 ghost use Rattle.low_code.specs.Tree.{Code as Block, prim, join, choose, all_before, arms_before, before_of, end_of, code_of, arm_of, program_of};
 ghost use Rattle.register_alloc.specs.Assignment.{place_of};
-ghost use Rattle.rv32_select.specs.Emit.{plain, leave_code, take_items};
+ghost use Rattle.rv32_select.specs.Emit.{put_link as put_link_code, take_link as take_link_code, link_put as link_put_code, link_taken as link_taken_code, plain, leave_code, take_items};
 ghost use Rattle.rv32_select.specs.IsSelected.{source as source_of, further as further_way, way_out as way_out_items, sources as sources_of, tests_items, is_rare as is_rare_code, waits as waits_there, has_one, argument_spots_of, result_spots_of, moves_between as moves_across, heap_end as end_of_heap, heap_full as heap_full_label, no_alternative as no_alternative_label};
 ghost use Rattle.rv32_select.specs.Decides.{decides as decides_all};
 ghost use Rattle.rv32_select.specs.Ranges.{AreTargets};
 ghost use Rattle.rv32_select.specs.Writable.{Writable, CanWrite, FrameFits, Placed, ArmsPlaced, ArmPlaced, HavePlaces, OperandPlaced, OperandsPlaced, TestsPlaced, TargetsPlaced, CallPlaced};
-ghost use Rattle.rv32_select.specs.Emitting.{Moved, Sent, Called, TailCalled, Emitted, EmittedArms, EmittedLast, EmittedDecidedFirst, EmittedDecidedLast, Before, ArmsBefore, one_arm};
+ghost use Rattle.rv32_select.specs.Emitting.{link_aside as link_aside_items, link_back as link_back_items, Moved, Sent, Called, TailCalled, Emitted, EmittedArms, EmittedLast, EmittedDecidedFirst, EmittedDecidedLast, Before, ArmsBefore, one_arm};
 
 use crate::code::Code;
 use crate::context::{Context, Frame, HEAP_BASE, result_spots};
@@ -17,15 +17,16 @@ use crate::decides::{Comparison, condition, deciding, other_condition, tested};
 use crate::source::Way;
 use low_code::{LowArm, LowBlock, LowEnd, LowStmt, LowTest, Operand};
 use parallel_move::Spot;
-use rv32_isa::{Imm12, Instr, LoadKind, Reg};
+use rv32_isa::{Imm12, Instr, LoadKind, Reg, StoreKind};
 use rv32_items::Item;
 use std::alloc::AllocError;
 
-/// The items so far, and the next label.
+/// The items so far, the next label, and the words that were spared by return addresses in x1.
 #[derive(Drop)]
 pub(crate) struct Selection {
     pub(crate) code: Code,
     pub(crate) next: u32,
+    pub(crate) spared: u32,
 }
 
 /// The way where other items come before the label.
@@ -116,22 +117,76 @@ impl Selection {
 }
 
 impl Code {
-    /// The return address comes back, and x2 goes up.
-    fn leave(&mut self, words: u32) -> Result<(), AllocError>
-        requires { words < 1073741824 }
-        ensures { OnOk result (self.new ≡ self.old ++ plain (leave_code words)) }
+    /// The return address goes to the frame's first word.
+    fn put_link(&mut self) -> Result<(), AllocError>
+        ensures { OnOk result (self.new ≡ self.old ++ plain put_link_code) }
     {
-        self.instr(Instr::Load(LoadKind::Lw, Reg(1), Reg(2), Imm12(0)))?;
+        self.instr(Instr::Store(StoreKind::Sw, Reg(1), Reg(2), Imm12(0)))
+    }
+
+    /// It comes back.
+    fn take_link(&mut self) -> Result<(), AllocError>
+        ensures { OnOk result (self.new ≡ self.old ++ plain take_link_code) }
+    {
+        self.instr(Instr::Load(LoadKind::Lw, Reg(1), Reg(2), Imm12(0)))
+    }
+
+    /// In a framed procedure it goes there at the entry.
+    pub(crate) fn link_put(&mut self, framed: bool) -> Result<(), AllocError>
+        ensures { OnOk result (self.new ≡ self.old ++ plain (link_put_code framed)) }
+    {
+        if framed {
+            return self.put_link();
+        }
+        Ok(())
+    }
+
+    /// And comes back at the end.
+    fn link_taken(&mut self, framed: bool) -> Result<(), AllocError>
+        ensures { OnOk result (self.new ≡ self.old ++ plain (link_taken_code framed)) }
+    {
+        if framed {
+            return self.take_link();
+        }
+        Ok(())
+    }
+
+    /// In another one, before a piece that needs x1.
+    fn link_aside(&mut self, framed: bool) -> Result<(), AllocError>
+        ensures { OnOk result (self.new ≡ self.old ++ link_aside_items framed) }
+    {
+        if framed {
+            return Ok(());
+        }
+        self.put_link()
+    }
+
+    /// Behind it.
+    fn link_back(&mut self, framed: bool) -> Result<(), AllocError>
+        ensures { OnOk result (self.new ≡ self.old ++ link_back_items framed) }
+    {
+        if framed {
+            return Ok(());
+        }
+        self.take_link()
+    }
+
+    /// The return address is in x1 again, and x2 goes up.
+    fn leave(&mut self, framed: bool, words: u32) -> Result<(), AllocError>
+        requires { words < 1073741824 }
+        ensures { OnOk result (self.new ≡ self.old ++ plain (leave_code framed words)) }
+    {
+        self.link_taken(framed)?;
         self.add_to(Reg(2), Reg(2), 4 * words)
     }
 
-    fn way_out(&mut self, words: u32, way: Way) -> Result<(), AllocError>
+    fn way_out(&mut self, framed: bool, words: u32, way: Way) -> Result<(), AllocError>
         requires { words < 1073741824 }
-        ensures { OnOk result (self.new ≡ self.old ++ way_out_items words way) }
+        ensures { OnOk result (self.new ≡ self.old ++ way_out_items framed words way) }
     {
         match way {
             Way::Returns => {
-                self.leave(words)?;
+                self.leave(framed, words)?;
                 self.instr(Instr::Jalr(Reg(0), Reg(1), Imm12(0)))
             }
             Way::Follows(_) => Ok(()),
@@ -248,20 +303,20 @@ impl<'a> Context<'a> {
     fn tail(
         &self,
         code: &mut Code,
-        words: u32,
+        frame: Frame,
         proc: u32,
         operands: &[Operand],
     ) -> Result<(), AllocError>
         requires writable { Writable (program_of self.now.low.now) self.now.places.now }
-        requires frame { words < 67108864 }
+        requires frame { frame.words < 67108864 }
         requires proc { proc < length self.now.low.now.procs }
         requires operands { OperandsPlaced (program_of self.now.low.now) self.now.places.now
             operands.now }
-        ensures { OnOk result (TailCalled (program_of self.now.low.now) self.now.places.now words
-            proc operands.now code.old code.new) }
+        ensures { OnOk result (TailCalled (program_of self.now.low.now) self.now.places.now
+            frame.framed frame.words proc operands.now code.old code.new) }
     {
         self.send_arguments(code, proc, operands)?;
-        code.leave(words)?;
+        code.leave(frame.framed, frame.words)?;
         code.put(Item::Jump {
             link: Reg(0),
             label: proc,
@@ -303,7 +358,7 @@ impl<'a> Context<'a> {
         requires placed { (c : Block)
             × Placed (program_of self.now.low.now) self.now.places.now (before_of stmt.now c) }
         ensures { OnOk result (Before (program_of self.now.low.now) self.now.places.now
-            self.now.cells self.now.stack frame.words frame.saved (before_of stmt.now) out.old.code
+            self.now.cells self.now.stack frame.words frame.saved frame.framed (before_of stmt.now) out.old.code
             out.old.next out.new.code out.new.next) }
     {
         match stmt {
@@ -328,17 +383,27 @@ impl<'a> Context<'a> {
             LowStmt::Take(xs) => self.take(&mut out.code, xs.as_slice()),
             LowStmt::Put(a) => {
                 let word = self.source(*a);
-                out.code.put_byte(self.heap_end(), word)
+                out.code.link_aside(frame.framed)?;
+                out.code.put_byte(self.heap_end(), word)?;
+                out.code.link_back(frame.framed)
             }
-            LowStmt::Get(x) => out.code.get_byte(self.heap_end(), self.places.place(*x)),
-            LowStmt::Call(f, site, operands, xs) => self.call(
-                &mut out.code,
-                frame,
-                *f,
-                *site,
-                operands.as_slice(),
-                xs.as_slice(),
-            ),
+            LowStmt::Get(x) => {
+                out.code.link_aside(frame.framed)?;
+                out.code.get_byte(self.heap_end(), self.places.place(*x))?;
+                out.code.link_back(frame.framed)
+            }
+            LowStmt::Call(f, site, operands, xs) => {
+                out.code.link_aside(frame.framed)?;
+                self.call(
+                    &mut out.code,
+                    frame,
+                    *f,
+                    *site,
+                    operands.as_slice(),
+                    xs.as_slice(),
+                )?;
+                out.code.link_back(frame.framed)
+            }
             LowStmt::Join(xs, block) => self.join(frame, out, xs.as_slice(), block),
         }
     }
@@ -359,7 +424,7 @@ impl<'a> Context<'a> {
         requires placed { Placed (program_of self.now.low.now) self.now.places.now
             (code_of block.now) }
         ensures { OnOk result (Before (program_of self.now.low.now) self.now.places.now
-            self.now.cells self.now.stack frame.words frame.saved
+            self.now.cells self.now.stack frame.words frame.saved frame.framed
             (join variables.now (code_of block.now)) out.old.code out.old.next out.new.code
             out.new.next) }
     {
@@ -385,7 +450,7 @@ impl<'a> Context<'a> {
         requires placed { ArmPlaced (program_of self.now.low.now) self.now.places.now
             (arm_of arm.now) }
         ensures { OnOk result (ArmsBefore (program_of self.now.low.now) self.now.places.now
-            self.now.cells self.now.stack frame.words frame.saved to.now way
+            self.now.cells self.now.stack frame.words frame.saved frame.framed to.now way
             (one_arm (arm_of arm.now)) out.old.code out.old.next out.new.code out.new.next) }
     {
         let label = out.fresh()?;
@@ -412,7 +477,7 @@ impl<'a> Context<'a> {
         requires placed { ArmsPlaced (program_of self.now.low.now) self.now.places.now
             (arms_before (map arm_of arms.now) (code_of otherwise.now)) }
         ensures { OnOk result (EmittedArms (program_of self.now.low.now) self.now.places.now
-            self.now.cells self.now.stack frame.words frame.saved to.now way
+            self.now.cells self.now.stack frame.words frame.saved frame.framed to.now way
             (arms_before (map arm_of arms.now) (code_of otherwise.now)) out.old.code out.old.next
             out.new.code out.new.next) }
     {
@@ -443,7 +508,7 @@ impl<'a> Context<'a> {
         requires placed { ArmsPlaced (program_of self.now.low.now) self.now.places.now
             (arms_before (map arm_of (first.now ∷ arms.now)) (code_of otherwise.now)) }
         ensures { OnOk result (EmittedLast (program_of self.now.low.now) self.now.places.now
-            self.now.cells self.now.stack frame.words frame.saved to.now way
+            self.now.cells self.now.stack frame.words frame.saved frame.framed to.now way
             (arms_before (map arm_of (first.now ∷ arms.now)) (code_of otherwise.now)) out.old.code
             out.old.next out.new.code out.new.next) }
     {
@@ -473,7 +538,7 @@ impl<'a> Context<'a> {
         requires placed { ArmsPlaced (program_of self.now.low.now) self.now.places.now
             (arms_before (map arm_of arms.now) (code_of otherwise.now)) }
         ensures { OnOk result (Emitted (program_of self.now.low.now) self.now.places.now
-            self.now.cells self.now.stack frame.words frame.saved to.now way
+            self.now.cells self.now.stack frame.words frame.saved frame.framed to.now way
             (choose (arms_before (map arm_of arms.now) (code_of otherwise.now))) out.old.code
             out.old.next out.new.code out.new.next) }
     {
@@ -517,7 +582,7 @@ impl<'a> Context<'a> {
         requires placed { ArmsPlaced (program_of self.now.low.now) self.now.places.now
             (arms_before (map arm_of (first.now ∷ others.now)) (code_of otherwise.now)) }
         ensures { OnOk result (EmittedDecidedFirst (program_of self.now.low.now) self.now.places.now
-            self.now.cells self.now.stack frame.words frame.saved comparison.operation
+            self.now.cells self.now.stack frame.words frame.saved frame.framed comparison.operation
             (source_of (program_of self.now.low.now) self.now.places.now comparison.left)
             (source_of (program_of self.now.low.now) self.now.places.now comparison.right)
             to.now way (arms_before (map arm_of (first.now ∷ others.now)) (code_of otherwise.now))
@@ -562,7 +627,7 @@ impl<'a> Context<'a> {
         requires placed { ArmsPlaced (program_of self.now.low.now) self.now.places.now
             (arms_before (map arm_of (first.now ∷ others.now)) (code_of otherwise.now)) }
         ensures { OnOk result (EmittedDecidedLast (program_of self.now.low.now) self.now.places.now
-            self.now.cells self.now.stack frame.words frame.saved comparison.operation
+            self.now.cells self.now.stack frame.words frame.saved frame.framed comparison.operation
             (source_of (program_of self.now.low.now) self.now.places.now comparison.left)
             (source_of (program_of self.now.low.now) self.now.places.now comparison.right)
             to.now way (arms_before (map arm_of (first.now ∷ others.now)) (code_of otherwise.now))
@@ -603,7 +668,7 @@ impl<'a> Context<'a> {
         requires decides { decides_all comparison.operation comparison.variable
             (choose (arms_before (map arm_of (first.now ∷ others.now)) (code_of otherwise.now))) ≡ true }
         ensures { OnOk result (Emitted (program_of self.now.low.now) self.now.places.now
-            self.now.cells self.now.stack frame.words frame.saved to.now way
+            self.now.cells self.now.stack frame.words frame.saved frame.framed to.now way
             (prim comparison.operation comparison.variable comparison.left comparison.right
             (choose (arms_before (map arm_of (first.now ∷ others.now)) (code_of otherwise.now))))
             out.old.code out.old.next out.new.code out.new.next) }
@@ -638,7 +703,7 @@ impl<'a> Context<'a> {
         requires decides { decides_all comparison.operation comparison.variable
             (end_of end.now) ≡ true }
         ensures { OnOk result (Emitted (program_of self.now.low.now) self.now.places.now
-            self.now.cells self.now.stack frame.words frame.saved to.now way
+            self.now.cells self.now.stack frame.words frame.saved frame.framed to.now way
             (prim comparison.operation comparison.variable comparison.left comparison.right
             (end_of end.now))
             out.old.code out.old.next out.new.code out.new.next) }
@@ -673,24 +738,25 @@ impl<'a> Context<'a> {
         requires placed { Placed (program_of self.now.low.now) self.now.places.now
             (end_of end.now) }
         ensures { OnOk result (Emitted (program_of self.now.low.now) self.now.places.now
-            self.now.cells self.now.stack frame.words frame.saved to.now way (end_of end.now)
+            self.now.cells self.now.stack frame.words frame.saved frame.framed to.now way (end_of end.now)
             out.old.code out.old.next out.new.code out.new.next) }
     {
         match end {
             LowEnd::Give(operands) => {
                 self.send(&mut out.code, to, operands.as_slice())?;
-                out.code.way_out(frame.words, way)?;
+                out.code.way_out(frame.framed, frame.words, way)?;
                 Ok(())
             }
             LowEnd::Tail(f, _, operands) => {
-                self.tail(&mut out.code, frame.words, *f, operands.as_slice())
+                self.tail(&mut out.code, frame, *f, operands.as_slice())
             }
             LowEnd::Choose(arms, otherwise) => {
                 self.choose(frame, out, to, way, arms.as_slice(), otherwise)
             }
+            // x5, since a jump that links x1 is a call
             LowEnd::Fail => {
                 out.code.put(Item::Jump {
-                    link: Reg(0),
+                    link: Reg(5),
                     label: self.no_alternative(),
                 })?;
                 Ok(())
@@ -715,7 +781,7 @@ impl<'a> Context<'a> {
         requires placed { Placed (program_of self.now.low.now) self.now.places.now
             (code_of block.now) }
         ensures { OnOk result (Emitted (program_of self.now.low.now) self.now.places.now
-            self.now.cells self.now.stack frame.words frame.saved to.now way (code_of block.now)
+            self.now.cells self.now.stack frame.words frame.saved frame.framed to.now way (code_of block.now)
             out.old.code out.old.next out.new.code out.new.next) }
     {
         let mut left = block.stmts.len();

@@ -22,11 +22,13 @@ use std::alloc::{AllocError, Global};
 /// The heap's first address.
 pub(crate) const HEAP_BASE: u32 = 0x50000000;
 
-/// The words of a procedure's frame, and the first slot for saved registers.
+/// The words of a procedure's frame, the first slot for saved registers, and whether the return
+/// address is in the frame from the entry to the end.
 #[derive(Clone, Copy)]
 pub(crate) struct Frame {
     pub(crate) words: u32,
     pub(crate) saved: u32,
+    pub(crate) framed: bool,
 }
 
 /// The program, its places, the number of its cells and the bytes of its frames.

@@ -20,6 +20,7 @@ mod blocks;
 mod code;
 mod context;
 mod decides;
+mod framing;
 mod laws;
 mod procedures;
 mod slots;
@@ -54,6 +55,7 @@ pub fn select(
     let mut out = Selection {
         code: Code::new(alloc),
         next: 3 + low.procs.len() as u32,
+        spared: 0,
     };
     context.start_up(&mut out.code)?;
     context.first_call(&mut out.code)?;

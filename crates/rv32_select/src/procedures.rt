@@ -12,6 +12,7 @@ ghost use Rattle.rv32_select.specs.Emitting.{EmittedProcedure};
 use crate::blocks::Selection;
 use crate::code::{Code, add_immediate, held, negated};
 use crate::context::{Context, Frame, HEAP_BASE, result_spots};
+use crate::framing::is_framed;
 use crate::source::{Source, Way};
 use low_code::Operand;
 use parallel_move::Spot;
@@ -28,13 +29,14 @@ impl Code {
         &mut self,
         label: u32,
         words: u32,
+        framed: bool,
         stack_base: u32,
         stack_full: u32,
         params: &[Spot],
     ) -> Result<(), AllocError>
         requires { (words < 67108864) × (length params.now ≤ 16) }
         ensures { OnOk result (self.new ≡ self.old
-            ++ entry_items label words stack_base stack_full params.now) }
+            ++ entry_items label words framed stack_base stack_full params.now) }
     {
         self.put(Item::Label(label))?;
         self.add_to(Reg(2), Reg(2), negated(4 * words))?;
@@ -45,7 +47,7 @@ impl Code {
             right: Reg(5),
             label: stack_full,
         })?;
-        self.instr(Instr::Store(StoreKind::Sw, Reg(1), Reg(2), Imm12(0)))?;
+        self.link_put(framed)?;
         self.parameters(params)
     }
 
@@ -142,16 +144,22 @@ impl<'a> Context<'a> {
         let saved = self.slots(procedure)?;
         let params = self.spots(procedure.params.as_slice())?;
         let stack_full = 2 + self.low.procs.len() as u32;
+        let framed = is_framed(&mut out.spared, proc, &procedure.body);
         out.code.enter(
             proc,
             words,
+            framed,
             STACK_END - self.stack,
             stack_full,
             params.as_slice(),
         )?;
         let results = result_spots(self.alloc, procedure.results)?;
         self.block(
-            Frame { words, saved },
+            Frame {
+                words,
+                saved,
+                framed,
+            },
             out,
             results.as_slice(),
             Way::Returns,

@@ -116,6 +116,32 @@ fn a_list_is_added_up(rt: HostRuntime) -> Result<(), Fail> {
     exits(&rt, rt.alloc(), &low, room, b"", 0, b"55!")
 }
 
+/// How often a word stands among others.
+fn times(words: &[u32], word: u32) -> u32 {
+    let mut times: u32 = 0;
+    for w in words {
+        if *w == word {
+            times = times.saturating_add(1);
+        }
+    }
+    times
+}
+
+// The start calls three procedures and writes a byte on its one way, and the procedure of a digit
+// writes one: both have the return address in the frame from the entry to the end, which is a store
+// and a load, and those that write a byte hold it in x1 meanwhile, which is a load and a store.
+// That makes two of each in both. The sum and the procedure that writes a number have a way without
+// a call and one with one call: a store and a load round the call. The list is made without a call:
+// none. So there are six sw x1, 0(x2) and six lw x1, 0(x2).
+#[test]
+fn return_addresses_in_frames(rt: HostRuntime) -> Result<(), Fail> {
+    let low = sums(rt.alloc())?;
+    let words = words(rt.alloc(), &low, 11, 1024)?;
+    assert_eq!(rt; times(words.as_slice(), 0x00112023), 6);
+    assert_eq!(rt; times(words.as_slice(), 0x00012083), 6);
+    Ok(())
+}
+
 #[test]
 fn a_list_needs_11_cells(rt: HostRuntime) -> Result<(), Fail> {
     let low = sums(rt.alloc())?;

@@ -5,6 +5,8 @@
 #[cfg(test)]
 mod composed;
 #[cfg(test)]
+mod last_rows;
+#[cfg(test)]
 mod listings;
 #[cfg(test)]
 mod tests;

@@ -12,4 +12,4 @@ loop-block-preserved c = flat_next (λ b. flat_map site_in (block_words b)) _ _ 
 pub returns : goal.returns
 returns c =
     flat_done (λ b. flat_map site_in (block_words b)) _ _ _ _ c.loop-block-test.false c.loop-block.invariant
-    ∙ ap (λ l. c.args.out.now ++ l) (sym (flat_flat site_in block_words c.blocks-block-items.result.now) ∙ ap (flat_map site_in) c.blocks-block-items.ensures)
+    ∙ ap (λ l. c.args.out.now ++ l) (sym (flat_flat site_in block_words c.args.blocks.now))

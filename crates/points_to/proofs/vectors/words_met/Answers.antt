@@ -1,20 +1,17 @@
-use Rattle.std.proofs.Common.{◌≡◌, ℕ, [], ◌++◌, List, map, sym, ap, ◌∙◌, subst}
+use Rattle.std.proofs.Common.{◌≡◌, ℕ, ◌++◌, List, sym, ap, ◌∙◌, subst}
 use Rattle.std.specs.List.{flat_map}
-use Rattle.flow_system.specs.declared.fact.Element.{Element}
 use Rattle.flow_system.specs.declared.fact.Part.TheVariants.{Word}
 use Rattle.flow_system.specs.Shown.{tables_of, inclusions_of}
-use Rattle.points_to.specs.Bits.{word_of, block_numbers, block_words}
+use Rattle.points_to.specs.Bits.{block_words}
 use Rattle.points_to.specs.declared.facts.Item.{Item}
 use Rattle.points_to.specs.Held.{item, in_part}
 use Rattle.points_to.specs.Known.{held}
-use Rattle.points_to.specs.Rows.{words_in, GetsAll, SameMembers}
+use Rattle.points_to.specs.Rows.{words_in, numbers_in, SameMembers}
 use Rattle.points_to.specs.Stored.{values_in}
 use Rattle.points_to.specs.ValueWords.{words_of_values}
 use Rattle.points_to.proofs.BlockSets.{same_map}
 use Rattle.points_to.proofs.FromRuns.{map_flat}
-use Rattle.points_to.proofs.Gets.{gets_from_none}
 use Rattle.points_to.proofs.Loops.{flat_next, flat_done}
-use Rattle.points_to.proofs.Rows.{words_are}
 use Rattle.points_to.proofs.vectors.words_met.Goals as goal
 
 -- the words of a block, as items
@@ -27,14 +24,9 @@ loop-block-preserved c = flat_next at _ _ _ _ _ _ c.loop-block-test.true c.loop-
 pub returns : goal.returns
 returns c =
     let blocks = c.as_slice-block-items.result.now in
-    let set = c.put_into.new.set in
-    let of : List (ℕ × ℕ) → List Element = λ bs. words_of_values (tables_of c.args.system.now) (values_in (inclusions_of c.args.system.now)) (held c.args.kept.now.facts) c.args.i (flat_map block_numbers bs) in
-    let given = c.as_slice-values.result.now in
-    let asked = of c.args.numbers.now.blocks.items in
-    let words : c.words_of_values.new.out ≡ asked = c.in_ok-words_of_values.ensures ∙ ap (λ l. l ++ of given) c.new-words.ensures ∙ ap of c.as_slice-values.ensures.value in
-    let none : words_in c.new-found.result ≡ [] = words_are c.new-found.result.blocks.items ∙ ap (map word_of) c.new-found.ensures in
-    let same : SameMembers (words_in set) asked = gets_from_none (words_in set) asked (subst (λ l. GetsAll l (words_in set) asked) none (subst (GetsAll (words_in c.new-found.result) (words_in set)) words c.in_ok-put_into.ensures)) in
+    let set = c.in_ok-found.found in
+    let asked = words_of_values (tables_of c.args.system.now) (values_in (inclusions_of c.args.system.now)) (held c.args.kept.now.facts) c.args.i (numbers_in c.args.numbers.now) in
     let items : c.loop-block.items ≡ in_part (Word 0) (words_in set) =
     flat_done at _ _ _ _ c.loop-block-test.false c.loop-block.invariant ∙ ap (λ l. l ++ flat_map at blocks) c.new-items.ensures
     ∙ sym (map_flat (item (Word 0)) block_words blocks) ∙ ap (λ bs. in_part (Word 0) (flat_map block_words bs)) c.as_slice-block-items.ensures.value in
-    subst (λ l. SameMembers l (in_part (Word 0) asked)) (sym items) (same_map (item (Word 0)) (words_in set) asked same)
+    subst (λ l. SameMembers l (in_part (Word 0) asked)) (sym items) (same_map (item (Word 0)) (words_in set) asked c.in_ok-found.ensures)

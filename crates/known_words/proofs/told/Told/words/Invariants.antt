@@ -1,8 +1,8 @@
 use Rattle.std.proofs.Common.{◌≡◌, take}
-use Rattle.points_to.specs.Found.{found}
+use Rattle.known_words.specs.Telling.{telling}
 use Rattle.case_simplify.specs.Known.{facts_of}
 use Rattle.known_words.specs.Told.{known_words}
 use Rattle.known_words.proofs.told.Told.words.Given as goal
 
 abbrev pub invariant-words : goal.invariant-words
-invariant-words l = l.made ≡ known_words l.self.count (found l.self.flow.now) (facts_of l.facts) (take l.word-index l.words)
+invariant-words l = l.made ≡ known_words l.self.count (telling l.self) (facts_of l.facts) (take l.word-index l.words)

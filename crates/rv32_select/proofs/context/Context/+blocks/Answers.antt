@@ -10,7 +10,7 @@ use Rattle.rv32_select.specs.Decides.{decides, tested}
 use Rattle.rv32_select.specs.Writable.{ArmsPlaced}
 use Rattle.seq.specs.Lists.{sum_of}
 use Rattle.rv32_select.proofs.Sending.{targets_of}
-use Rattle.rv32_select.proofs.Emitted.{arm_placed, arm_at_placed, first_last_placed, first_last_made, arm_added, single, both_true, last_chosen, order_chosen, stmt_placed, last_placed, otherwise_placed, called_there, chosen_placed, joined_placed, on_ok, arms_made, put_done, first_placed, choice_is, within_none, within_more, decided_placed, decided_made, decided_first_made, decided_last_made, decided_first_chosen, decided_last_chosen, not_decided, choice_none, block_made, join_done}
+use Rattle.rv32_select.proofs.Emitted.{arm_placed, arm_at_placed, first_last_placed, first_last_made, arm_added, single, both_true, last_chosen, order_chosen, stmt_placed, last_placed, otherwise_placed, called_there, chosen_placed, joined_placed, on_ok, arms_made, put_done, get_done, first_placed, choice_is, within_none, within_more, decided_placed, decided_made, decided_first_made, decided_last_made, decided_first_chosen, decided_last_chosen, not_decided, choice_none, block_made, join_done}
 use Rattle.rv32_select.proofs.Weight.{stmt_lighter, last_lighter, join_lighter, choice_lighter, arm_lighter, arm_block_lighter, first_lighter, arm_weight, block_weight}
 use Rattle.rv32_select.proofs.context.Context.+blocks.Goals as goal
 
@@ -22,20 +22,20 @@ arm-block-requires t c =
 pub block-stmt-requires : goal.block-stmt-requires
 block-stmt-requires t c =
     let w = stmt_lighter c.args.block.now _ _ _ c.as_slice-stmt-items.ensures c.loop-stmt-test.true c.stmt-item.is in
-    (omega (arith, w), (c.requires.writable, (c.requires.frame, stmt_placed _ _ _ _ _ _ c.args.block.now _ _ _ _ _ _ _ c.stmt-item.result c.as_slice-stmt-items.ensures c.loop-stmt-test.true c.stmt-item.is c.loop-stmt.invariant c.requires.placed)))
+    (omega (arith, w), (c.requires.writable, (c.requires.frame, stmt_placed _ _ _ _ _ _ _ c.args.block.now _ _ _ _ _ _ _ c.stmt-item.result c.as_slice-stmt-items.ensures c.loop-stmt-test.true c.stmt-item.is c.loop-stmt.invariant c.requires.placed)))
 
 pub block-end-requires : goal.block-end-requires
 block-end-requires t c =
     let w = last_lighter c.args.block.now in
-    (omega (arith, w), (c.requires.writable, (c.requires.frame, (c.requires.targets, last_placed _ _ _ _ _ _ c.args.block.now _ _ _ _ _ _ _ c.as_slice-stmt-items.ensures c.loop-stmt-test.false c.loop-stmt.invariant c.requires.placed))))
+    (omega (arith, w), (c.requires.writable, (c.requires.frame, (c.requires.targets, last_placed _ _ _ _ _ _ _ c.args.block.now _ _ _ _ _ _ _ c.as_slice-stmt-items.ensures c.loop-stmt-test.false c.loop-stmt.invariant c.requires.placed))))
 
 pub arms-block-requires : goal.arms-block-requires
-arms-block-requires t c = (omega arith, (c.requires.writable, (c.requires.frame, (c.requires.targets, otherwise_placed _ _ _ _ _ _ _ _ _ _ _ _ _ _ _ c.loop-arm-test.false c.loop-arm.invariant c.requires.placed))))
+arms-block-requires t c = (omega arith, (c.requires.writable, (c.requires.frame, (c.requires.targets, otherwise_placed _ _ _ _ _ _ _ _ _ _ _ _ _ _ _ _ c.loop-arm-test.false c.loop-arm.invariant c.requires.placed))))
 
 pub arms-arm-requires : goal.arms-arm-requires
 arms-arm-requires t c =
     let w = arm_lighter c.args.arms.now c.loop-arm.arm-index c.arm-item.result c.loop-arm-test.true c.arm-item.is in
-    (omega (arith, w), (c.requires.writable, (c.requires.frame, (c.requires.targets, arm_at_placed _ _ _ _ _ _ _ _ _ _ _ _ _ _ _ c.arm-item.result c.loop-arm-test.true c.arm-item.is c.loop-arm.invariant c.requires.placed))))
+    (omega (arith, w), (c.requires.writable, (c.requires.frame, (c.requires.targets, arm_at_placed _ _ _ _ _ _ _ _ _ _ _ _ _ _ _ _ c.arm-item.result c.loop-arm-test.true c.arm-item.is c.loop-arm.invariant c.requires.placed))))
 
 pub first_last-source-requires : goal.first_last-source-requires
 first_last-source-requires t c = (c.requires.writable.0, (first_last_placed (program_of c.args.self.now.low.now) c.args.self.now.places.now c.args.first.now c.args.test c.args.arms.now (code_of c.args.otherwise.now) c.requires.test c.requires.placed).0)
@@ -67,18 +67,18 @@ stmt-join-requires t c =
     (omega (arith, w), (c.requires.writable, (c.requires.frame, joined_placed (program_of c.args.self.now.low.now) c.args.self.now.places.now c.args.stmt.now _ _ _ _ c.in-Join.is c.as_slice-in-Join.ensures c.deref.ensures c.requires.placed)))
 
 pub block-returns : goal.block-returns
-block-returns t c = block_made _ _ _ _ _ _ c.args.block.now _ _ _ _ _ _ _ _ _ _ _ c.as_slice-stmt-items.ensures c.loop-stmt-test.false c.loop-stmt.invariant c.in_ok-end.ensures
+block-returns t c = block_made _ _ _ _ _ _ _ c.args.block.now _ _ _ _ _ _ _ _ _ _ _ c.as_slice-stmt-items.ensures c.loop-stmt-test.false c.loop-stmt.invariant c.in_ok-end.ensures
 
 pub stmt-returns-in-Join : goal.stmt-returns-in-Join
 stmt-returns-in-Join t c =
-    join_done (program_of c.args.self.now.low.now) c.args.self.now.places.now c.args.self.now.cells c.args.self.now.stack c.args.frame.words c.args.frame.saved c.args.stmt.now _ _ _ _ _ _ _ _ c.join.result c.in-Join.is c.as_slice-in-Join.ensures c.deref.ensures c.join.ensures
+    join_done (program_of c.args.self.now.low.now) c.args.self.now.places.now c.args.self.now.cells c.args.self.now.stack c.args.frame.words c.args.frame.saved c.args.frame.framed c.args.stmt.now _ _ _ _ _ _ _ _ c.join.result c.in-Join.is c.as_slice-in-Join.ensures c.deref.ensures c.join.ensures
 
 pub arms-loop-arm-preserved : goal.arms-loop-arm-preserved
-arms-loop-arm-preserved t c = arm_added _ _ _ _ _ _ _ _ _ c.args.arms.now c.loop-arm.arm-index c.arm-item.result _ _ _ _ _ _ c.loop-arm-test.true c.arm-item.is c.loop-arm.invariant c.in_ok-arm.ensures
+arms-loop-arm-preserved t c = arm_added _ _ _ _ _ _ _ _ _ _ c.args.arms.now c.loop-arm.arm-index c.arm-item.result _ _ _ _ _ _ c.loop-arm-test.true c.arm-item.is c.loop-arm.invariant c.in_ok-arm.ensures
 
 pub first_last-returns : goal.first_last-returns
 first_last-returns t c =
-    first_last_made (program_of c.args.self.now.low.now) c.args.self.now.places.now c.args.self.now.cells c.args.self.now.stack c.args.frame.words c.args.frame.saved c.args.to.now c.args.way c.further.result c.args.first.now c.args.test c.args.arms.now (code_of c.args.otherwise.now) _ _ _ _ _ _ _ _ _ _ c.requires.test c.in_ok-label.ensures.0 c.in_ok-label.ensures.1 c.further.ensures
+    first_last_made (program_of c.args.self.now.low.now) c.args.self.now.places.now c.args.self.now.cells c.args.self.now.stack c.args.frame.words c.args.frame.saved c.args.frame.framed c.args.to.now c.args.way c.further.result c.args.first.now c.args.test c.args.arms.now (code_of c.args.otherwise.now) _ _ _ _ _ _ _ _ _ _ c.requires.test c.in_ok-label.ensures.0 c.in_ok-label.ensures.1 c.further.ensures
     (c.in_ok-match_to.ensures ∙ (λ i. c.in_ok-label.ensures.2 i ++ match_items c.in_ok-label.label (c.source.ensures.0 i) c.args.test.right)) c.in_ok-arms.ensures c.in_ok-put.ensures c.in_ok-block.ensures
 
 pub choose-first_last-requires : goal.choose-first_last-requires
@@ -90,19 +90,19 @@ choose-first_last-requires t c =
 
 pub choose-returns-then-stands_last : goal.choose-returns-then-stands_last
 choose-returns-then-stands_last t c =
-    last_chosen (program_of c.args.self.now.low.now) c.args.self.now.places.now c.args.self.now.cells c.args.self.now.stack c.args.frame.words c.args.frame.saved c.args.to.now c.args.way c.args.arms.now c.in-Some.others.now c.in-Some.first.now (code_of c.args.otherwise.now) c.stands_last.result _ _ _ _ c.in-Some.ensures.cases.0 c.stands_last.ensures c.if-stands_last.true c.in_ok-first_last-in-Some.ensures
+    last_chosen (program_of c.args.self.now.low.now) c.args.self.now.places.now c.args.self.now.cells c.args.self.now.stack c.args.frame.words c.args.frame.saved c.args.frame.framed c.args.to.now c.args.way c.args.arms.now c.in-Some.others.now c.in-Some.first.now (code_of c.args.otherwise.now) c.stands_last.result _ _ _ _ c.in-Some.ensures.cases.0 c.stands_last.ensures c.if-stands_last.true c.in_ok-first_last-in-Some.ensures
 
 pub choose-returns-in_ok-arms-in-Some : goal.choose-returns-in_ok-arms-in-Some
 choose-returns-in_ok-arms-in-Some t c =
-    order_chosen (program_of c.args.self.now.low.now) c.args.self.now.places.now c.args.self.now.cells c.args.self.now.stack c.args.frame.words c.args.frame.saved c.args.to.now c.args.way c.args.arms.now c.in-Some.others.now c.in-Some.first.now (code_of c.args.otherwise.now) c.stands_last.result _ _ _ _ c.in-Some.ensures.cases.0 c.stands_last.ensures c.if-stands_last.false c.in_ok-arms-in-Some.ensures
+    order_chosen (program_of c.args.self.now.low.now) c.args.self.now.places.now c.args.self.now.cells c.args.self.now.stack c.args.frame.words c.args.frame.saved c.args.frame.framed c.args.to.now c.args.way c.args.arms.now c.in-Some.others.now c.in-Some.first.now (code_of c.args.otherwise.now) c.stands_last.result _ _ _ _ c.in-Some.ensures.cases.0 c.stands_last.ensures c.if-stands_last.false c.in_ok-arms-in-Some.ensures
 
 pub block-loop-stmt-init : goal.block-loop-stmt-init
-block-loop-stmt-init t c = within_none _ _ _ _ _ _ c.as_slice-stmt-items.result.now _ _ _ _ (c.len-left.ensures ∙ ap length (sym c.as_slice-stmt-items.ensures))
+block-loop-stmt-init t c = within_none _ _ _ _ _ _ _ c.as_slice-stmt-items.result.now _ _ _ _ (c.len-left.ensures ∙ ap length (sym c.as_slice-stmt-items.ensures))
 
 pub block-loop-stmt-preserved : goal.block-loop-stmt-preserved
 block-loop-stmt-preserved t c =
     let count = c.loop-stmt.invariant.count in
-    within_more _ _ _ _ _ _ c.as_slice-stmt-items.result.now c.loop-stmt.stmt-index c.loop-stmt.left (c.loop-stmt.left - 1) c.stmt-item.result (end_of c.args.block.now.last) _ _ _ _ _ _ _ c.loop-stmt-test.true c.stmt-item.is
+    within_more _ _ _ _ _ _ _ c.as_slice-stmt-items.result.now c.loop-stmt.stmt-index c.loop-stmt.left (c.loop-stmt.left - 1) c.stmt-item.result (end_of c.args.block.now.last) _ _ _ _ _ _ _ c.loop-stmt-test.true c.stmt-item.is
     (let lt = c.loop-stmt-test.true in omega (arith, count, lt)) refl c.in_default.ensures c.loop-stmt.invariant c.in_ok-stmt.ensures
 
 pub block-decided-requires : goal.block-decided-requires
@@ -112,7 +112,7 @@ block-decided-requires t c =
     let so = c.in-Some.ensures in
     let last = so.0 in
     let none : c.loop-stmt.left - 1 ≡ 0 = grind (arith, nat_tests) in
-    let p = decided_placed _ _ _ _ _ _ c.args.block.now _ _ _ (c.loop-stmt.left - 1) c.stmt-item.result c.in-Some.comparison _ _ _ _ c.as_slice-stmt-items.ensures c.loop-stmt-test.true c.stmt-item.is (omega (arith, count, lt)) none so.1.0 c.loop-stmt.invariant c.requires.placed in
+    let p = decided_placed _ _ _ _ _ _ _ c.args.block.now _ _ _ (c.loop-stmt.left - 1) c.stmt-item.result c.in-Some.comparison _ _ _ _ c.as_slice-stmt-items.ensures c.loop-stmt-test.true c.stmt-item.is (omega (arith, count, lt)) none so.1.0 c.loop-stmt.invariant c.requires.placed in
     let w = last_lighter c.args.block.now in
     (omega (arith, w), (c.requires.writable, (c.requires.frame, (c.requires.targets, (p.0, (p.1, so.1.1))))))
 
@@ -123,7 +123,7 @@ block-returns-in-Some t c =
     let so = c.in-Some.ensures in
     let last = so.0 in
     let none : c.loop-stmt.left - 1 ≡ 0 = grind (arith, nat_tests) in
-    decided_made _ _ _ _ _ _ c.args.block.now _ _ _ (c.loop-stmt.left - 1) c.stmt-item.result c.in-Some.comparison _ _ _ _ _ _ _ _ c.as_slice-stmt-items.ensures c.loop-stmt-test.true c.stmt-item.is (omega (arith, count, lt)) none so.1.0 c.loop-stmt.invariant c.in_ok-decided.ensures
+    decided_made _ _ _ _ _ _ _ c.args.block.now _ _ _ (c.loop-stmt.left - 1) c.stmt-item.result c.in-Some.comparison _ _ _ _ _ _ _ _ c.as_slice-stmt-items.ensures c.loop-stmt-test.true c.stmt-item.is (omega (arith, count, lt)) none so.1.0 c.loop-stmt.invariant c.in_ok-decided.ensures
 
 pub decided-decided_arms-requires : goal.decided-decided_arms-requires
 decided-decided_arms-requires t c =
@@ -155,41 +155,46 @@ decided_last-arms-requires t c =
 
 pub decided_first-returns : goal.decided_first-returns
 decided_first-returns t c =
-    decided_first_made (program_of c.args.self.now.low.now) c.args.self.now.places.now c.args.self.now.cells c.args.self.now.stack c.args.frame.words c.args.frame.saved c.args.to.now c.args.way c.further.result c.args.first.now c.args.others.now (code_of c.args.otherwise.now) c.args.comparison.operation (source (program_of c.args.self.now.low.now) c.args.self.now.places.now c.args.comparison.left) (source (program_of c.args.self.now.low.now) c.args.self.now.places.now c.args.comparison.right) c.tested-number.result _ _ _ _ _ _ _ _ _ _ c.in_ok-label.ensures.0 c.in_ok-label.ensures.1 c.further.ensures (c.tested-number.ensures ∙ ap tested c.as_slice.ensures)
+    decided_first_made (program_of c.args.self.now.low.now) c.args.self.now.places.now c.args.self.now.cells c.args.self.now.stack c.args.frame.words c.args.frame.saved c.args.frame.framed c.args.to.now c.args.way c.further.result c.args.first.now c.args.others.now (code_of c.args.otherwise.now) c.args.comparison.operation (source (program_of c.args.self.now.low.now) c.args.self.now.places.now c.args.comparison.left) (source (program_of c.args.self.now.low.now) c.args.self.now.places.now c.args.comparison.right) c.tested-number.result _ _ _ _ _ _ _ _ _ _ c.in_ok-label.ensures.0 c.in_ok-label.ensures.1 c.further.ensures (c.tested-number.ensures ∙ ap tested c.as_slice.ensures)
     (c.in_ok-branch.ensures ∙ (λ i. c.in_ok-label.ensures.2 i ++ branch_items (c.other_condition.ensures i) c.in_ok-label.label (c.source-left.ensures.0 i) (c.source-right.ensures.0 i))) c.in_ok-block.ensures c.in_ok-put.ensures c.in_ok-arms.ensures
 
 pub decided_last-returns : goal.decided_last-returns
 decided_last-returns t c =
-    decided_last_made (program_of c.args.self.now.low.now) c.args.self.now.places.now c.args.self.now.cells c.args.self.now.stack c.args.frame.words c.args.frame.saved c.args.to.now c.args.way c.further.result c.args.first.now c.args.others.now (code_of c.args.otherwise.now) c.args.comparison.operation (source (program_of c.args.self.now.low.now) c.args.self.now.places.now c.args.comparison.left) (source (program_of c.args.self.now.low.now) c.args.self.now.places.now c.args.comparison.right) c.tested-number.result _ _ _ _ _ _ _ _ _ _ c.in_ok-label.ensures.0 c.in_ok-label.ensures.1 c.further.ensures (c.tested-number.ensures ∙ ap tested c.as_slice.ensures)
+    decided_last_made (program_of c.args.self.now.low.now) c.args.self.now.places.now c.args.self.now.cells c.args.self.now.stack c.args.frame.words c.args.frame.saved c.args.frame.framed c.args.to.now c.args.way c.further.result c.args.first.now c.args.others.now (code_of c.args.otherwise.now) c.args.comparison.operation (source (program_of c.args.self.now.low.now) c.args.self.now.places.now c.args.comparison.left) (source (program_of c.args.self.now.low.now) c.args.self.now.places.now c.args.comparison.right) c.tested-number.result _ _ _ _ _ _ _ _ _ _ c.in_ok-label.ensures.0 c.in_ok-label.ensures.1 c.further.ensures (c.tested-number.ensures ∙ ap tested c.as_slice.ensures)
     (c.in_ok-branch.ensures ∙ (λ i. c.in_ok-label.ensures.2 i ++ branch_items (c.condition.ensures i) c.in_ok-label.label (c.source-left.ensures.0 i) (c.source-right.ensures.0 i))) c.in_ok-arms.ensures c.in_ok-put.ensures c.in_ok-block.ensures
 
 pub decided_arms-returns-then-stands_last : goal.decided_arms-returns-then-stands_last
 decided_arms-returns-then-stands_last t c =
-    decided_last_chosen (program_of c.args.self.now.low.now) c.args.self.now.places.now c.args.self.now.cells c.args.self.now.stack c.args.frame.words c.args.frame.saved c.args.to.now c.args.way c.args.first.now c.args.others.now (code_of c.args.otherwise.now) c.args.comparison.operation c.args.comparison.variable c.args.comparison.left c.args.comparison.right _ _ c.stands_last.result _ _ _ _ refl refl c.stands_last.ensures c.if-stands_last.true c.requires.decides c.in_ok-decided_last.ensures
+    decided_last_chosen (program_of c.args.self.now.low.now) c.args.self.now.places.now c.args.self.now.cells c.args.self.now.stack c.args.frame.words c.args.frame.saved c.args.frame.framed c.args.to.now c.args.way c.args.first.now c.args.others.now (code_of c.args.otherwise.now) c.args.comparison.operation c.args.comparison.variable c.args.comparison.left c.args.comparison.right _ _ c.stands_last.result _ _ _ _ refl refl c.stands_last.ensures c.if-stands_last.true c.requires.decides c.in_ok-decided_last.ensures
 
 pub decided_arms-returns : goal.decided_arms-returns
 decided_arms-returns t c =
-    decided_first_chosen (program_of c.args.self.now.low.now) c.args.self.now.places.now c.args.self.now.cells c.args.self.now.stack c.args.frame.words c.args.frame.saved c.args.to.now c.args.way c.args.first.now c.args.others.now (code_of c.args.otherwise.now) c.args.comparison.operation c.args.comparison.variable c.args.comparison.left c.args.comparison.right _ _ c.stands_last.result _ _ _ _ refl refl c.stands_last.ensures c.if-stands_last.false c.requires.decides c.in_ok-decided_first.ensures
+    decided_first_chosen (program_of c.args.self.now.low.now) c.args.self.now.places.now c.args.self.now.cells c.args.self.now.stack c.args.frame.words c.args.frame.saved c.args.frame.framed c.args.to.now c.args.way c.args.first.now c.args.others.now (code_of c.args.otherwise.now) c.args.comparison.operation c.args.comparison.variable c.args.comparison.left c.args.comparison.right _ _ c.stands_last.result _ _ _ _ refl refl c.stands_last.ensures c.if-stands_last.false c.requires.decides c.in_ok-decided_first.ensures
 
 pub decided-returns-in-Give : goal.decided-returns-in-Give
-decided-returns-in-Give t c = absurd (not_decided (program_of c.args.self.now.low.now) c.args.self.now.places.now c.args.self.now.cells c.args.self.now.stack c.args.frame.words c.args.frame.saved c.args.comparison.operation c.args.comparison.variable (end_of c.args.end.now) _ refl (ap end_of c.in-Give.is ∙ end_of-Give _) c.requires.decides)
+decided-returns-in-Give t c = absurd (not_decided (program_of c.args.self.now.low.now) c.args.self.now.places.now c.args.self.now.cells c.args.self.now.stack c.args.frame.words c.args.frame.saved c.args.frame.framed c.args.comparison.operation c.args.comparison.variable (end_of c.args.end.now) _ refl (ap end_of c.in-Give.is ∙ end_of-Give _) c.requires.decides)
 
 pub decided-returns-in-Tail : goal.decided-returns-in-Tail
-decided-returns-in-Tail t c = absurd (not_decided (program_of c.args.self.now.low.now) c.args.self.now.places.now c.args.self.now.cells c.args.self.now.stack c.args.frame.words c.args.frame.saved c.args.comparison.operation c.args.comparison.variable (end_of c.args.end.now) _ refl (ap end_of c.in-Tail.is ∙ end_of-Tail _ _ _) c.requires.decides)
+decided-returns-in-Tail t c = absurd (not_decided (program_of c.args.self.now.low.now) c.args.self.now.places.now c.args.self.now.cells c.args.self.now.stack c.args.frame.words c.args.frame.saved c.args.frame.framed c.args.comparison.operation c.args.comparison.variable (end_of c.args.end.now) _ refl (ap end_of c.in-Tail.is ∙ end_of-Tail _ _ _) c.requires.decides)
 
 pub decided-returns-in-Fail : goal.decided-returns-in-Fail
-decided-returns-in-Fail t c = absurd (not_decided (program_of c.args.self.now.low.now) c.args.self.now.places.now c.args.self.now.cells c.args.self.now.stack c.args.frame.words c.args.frame.saved c.args.comparison.operation c.args.comparison.variable (end_of c.args.end.now) _ refl (ap end_of c.in-Fail.is ∙ end_of-Fail) c.requires.decides)
+decided-returns-in-Fail t c = absurd (not_decided (program_of c.args.self.now.low.now) c.args.self.now.places.now c.args.self.now.cells c.args.self.now.stack c.args.frame.words c.args.frame.saved c.args.frame.framed c.args.comparison.operation c.args.comparison.variable (end_of c.args.end.now) _ refl (ap end_of c.in-Fail.is ∙ end_of-Fail) c.requires.decides)
 
 pub decided-returns-in-None : goal.decided-returns-in-None
-decided-returns-in-None t c = absurd (not_decided (program_of c.args.self.now.low.now) c.args.self.now.places.now c.args.self.now.cells c.args.self.now.stack c.args.frame.words c.args.frame.saved c.args.comparison.operation c.args.comparison.variable (end_of c.args.end.now) _ refl (choice_none c.args.end.now _ _ _ c.in-Choose.is c.as_slice.ensures c.in-None.ensures.cases) c.requires.decides)
+decided-returns-in-None t c = absurd (not_decided (program_of c.args.self.now.low.now) c.args.self.now.places.now c.args.self.now.cells c.args.self.now.stack c.args.frame.words c.args.frame.saved c.args.frame.framed c.args.comparison.operation c.args.comparison.variable (end_of c.args.end.now) _ refl (choice_none c.args.end.now _ _ _ c.in-Choose.is c.as_slice.ensures c.in-None.ensures.cases) c.requires.decides)
 
 pub decided-returns-in_ok-decided_arms-in-Some : goal.decided-returns-in_ok-decided_arms-in-Some
 decided-returns-in_ok-decided_arms-in-Some t c =
     let same = choice_is c.args.end.now _ _ _ _ _ _ c.in-Choose.is c.as_slice.ensures c.deref.ensures c.in-Some.ensures.cases.0 in
-    subst (λ e. Emitted (program_of c.args.self.now.low.now) c.args.self.now.places.now c.args.self.now.cells c.args.self.now.stack c.args.frame.words c.args.frame.saved c.args.to.now c.args.way (prim c.args.comparison.operation c.args.comparison.variable c.args.comparison.left c.args.comparison.right e) c.args.out.now.code c.args.out.now.next c.decided_arms.new.out.code c.decided_arms.new.out.next) (sym same) c.in_ok-decided_arms-in-Some.ensures
+    subst (λ e. Emitted (program_of c.args.self.now.low.now) c.args.self.now.places.now c.args.self.now.cells c.args.self.now.stack c.args.frame.words c.args.frame.saved c.args.frame.framed c.args.to.now c.args.way (prim c.args.comparison.operation c.args.comparison.variable c.args.comparison.left c.args.comparison.right e) c.args.out.now.code c.args.out.now.next c.decided_arms.new.out.code c.decided_arms.new.out.next) (sym same) c.in_ok-decided_arms-in-Some.ensures
 
 pub arms-returns : goal.arms-returns
-arms-returns t c = on_ok c.block.result _ _ (λ e. arms_made _ _ _ _ _ _ c.args.to.now c.args.way _ (code_of c.args.otherwise.now) c.args.arms.now c.loop-arm.arm-index _ _ _ _ _ _ c.loop-arm-test.false c.loop-arm.invariant e) c.block.ensures
+arms-returns t c = on_ok c.block.result _ _ (λ e. arms_made _ _ _ _ _ _ _ c.args.to.now c.args.way _ (code_of c.args.otherwise.now) c.args.arms.now c.loop-arm.arm-index _ _ _ _ _ _ c.loop-arm-test.false c.loop-arm.invariant e) c.block.ensures
 
-pub stmt-returns-in-Put : goal.stmt-returns-in-Put
-stmt-returns-in-Put t c = on_ok c.put_byte.result _ _ (λ is. put_done _ _ _ _ _ _ c.args.stmt.now _ _ _ _ _ _ c.in-Put.is c.source-word-in-Put.ensures c.heap_end.ensures is) c.put_byte.ensures
+pub stmt-returns-in_ok-put_byte-in-Put : goal.stmt-returns-in_ok-put_byte-in-Put
+stmt-returns-in_ok-put_byte-in-Put t c =
+    on_ok c.link_back.result _ _ (λ three. put_done _ _ _ _ _ _ _ c.args.stmt.now _ _ _ _ _ _ _ _ c.in-Put.is c.source-word-in-Put.ensures c.heap_end.ensures c.in_ok-link_aside-in-Put.ensures c.in_ok-put_byte-in-Put.ensures three) c.link_back.ensures
+
+pub stmt-returns-in_ok-get_byte-in-Get : goal.stmt-returns-in_ok-get_byte-in-Get
+stmt-returns-in_ok-get_byte-in-Get t c =
+    on_ok c.link_back-in-Get.result _ _ (λ three. get_done _ _ _ _ _ _ _ c.args.stmt.now _ _ _ _ _ _ _ _ c.in-Get.is c.place-in-Get.ensures c.heap_end-in-Get.ensures c.in_ok-link_aside-in-Get.ensures c.in_ok-get_byte-in-Get.ensures three) c.link_back-in-Get.ensures

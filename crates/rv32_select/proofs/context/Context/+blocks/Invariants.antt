@@ -6,10 +6,10 @@ use Rattle.rv32_select.proofs.context.Context.+blocks.Given as goal
 use Rattle.seq.specs.Lists.{sum_of}
 
 abbrev pub invariant-block-loop-stmt : goal.invariant-block-loop-stmt
-invariant-block-loop-stmt l = Within (program_of l.self.low.now) l.self.places.now l.self.cells l.self.stack l.frame.words l.frame.saved l.stmt-items l.stmt-index l.left (end_of l.block.last) l.initial.out.code l.initial.out.next l.out.code l.out.next
+invariant-block-loop-stmt l = Within (program_of l.self.low.now) l.self.places.now l.self.cells l.self.stack l.frame.words l.frame.saved l.frame.framed l.stmt-items l.stmt-index l.left (end_of l.block.last) l.initial.out.code l.initial.out.next l.out.code l.out.next
 
 abbrev pub invariant-arms-loop-arm : goal.invariant-arms-loop-arm
-invariant-arms-loop-arm l = TowardsArms (program_of l.self.low.now) l.self.places.now l.self.cells l.self.stack l.frame.words l.frame.saved l.to l.way (arms_before (map arm_of l.arms)) (arms_before (map arm_of (drop l.arm-index l.arms))) l.initial.out.code l.initial.out.next l.out.code l.out.next
+invariant-arms-loop-arm l = TowardsArms (program_of l.self.low.now) l.self.places.now l.self.cells l.self.stack l.frame.words l.frame.saved l.frame.framed l.to l.way (arms_before (map arm_of l.arms)) (arms_before (map arm_of (drop l.arm-index l.arms))) l.initial.out.code l.initial.out.next l.out.code l.out.next
 
 abbrev pub decreases-block : goal.decreases-block
 decreases-block l = block_weight l.block.now

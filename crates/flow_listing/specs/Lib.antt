@@ -1,0 +1,5 @@
+pub mod Ascending
+pub mod Binders
+pub mod FirstNames
+pub mod Laws
+pub mod Text

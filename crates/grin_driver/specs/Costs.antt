@@ -1,0 +1,160 @@
+-- What a run cost: the instructions that were done, and the cells that were bound.
+use Rattle.std.specs.Prelude.{◌≡◌, ℕ, ◌-◌, ◌/◌, min, ◌⊎◌, ◌≤◌, Bool, true, false, ◌&&◌, if◌then◌else◌, List, [], ◌++◌, codes, decimal, Option, Some, None}
+use Rattle.elf32.specs.Image.{Image}
+use Rattle.elf32.specs.Rules.{Loads}
+use Rattle.command_line.specs.Commands.{CommandLine, RunFile, ExecImage}
+use Rattle.grin_io.specs.Causes.{Rose}
+use Rattle.grin_io.specs.Changes.{Told, ShelfChange, SourceChange, SinkChange, of_sink, BeginsWith}
+use Rattle.rv32_machine.specs.Steps.{State, reg, start_of}
+use Rattle.rv32_machine.specs.Runs.{End, Going, Exited as exited, Stopped, run, IsCount}
+use Rattle.rv32_machine.specs.declared.machine.Stop.{Stop}
+use Rattle.text_commands.specs.declared.status.Status.{Status}
+use Rattle.text_commands.specs.declared.status.Status.TheVariants.{Done, NoAlternative, HeapFull, StackFull, StepLimit, Exited, Trapped}
+use Rattle.text_commands.specs.Operands.{OfFile, most_of_text}
+use Rattle.text_commands.specs.Telling.{IsOnePut, IsTold}
+use Rattle.grin_compile.specs.Limits.{heap_bytes}
+use Rattle.grin_driver.specs.Execution.{OfGiven, Stops, status_of}
+use Rattle.grin_driver.specs.Outcome.{Runs}
+use Rattle.grin_driver.specs.Answer.{most_of_image}
+use Rattle.grin_driver.specs.declared.cost.Counts.{Counts}
+use Rattle.grin_driver.specs.declared.cost.Cost.{Cost}
+
+-- the run came to its end, or all its steps are done
+abbrev pub has_stopped : Status → Bool
+has_stopped Done = true
+has_stopped NoAlternative = true
+has_stopped HeapFull = true
+has_stopped StackFull = true
+has_stopped StepLimit = true
+has_stopped (Exited code) = true
+has_stopped (Trapped kind pc) = true
+has_stopped _ = false
+
+-- ---- what is counted of a run
+
+-- the state in which a run stands
+abbrev pub state_at : End → State
+state_at (Going s) = s
+state_at (exited code s) = s
+state_at (Stopped kind s) = s
+
+-- On whatever input begins with the bytes that were given, so many instructions of the program's run
+-- are done, and at its end x3 is this.
+pub record AreCounts (program : Image) (steps : ℕ) (given : List ℕ) (ended : Bool)
+    (instructions next_cell : ℕ) : Type 0 where
+  pub done : (bytes : List ℕ) → BeginsWith given ended bytes
+      → IsCount instructions steps bytes (start_of program)
+  pub x3 : (bytes : List ℕ) → BeginsWith given ended bytes
+      → reg (state_at (run steps bytes (start_of program)).end) 3 ≡ next_cell
+
+-- the cells that stand before an address; where the heap is full, x3 may be past its end
+abbrev pub cells_before : (cell_bytes cells next_cell : ℕ) → ℕ
+cells_before cell_bytes cells next_cell = min ((next_cell - 0x50000000) / cell_bytes) cells
+
+-- the cost of a run whose image has so many bytes in a cell, and so many cells
+abbrev pub run_cost : (cell_bytes cells : ℕ) → Counts → Cost
+run_cost cell_bytes cells c = record {
+  instructions = c.instructions;
+  cells = Some (cells_before cell_bytes cells c.next_cell);
+}
+
+-- the cost of an executable, of whose cells nothing is known
+abbrev pub exec_cost : Counts → Cost
+exec_cost c = record { instructions = c.instructions; cells = None }
+
+-- ---- a run from a source to a sink
+
+module _ {I K : Type 0} (i : SourceChange I) (o : SinkChange K) where
+  -- the run of a program stopped as the status says, and has these counts
+  abbrev pub StopsWithin : (program : Image) → (steps : ℕ) → Status → Counts → Type 0
+  StopsWithin program steps status c =
+      (stop : Stop) × (status_of stop ≡ status)
+      × OfGiven i o (λ given ended. Stops i o program steps stop given ended
+      × AreCounts program steps given ended c.instructions c.next_cell)
+
+  -- there are counts just where the run of a program stopped
+  abbrev pub CountsRun : (program : Image) → (steps : ℕ) → Status → Option Counts → Type 0
+  CountsRun program steps status None = has_stopped status ≡ false
+  CountsRun program steps status (Some c) = StopsWithin program steps status c
+
+  -- the counts of the program of a file
+  abbrev pub Counted : (bytes : List ℕ) → (steps : ℕ) → Status → Counts → Type 0
+  Counted bytes steps status c =
+      (program : Image) × Loads bytes program × StopsWithin program steps status c
+
+  abbrev pub CountsExecution : (bytes : List ℕ) → (steps : ℕ) → Status → Option Counts → Type 0
+  CountsExecution bytes steps status None = has_stopped status ≡ false
+  CountsExecution bytes steps status (Some c) = Counted bytes steps status c
+
+  -- what the run of the program of a file cost
+  abbrev pub CostsExecution : (bytes : List ℕ) → (steps : ℕ) → Status → Cost → Type 0
+  CostsExecution bytes steps status cost =
+      (c : Counts) × (cost ≡ exec_cost c) × Counted bytes steps status c
+
+  -- what the run of a text cost, which is the one that the status speaks of
+  pub record CostsRun (text : List ℕ) (cells stack steps : ℕ) (status : Status) (cost : Cost)
+      : Type 0 where
+    pub runs : Runs i o text cells stack steps status
+    pub counts : Counts
+    pub are : AreCounts runs.image steps runs.given runs.ended counts.instructions counts.next_cell
+    pub cost_is : cost ≡ run_cost (heap_bytes runs.from.made.g 1) cells counts
+
+  -- there is a cost just where the run of a text stopped
+  abbrev pub CostsText : (text : List ℕ) → (cells stack steps : ℕ) → Status → Option Cost → Type 0
+  CostsText text cells stack steps status None = has_stopped status ≡ false
+  CostsText text cells stack steps status (Some cost) =
+      (has_stopped status ≡ true) × CostsRun text cells stack steps status cost
+
+-- ---- commands
+
+-- a cost is asked for
+abbrev pub asks_cost : Option CommandLine → Bool
+asks_cost (Some (RunFile file cells stack steps stats)) = stats
+asks_cost (Some (ExecImage image steps stats)) = stats
+asks_cost _ = false
+
+module _ {F I K : Type 0} (f : ShelfChange F) (i : SourceChange I) (o : SinkChange K) where
+  -- there is a cost just where the run of the bytes of a file stopped
+  abbrev pub OfRun : (most : ℕ) → (file : List ℕ) → (Costs : List ℕ → Status → Cost → Type 0)
+      → Status → Option Cost → Type 0
+  OfRun most file Costs status None = has_stopped status ≡ false
+  OfRun most file Costs status (Some cost) =
+      (has_stopped status ≡ true) × OfFile f most file (λ bytes. Costs bytes status cost)
+
+  -- There is a cost just where one is asked for and the run stopped, and it is that of this run.
+  abbrev pub CostOf : Option CommandLine → Status → Option Cost → Type 0
+  CostOf command status None = (asks_cost command && has_stopped status) ≡ false
+  CostOf (Some (RunFile file cells stack steps stats)) status (Some cost) =
+      (stats ≡ true) × OfRun most_of_text file
+      (λ text status cost. CostsRun i o text cells stack steps status cost) status (Some cost)
+  CostOf (Some (ExecImage image steps stats)) status (Some cost) =
+      (stats ≡ true) × OfRun most_of_image image
+      (λ bytes status cost. CostsExecution i o bytes steps status cost) status (Some cost)
+  CostOf _ status (Some cost) = ⊥
+
+-- ---- the line
+
+abbrev pub cells_text : Option ℕ → List ℕ
+cells_text None = []
+cells_text (Some cells) = codes " cells " ++ decimal cells
+
+-- the line of a cost
+abbrev pub cost_line : Cost → List ℕ
+cost_line cost =
+    codes "grinc: instructions "
+    ++ (decimal cost.instructions ++ (cells_text cost.cells ++ codes "\n"))
+
+-- The line of a cost is told: by one put, and where the sink's count did not rise it took just the
+-- line.
+pub record IsCostTold {K : Type 0} (o : SinkChange K) (cost : Cost) : Type 0 where
+  pub puts : IsOnePut o (cost_line cost)
+  pub later : o.faults o.old ≤ o.faults o.new
+  pub line : Rose (o.faults o.old) (o.faults o.new)
+      ⊎ Told (o.taken o.old) (λ before. o.taken o.new ≡ Some (before ++ cost_line cost))
+
+-- the line of the status is told, and behind it that of the cost, where there is one
+abbrev pub TellsBoth : {K : Type 0} → SinkChange K → Status → Option Cost → Type 0
+TellsBoth {K} o status None = IsTold o status
+TellsBoth {K} o status (Some cost) =
+    (between : K) × IsTold (of_sink o.gives o.taken o.faults o.old between) status
+    × IsCostTold (of_sink o.gives o.taken o.faults between o.new) cost
