@@ -73,7 +73,7 @@ module _ (taken : VectoriseTakesInlined) (p : core.Program) (valid : IsValid p) 
   own h stage = let from = from_pass p Cells h tt stage in next_one from.g h (known from.g from.stage) from.shape.stays
 
   dead : (h : Program) → IsStage p Dead h → CanBeLowered h
-  dead h stage = let from = from_pass p Dead h tt stage in splitting_one from.g h (own from.g from.stage) from.shape.of_vectors (λ most one narrow. from.shape.narrow most narrow)
+  dead h stage = let from = from_pass p Dead h tt stage in next_one from.g h (own from.g from.stage) from.shape.stays
 
   pub lowerable : (h : Program) → IsStage p Dead h → (size largest : ℕ) → size ≤ 131072 → largest ≤ size → length h.procs ≤ size → length h.globals ≤ 4096
       → Slim size largest h → IsLowerable h

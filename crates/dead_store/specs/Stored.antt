@@ -17,13 +17,11 @@ use Rattle.dead_store.specs.Staying.{AreStaying}
 use Rattle.dead_store.specs.Without.{without}
 use Rattle.dead_store.specs.Kept.{kept}
 
--- h is what the pass makes of g, whatever program this is, by the least solution of the flow system
--- of g: the cells of the sites that stay, and no others
-pub record ByLeast (g h : Program) : Type 0 where
-  pub solution : Solution
-  pub least : IsLeast (tables g) (system g) solution
+-- h is what the pass makes of g by a solution, whatever program this is: the cells of the sites
+-- that stay, and no others
+pub record LeftBy (A : Solution) (g h : Program) : Type 0 where
   pub stays : ℕ → Bool
-  pub decided : AreStaying solution g stays
+  pub decided : AreStaying A g stays
   pub made : h ≡ without stays g
 
 -- at the end of each run of h its cells are, in order, those of the run of g whose site stays; so
@@ -33,17 +31,23 @@ HeapsKept stays g h =
     (i : List ℕ) (n : ℕ)
     → (world_of (run h i n)).cells ≡ kept stays (world_of (run g i n)).cells
 
--- h is what the pass makes of g. So it can be taken where g can, has the tags, the global cells,
--- the start and the names of g, and targets that are no wider; no store has a cell of a site that
--- leaves; it is no larger, and no update loses its literal tag
-pub record Stored (g h : Program) : Type 0 where
+-- h is what the pass makes of g by the solution A. So it can be taken where g can, has the tags,
+-- the global cells, the start and the names of g, and targets that are no wider; no store has a
+-- cell of a site that leaves; it is no larger, and no update loses its literal tag
+pub record StoredBy (A : Solution) (g h : Program) : Type 0 where
   pub of_vectors : OfVectors h
   pub outside : SameOutside g h
   pub narrow : (most : ℕ) → NarrowTargets most g → NarrowTargets most h
   pub by_words : IsFetchedByWords h
   pub no_more_open : open_updates h ≤ open_updates g
-  pub by_least : ByLeast g h
-  pub all_stay : AllOf (λ s. by_least.stays s ≡ true) (procs_sites h.procs)
+  pub left_by : LeftBy A g h
+  pub all_stay : AllOf (λ s. left_by.stays s ≡ true) (procs_sites h.procs)
   pub no_larger : procs_weight h.procs ≤ procs_weight g.procs
   pub slim : (size most : ℕ) → Slim size most g → Slim size most h
-  pub heaps : HeapsKept by_least.stays g h
+  pub heaps : HeapsKept left_by.stays g h
+
+-- the same by the least solution of the flow system of g
+pub record Stored (g h : Program) : Type 0 where
+  pub solution : Solution
+  pub least : IsLeast (tables g) (system g) solution
+  pub stored : StoredBy solution g h

@@ -3,10 +3,15 @@
 
 ghost use Rattle.std.specs.Prelude.{◌≡◌, ℕ, map, IfOk};
 ghost use Rattle.grin_syntax.specs.Tree.{procedure_of, program_of};
+ghost use Rattle.grin_meaning.specs.Keeps.{Keeps};
 ghost use Rattle.grin_meaning.specs.Ready.{IsFetchedByWords};
+ghost use Rattle.flow_system.specs.Tables.{tables};
+ghost use Rattle.flow_system.specs.System.{system};
+ghost use Rattle.flow_system.specs.Solution.{Solves};
+ghost use Rattle.points_to.specs.Found.{found};
 ghost use Rattle.pass_ground.specs.Vectors.{OfVectors};
 ghost use Rattle.dead_store.specs.Holding.{holds};
-ghost use Rattle.dead_store.specs.Stored.{ByLeast, Stored};
+ghost use Rattle.dead_store.specs.Stored.{LeftBy, StoredBy, Stored};
 ghost use Rattle.dead_store.specs.Without.{without, without_procs};
 
 use crate::blocks::Leaving;
@@ -15,6 +20,7 @@ use crate::sites::staying_sites;
 use grin_meaning::Pass;
 use grin_syntax::{Grin, Proc};
 use least_flow::least;
+use points_to::Flow;
 use seq::Seq;
 use std::alloc::{AllocError, Global};
 use std::collections::BTreeSet;
@@ -31,17 +37,29 @@ impl Pass for DeadStores {
     ghost gives = { λ g h. Stored (program_of g) (program_of h) };
 
     fn apply(&self, alloc: Global, g: Grin) -> Result<Grin, AllocError> {
-        let h = without_dead_stores(alloc, g)?;
+        let flow = least(alloc, &g)?;
+        let h = without_dead_stores(alloc, g, &flow)?;
         Ok(h)
     }
 }
 
-/// What the pass makes of any program, whatever its runs do.
-pub fn without_dead_stores(alloc: Global, g: Grin) -> Result<Grin, AllocError>
-    ensures { IfOk result (λ h. ByLeast (program_of g) (program_of h)) }
+/// The same by a solution of the program's flow system that is at hand.
+pub fn without_dead_stores(alloc: Global, g: Grin, flow: &Flow) -> Result<Grin, AllocError>
+    requires of_vectors { OfVectors (program_of g) }
+    requires by_words { IsFetchedByWords (program_of g) }
+    requires solves { Solves (tables (program_of g)) (system (program_of g)) (found flow.now) }
+    ensures shape { IfOk result (λ h. StoredBy (found flow.now) (program_of g) (program_of h)) }
+    ensures meaning { IfOk result (λ h. Keeps (program_of g) (program_of h)) }
 {
-    let flow = least(alloc, &g)?;
-    let sites = staying_sites(alloc, &g, &flow)?;
+    let h = without_unread(alloc, g, flow)?;
+    Ok(h)
+}
+
+// What is made of any program by any solution, whatever its runs do.
+fn without_unread(alloc: Global, g: Grin, flow: &Flow) -> Result<Grin, AllocError>
+    ensures { IfOk result (λ h. LeftBy (found flow.now) (program_of g) (program_of h)) }
+{
+    let sites = staying_sites(alloc, &g, flow)?;
     let h = with_cells_of(alloc, g, &sites)?;
     Ok(h)
 }

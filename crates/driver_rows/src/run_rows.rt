@@ -299,14 +299,6 @@ fn what_a_run_cost(rt: HostRuntime) -> Result<(), Fail> {
             1,
         ),
         (
-            "bad = case 1 of { 2 -> Nil }; main = bad;",
-            "100",
-            3,
-            "",
-            "grinc: no alternative\n",
-            2,
-        ),
-        (
             "go n = case add n 1 of { m -> Cons 46 (go n) }; main = go 1;",
             "12",
             4,
@@ -324,6 +316,57 @@ fn what_a_run_cost(rt: HostRuntime) -> Result<(), Fail> {
         let is_so = outside.answers(rt.alloc(), &words, code, out, err.as_str())?;
         assert!(rt; is_so, "{text}");
     }
+    Ok(())
+}
+
+/// Whether a text that finds no alternative gives this output, and then tells of so many cells, and
+/// that it stood in this procedure.
+fn stood_in(
+    alloc: Global,
+    text: &str,
+    out: &str,
+    cells: u32,
+    name: &str,
+) -> Result<bool, AllocError> {
+    let text = format!(in alloc; "{LISTS}{text}")?;
+    let steps = least_steps(alloc, text.as_bytes(), "100")?;
+    let err = format!(in alloc;
+        "grinc: no alternative\ngrinc: instructions {steps} cells {cells}\ngrinc: no alternative in {name}\n"
+    )?;
+    let words = ["grinc", "run", "a", "--stats", "--heap", "100"];
+    Outside::of(text.as_bytes()).answers(alloc, &words, 3, out, err.as_str())
+}
+
+#[test]
+fn where_no_alternative_was(rt: HostRuntime) -> Result<(), Fail> {
+    let rows = [
+        ("bad = case 1 of { 2 -> Nil }; main = bad;", "", 2, "bad"),
+        // Each of the first two procedures may find none, and the second one does.
+        (
+            "go n = case pick n of { 1 -> Cons 65 (go (add n 1)) }; pick n = case n of { 1 -> 1 }; main = go 1;",
+            "A",
+            6,
+            "pick",
+        ),
+        // A list that doesn't end as one is found in the loop that prints it.
+        ("main = Cons 65 7;", "A", 3, "@print"),
+    ];
+    for (text, out, cells, name) in rows {
+        let is_so = stood_in(rt.alloc(), text, out, cells, name)?;
+        assert!(rt; is_so, "{text}");
+    }
+    Ok(())
+}
+
+/// Of a name of 120 bytes a hundred are shown.
+#[test]
+fn a_long_name_is_cut(rt: HostRuntime) -> Result<(), Fail> {
+    let part = "twenty_bytes_of_name";
+    let shown = format!(in rt.alloc(); "{part}{part}{part}{part}{part}")?;
+    let text = format!(in rt.alloc();
+        "{shown}{part} = case 1 of {{ 2 -> Nil }}; main = {shown}{part};"
+    )?;
+    assert!(rt; stood_in(rt.alloc(), text.as_str(), "", 2, shown.as_str())?);
     Ok(())
 }
 

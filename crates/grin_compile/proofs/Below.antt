@@ -1,8 +1,11 @@
 -- What the layers below a program of GRIN take and give.
-use Rattle.std.proofs.Common.{◌≡◌, ℕ, zero, suc, ◌*◌, ◌≤◌, List, [], ◌∷◌, length, Some, slice_get, ap, subst, arith}
+use Rattle.std.proofs.Common.{◌≡◌, ℕ, zero, suc, ◌+◌, ◌*◌, ◌<◌, ◌≤◌, ◌||◌, Bool, true, false, List, [], ◌∷◌, length, Some, slice_get, nat_eq, inl, inr, refl, sym, ap, ◌∙◌, subst, arith}
+use Rattle.std.specs.List.{range_with_len}
+use Rattle.std.proofs.lemmas.Bool.{cases_eq, eq-eqb}
 use Rattle.std.proofs.lemmas.List.{length-map}
 use Rattle.grin_syntax.specs.Tree as grin
 use Rattle.grin_syntax.specs.Formed.{AllOf}
+use Rattle.grin_syntax.specs.SameOutside.{names_of}
 use Rattle.low_code.specs.Tree as low
 use Rattle.low_code.specs.Formed as low_formed
 use Rattle.low_code.specs.Size.{low_all, calls_of}
@@ -11,7 +14,10 @@ use Rattle.register_alloc.specs.Assignment.{Assignment}
 use Rattle.register_alloc.specs.Fits.{Fits, UsesRegisters}
 use Rattle.register_alloc.specs.Gathered.{HaveFewParameters, HaveFewResults}
 use Rattle.rv32_items.specs.declared.Item.{Item}
-use Rattle.rv32_items.specs.Placed.{size_of, Placed}
+use Rattle.rv32_items.specs.Placed.{size_of, times, Placed}
+use Rattle.rv32_items.specs.Course.{Layout}
+use Rattle.rv32_items.specs.Laws.{addresses_of}
+use Rattle.rv32_steps.specs.Trace.{is_one_of}
 use Rattle.rv32_layout.specs.Places.{AllDecode}
 use Rattle.rv32_select.specs.IsSelected.{IsSelected}
 use Rattle.rv32_select.specs.Laws.{SelectedItemsDo}
@@ -34,6 +40,18 @@ few_parameters g l lowers f q e = all_at (λ q. length q.params ≤ 16) l.procs 
 
 pub few_results : (g : grin.Program) (l : low.Program) → Lowers g l → HaveFewResults l.procs
 few_results g l lowers f q e = all_at (λ q. q.results ≤ 13) l.procs lowers.few_results f q e
+
+-- a number within a range is one of it
+numbered : (from count k : ℕ) → from ≤ k → k < from + count → is_one_of (range_with_len from count) k ≡ true
+numbered from zero k le lt = absurd (omega arith)
+numbered from (suc count) k le lt = elim (cases_eq k from) [
+  | inl e ↦ ap (λ b. b || is_one_of (range_with_len (from + 1) count) k) (eq-eqb k from e)
+  | inr ne ↦ ap (λ b. nat_eq k from || b) (numbered (from + 1) count k (omega arith) (omega arith)) ∙ or_true (nat_eq k from)
+]
+  where
+    or_true : (b : Bool) → (b || true) ≡ true
+    or_true true = refl
+    or_true false = refl
 
 module _ (g : grin.Program) (l : low.Program) (a : Assignment) (cells stack : ℕ) (lowerable : IsLowerable g) (formed : low_formed.Formed l)
     (lowers : Lowers g l) (small : LowersSmall g l) (fits : Fits l a) (sizes : AreSizes cells stack) where
@@ -59,6 +77,10 @@ module _ (g : grin.Program) (l : low.Program) (a : Assignment) (cells stack : �
     pub selects : Selects l a cells stack items
     selects = law l a cells stack items selectable (low_never_missing g l lowers lowerable.ready.never_missing) selected
 
+    -- the label of each procedure stands once
+    pub begins_stand : (f : ℕ) → f < length l.procs → times f items ≡ 1
+    begins_stand f lt = selects.stand f (ap (λ bs. is_one_of bs f) selects.begins_are ∙ numbered 0 (length l.procs) f (omega arith) (omega arith))
+
     pub items_fit : size_of items ≤ 268435456
     items_fit =
         let procs : length l.procs ≤ lowerable.size = omega (arith, lowers.procs, lowerable.few_procs) in
@@ -67,10 +89,17 @@ module _ (g : grin.Program) (l : low.Program) (a : Assignment) (cells stack : �
         few_words (length l.procs) (length l.globals) (low_all l) (calls_of l) lowerable.size (size_of items) (size_of items) lowerable.fits procs few_globals light calls
         (selects.few small.few_tests) (omega arith)
 
+-- the addresses of the first labels are those of the labels of procedures
+pub starts_by : (lay : Layout) (items : List Item) (begins starts : List ℕ) (labels procs : ℕ) → begins ≡ range_with_len 0 procs → labels ≡ procs
+    → starts ≡ addresses_of lay items (range_with_len 0 labels) → starts ≡ addresses_of lay items begins
+starts_by lay items begins starts labels procs are same at =
+    at ∙ ap (λ n. addresses_of lay items (range_with_len 0 n)) same ∙ ap (addresses_of lay items) (sym are)
+
 pub has_layers : (g : grin.Program) (cells stack : ℕ) (m : Layers) (items : List Item) → low_formed.Formed (low.program_of m.low) → Lowers g (low.program_of m.low) → LowersSmall g (low.program_of m.low)
-    → Fits (low.program_of m.low) m.places → Selects (low.program_of m.low) m.places cells stack items → Placed items m.code.items
+    → Fits (low.program_of m.low) m.places → (selects : Selects (low.program_of m.low) m.places cells stack items) → (placed : Placed items m.code.items)
+    → m.starts.items ≡ addresses_of placed.lay items selects.begins → m.names.items ≡ names_of g.procs
     → AllDecode m.code.items → size_of items ≤ 268435456 → UsesRegisters (low.program_of m.low) m.places → HasLayers g cells stack m
-has_layers g cells stack m items formed lowers small fits selects placed decode few uses = record {
+has_layers g cells stack m items formed lowers small fits selects placed starts names decode few uses = record {
   formed = formed;
   items = items;
   made = record { lowers = lowers; small = small; fits = fits; selects = selects; placed = placed };
@@ -78,4 +107,6 @@ has_layers g cells stack m items formed lowers small fits selects placed decode 
   few_words = omega (arith, placed.few, few);
   decode = decode;
   uses = uses;
+  starts = starts;
+  names = names;
 }

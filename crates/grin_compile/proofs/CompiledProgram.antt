@@ -17,7 +17,7 @@ use Rattle.grin_compile.specs.Code.{start_with, IsCodeFor}
 use Rattle.grin_compile.specs.declared.compilation.Compiled.{Compiled}
 use Rattle.grin_compile.specs.Compilation.{later, IsCompilation}
 use Rattle.grin_compile.specs.Limits.{HeapOver, FramesOver, heap_bytes, whole_words, InRange}
-use Rattle.grin_compile.specs.Made.{Made}
+use Rattle.grin_compile.specs.Made.{Made, IsImageOf}
 use Rattle.grin_compile.specs.Parts.{HasStages, lowered_stage, AreSizes, HasLayers}
 use Rattle.grin_compile.specs.Stages.{passes, AreStages}
 use Rattle.grin_compile.proofs.Frames.{few_frame_words}
@@ -52,7 +52,7 @@ fits_layout code width cells stack some few narrow sizes = record {
 }
 
 module _ (does : ValidTranslationDoesAs) (p : core.Program) (valid : IsValid p) (cells stack : ℕ) (c : Compiled) (stages : HasStages p c.stages)
-    (layers : HasLayers (lowered_stage c.stages) cells stack (record { low = c.low; places = c.places; code = c.code }))
+    (layers : HasLayers (lowered_stage c.stages) cells stack (record { low = c.low; places = c.places; code = c.code; starts = c.starts; names = c.names }))
     (is_file : c.image.items ≡ file_of c.code.items (4 * (low.program_of c.low).width * cells) stack)
     (loads : Loads c.image.items (program c.code.items (4 * (low.program_of c.low).width * cells) stack)) where
   abbrev g : grin.Program
@@ -77,15 +77,15 @@ module _ (does : ValidTranslationDoesAs) (p : core.Program) (valid : IsValid p) 
   file_loads = subst (λ h. Loads c.image.items (program code h stack)) heap_is loads
 
   -- the code is code for its low code, from the state in which it starts with a heap of so many bytes, and of so many procedures
-  abbrev IsCodeForLow : (procs heap : ℕ) → Type 0
-  IsCodeForLow procs heap =
+  abbrev IsCodeForLow : (procs heap : ℕ) → List ℕ → Type 0
+  IsCodeForLow procs heap addresses =
       IsCodeFor (HeapOver cells) (FramesOver stack) (of_low l (words_at c.places)) (entered_by_low l (words_at c.places)) procs code (start_with code heap stack) addresses
 
-  frames_for : IsCodeForLow (length g.procs) (heap_bytes g cells)
+  frames_for : IsCodeForLow (length g.procs) (heap_bytes g cells) addresses
   frames_for =
       let never = never_missing does p stages.solution (later c) g l c.places cells stack layers.items code c.image.items valid stages.fits stages.later stages.last layers.made file_is file_loads in
       let carried = low_code_is_carried l c.places cells stack layers.items code never layers.made.selects layers.made.placed layers.few_words in
-      subst (λ n. IsCodeForLow n (heap_bytes g cells)) layers.made.lowers.procs (subst (λ h. IsCodeForLow (length l.procs) h) heap_is carried)
+      subst (λ n. IsCodeForLow n (heap_bytes g cells) addresses) layers.made.lowers.procs (subst (λ h. IsCodeForLow (length l.procs) h addresses) heap_is carried)
 
   pub compilation : IsCompilation p cells stack c
   compilation = record {
@@ -104,9 +104,10 @@ module _ (does : ValidTranslationDoesAs) (p : core.Program) (valid : IsValid p) 
     decode = layers.decode;
     uses = layers.uses;
     small_frames = λ f. omega (arith, few_frame_words _ _ g l c.places stages.last.slim layers.made.small layers.made.fits f);
-    addresses = addresses;
-    image = image does p stages.solution (later c) g l c.places cells stack layers.items code c.image.items valid stages.fits stages.later stages.last layers.made file_is file_loads;
-    within_frames = frames_for;
+    names = layers.names;
+    image = subst (λ as'. IsImageOf p stages.solution g cells stack code as' c.image.items) (sym layers.starts)
+        (image does p stages.solution (later c) g l c.places cells stack layers.items code c.image.items valid stages.fits stages.later stages.last layers.made file_is file_loads);
+    within_frames = subst (λ as'. IsCodeForLow (length g.procs) (heap_bytes g cells) as') (sym layers.starts) frames_for;
   }
 
 pub made_by : (p : core.Program) (cells stack : ℕ) (c : Compiled) → IsCompilation p cells stack c → Made p cells stack c.image.items
@@ -118,6 +119,6 @@ made_by p cells stack c h = record {
   g = h.g;
   last = h.last;
   code = c.code.items;
-  addresses = h.addresses;
+  addresses = c.starts.items;
   image = h.image;
 }

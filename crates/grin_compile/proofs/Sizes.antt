@@ -46,7 +46,7 @@ shaped_outside Raise g h s = s.outside
 shaped_outside Flat g h s = s.stays.outside
 shaped_outside Known g h s = s.stays.outside
 shaped_outside Cells g h s = s.stays.outside
-shaped_outside Dead g h s = s.outside
+shaped_outside Dead g h s = s.stays.outside
 
 pub stages_outside : (p : core.Program) (ks : List PassName) (g : Program) (hs : List Program) → AreStages p ks g hs
     → (k : ℕ) (h : Program) → slice_get hs k ≡ Some h → SameOutside g h

@@ -106,7 +106,7 @@ module _ (a : Program) (taken : IsTaken a) (l : Later) (passed : ArePassed passe
   own = next_one a _ _ known passed.1.1.1.1.1.1.1.1.1.0.shape.stays
 
   dead : CanBeLowered a (program_of l.dead)
-  dead = let shape = passed.1.1.1.1.1.1.1.1.1.1.0.shape in splitting_one a _ _ own shape.of_vectors shape.outside (λ most one narrow. shape.narrow most narrow)
+  dead = next_one a _ _ own passed.1.1.1.1.1.1.1.1.1.1.0.shape.stays
 
   pub can_be_lowered : (k : PassName) → CanBeLowered a (later_after l k)
   can_be_lowered Translate = vectorised

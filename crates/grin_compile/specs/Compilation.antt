@@ -4,6 +4,7 @@ use Rattle.arity_check.specs.Program as core
 use Rattle.grin_syntax.specs.Tree as grin
 use Rattle.grin_syntax.specs.Tree.{program_of}
 use Rattle.grin_syntax.specs.Formed.{AllOf, Formed}
+use Rattle.grin_syntax.specs.SameOutside.{names_of}
 use Rattle.flow_system.specs.Solution.{Solution}
 use Rattle.apply_inline.specs.Inlining.{inlined}
 use Rattle.grin_translate.specs.Translation.{tr}
@@ -39,8 +40,8 @@ later c = map (after c) passes
 -- the stages of p, each well formed; the low code of the last one that is slim, well formed too and
 -- small beside that stage; places that fit it; items that do what it does in the frames of these
 -- places, each jump going to a label that stands among them; the code, which is these items as they
--- are placed, of words that decode; and an image that is made of that stage and keeps within these
--- frames
+-- are placed, of words that decode; an image that is made of that stage and keeps within these
+-- frames; and of each procedure the address at which it starts, and the name
 pub record IsCompilation (p : core.Program) (cells stack : ℕ) (c : Compiled) : Type 0 where
   pub translated : IsStage p Translate (after c Translate)
   pub evaluated : IsStage p Eval (after c Eval)
@@ -58,12 +59,12 @@ pub record IsCompilation (p : core.Program) (cells stack : ℕ) (c : Compiled) :
   pub decode : AllDecode c.code.items
   pub uses : UsesRegisters (low.program_of c.low) c.places
   pub small_frames : (f : ℕ) → 4 * words_at c.places f ≤ frame_bound p solution
-  pub addresses : List ℕ
-  pub image : IsImageOf p solution g cells stack c.code.items addresses c.image.items
+  pub names : c.names.items ≡ names_of g.procs
+  pub image : IsImageOf p solution g cells stack c.code.items c.starts.items c.image.items
   -- the code enters the procedures of the low code at the same addresses, and the stack is full
   -- only where its frames are more
   pub within_frames :
       let l = low.program_of c.low in
       IsCodeFor (HeapOver cells) (FramesOver stack) (of_low l (words_at c.places))
       (entered_by_low l (words_at c.places)) (length g.procs) c.code.items
-      (start_with c.code.items (heap_bytes g cells) stack) addresses
+      (start_with c.code.items (heap_bytes g cells) stack) c.starts.items

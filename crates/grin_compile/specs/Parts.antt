@@ -4,6 +4,7 @@ use Rattle.arity_check.specs.Program as core
 use Rattle.grin_syntax.specs.Tree as grin
 use Rattle.grin_syntax.specs.Tree.{program_of}
 use Rattle.grin_syntax.specs.Formed.{AllOf, Formed}
+use Rattle.grin_syntax.specs.SameOutside.{names_of}
 use Rattle.flow_system.specs.Solution.{Solution}
 use Rattle.apply_inline.specs.Inlining.{inlined, inlined_size}
 use Rattle.grin_translate.specs.Translation.{tr}
@@ -12,6 +13,7 @@ use Rattle.grin_stages.specs.Stage.{Analyses, IsStage}
 use Rattle.low_code.specs.Tree as low
 use Rattle.low_code.specs.Formed as low_formed
 use Rattle.rv32_items.specs.declared.Item.{Item}
+use Rattle.rv32_items.specs.Laws.{addresses_of}
 use Rattle.rv32_layout.specs.Places.{AllDecode}
 use Rattle.register_alloc.specs.Fits.{UsesRegisters}
 use Rattle.grin_compile.specs.declared.stages.Stages.{Stages}
@@ -49,7 +51,8 @@ pub record AreSizes (cells stack : ℕ) : Type 0 where
   pub range : InRange cells stack
   pub words : stack % 4 ≡ 0
 
--- the layers below a program of GRIN, with as much code as can be placed
+-- the layers below a program of GRIN, with as much code as can be placed; where the labels of its
+-- procedures stand, and their names
 pub record HasLayers (g : grin.Program) (cells stack : ℕ) (m : Layers) : Type 0 where
   pub formed : low_formed.Formed (low.program_of m.low)
   pub items : List Item
@@ -58,3 +61,5 @@ pub record HasLayers (g : grin.Program) (cells stack : ℕ) (m : Layers) : Type 
   pub few_words : length m.code.items ≤ 268435456
   pub decode : AllDecode m.code.items
   pub uses : UsesRegisters (low.program_of m.low) m.places
+  pub starts : m.starts.items ≡ addresses_of made.placed.lay items made.selects.begins
+  pub names : m.names.items ≡ names_of g.procs

@@ -20,6 +20,7 @@ use grin_syntax::Grin;
 use grin_translate::translation_refines;
 use low_code::Low;
 use register_alloc::Places;
+use seq::Text;
 use std::alloc::Global;
 
 /// The size of an image's heap, in cells, and of its stack, in bytes, of which as many are used as
@@ -31,13 +32,16 @@ pub struct Options {
 }
 
 /// A compiled program: its stages, the low code of the last of them of which code is made, the
-/// places of its variables, the words of the code, and the bytes of the image.
+/// places of its variables, the words of the code, the address at which each procedure of that
+/// stage starts and its name, and the bytes of the image.
 #[derive(Drop)]
 pub struct Compiled {
     pub stages: Stages,
     pub low: Low,
     pub places: Places,
     pub code: Vec<u32>,
+    pub starts: Vec<u32>,
+    pub names: Vec<Text>,
     pub image: Vec<u8>,
 }
 
@@ -107,6 +111,8 @@ pub fn compile(alloc: Global, p: &Checked, options: Options) -> Result<Compiled,
         low: layers.low,
         places: layers.places,
         code: layers.code,
+        starts: layers.starts,
+        names: layers.names,
         image,
     })
 }

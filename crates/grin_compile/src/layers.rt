@@ -1,24 +1,49 @@
 // The layers below GRIN.
 
-ghost use Rattle.std.specs.Prelude.{IfOk};
-ghost use Rattle.grin_syntax.specs.Tree.{program_of};
+ghost use Rattle.std.specs.Prelude.{◌≡◌, ◌≤◌, length, map, IfOk};
+ghost use Rattle.grin_syntax.specs.Tree.{program_of, procedure_of};
+ghost use Rattle.grin_syntax.specs.SameOutside.{names_of};
+ghost use Rattle.low_code.specs.Tree as low;
 ghost use Rattle.grin_compile.specs.Lowerable.{IsLowerable};
 ghost use Rattle.grin_compile.specs.Parts.{AreSizes, HasLayers};
 
-use grin_syntax::Grin;
+use grin_syntax::{Grin, Proc};
 use low_code::Low;
 use low_translate::lower;
 use register_alloc::{Places, allocate};
 use rv32_layout::place;
 use rv32_select::{select, selected_items_do};
+use seq::{Seq, Text};
 use std::alloc::{AllocError, Global};
 
-/// Low code, the places of its variables, and the words that are made of them.
+/// Low code, the places of its variables, the words that are made of them, and of each procedure
+/// the address at which its code starts, and the name.
 #[derive(Drop)]
 pub struct Layers {
     pub low: Low,
     pub places: Places,
     pub code: Vec<u32>,
+    pub starts: Vec<u32>,
+    pub names: Vec<Text>,
+}
+
+/// How many procedures there are.
+fn procedures(program: &Low) -> u32
+    requires { length (low.program_of program.now).procs ≤ 131072 }
+    ensures { result ≡ length (low.program_of program.now).procs }
+{
+    program.procs.len() as u32
+}
+
+/// The names of the procedures.
+fn names(alloc: Global, procs: &[Proc]) -> Result<Vec<Text>, AllocError>
+    ensures { IfOk result (λ names. names.items ≡ names_of (map procedure_of procs.now)) }
+{
+    let mut names = Vec::with_capacity(alloc, procs.len())?;
+    for proc in procs {
+        names.push(Seq::from_slice(alloc, proc.name.as_slice())?)?;
+    }
+    Ok(names)
 }
 
 /// The layers below a program, for an image with so many cells and so many bytes of stack.
@@ -33,6 +58,13 @@ pub fn layers_below(alloc: Global, g: &Grin, cells: u32, stack: u32) -> Result<L
     let low = lower(alloc, g)?;
     let places = allocate(alloc, &low)?;
     let asm = select(alloc, &low, &places, cells, stack)?;
-    let code = place(alloc, &asm)?;
-    Ok(Layers { low, places, code })
+    let placement = place(alloc, &asm, procedures(&low))?;
+    let names = names(alloc, g.procs.as_slice())?;
+    Ok(Layers {
+        low,
+        places,
+        code: placement.words,
+        starts: placement.addresses,
+        names,
+    })
 }

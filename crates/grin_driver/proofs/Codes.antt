@@ -1,10 +1,12 @@
 -- The code of a text's image, and its listing.
 use Rattle.std.proofs.Common.{◌≡◌, ℕ, ◌<◌, ◌≤◌, ◌*◌, List, length, refl, sym, ap, ◌∙◌, subst, arith}
+use Rattle.std.proofs.lemmas.List.{length-map}
 use Rattle.core_reader.specs.Tree as tree
 use Rattle.arity_check.specs.Program.{Program}
 use Rattle.grin_stages.specs.Stage.{Fits}
 use Rattle.rv32_layout.specs.Places.{AllDecode}
 use Rattle.grin_io.specs.Changes.{SinkChange}
+use Rattle.grin_syntax.specs.SameOutside.{names_of}
 use Rattle.grin_compile.specs.declared.compilation.Compiled.{Compiled}
 use Rattle.grin_compile.specs.Limits.{whole_words, heap_bytes}
 use Rattle.grin_compile.specs.Stages.{passes, AreStages}
@@ -14,6 +16,8 @@ use Rattle.text_commands.specs.declared.status.Status.{Status}
 use Rattle.text_commands.specs.Text.{IsAccepted}
 use Rattle.grin_driver.specs.CodeListing.{code_listing, IsCodeOf, IsCodeListing, ListsCode}
 use Rattle.grin_driver.specs.Building.{Builds}
+use Rattle.grin_driver.specs.Kept.{IsKept}
+use Rattle.grin_driver.specs.declared.image.Built.{Built}
 use Rattle.grin_driver.specs.Outcome.{IsImageOf, IsNotRun}
 use Rattle.text_commands.proofs.Texts.{accepted_short}
 use Rattle.text_commands.proofs.Written.{writes_as}
@@ -29,7 +33,7 @@ made_of p cells stack c parts = record {
   g = parts.g;
   last = parts.last;
   code = c.code.items;
-  addresses = parts.addresses;
+  addresses = c.starts.items;
   image = parts.image;
 }
 
@@ -43,20 +47,34 @@ code_of text cells stack source p accepted fits c parts = record {
   decode = parts.decode;
 }
 
--- its image, and the bytes of a cell of it
-pub image_of : (text : List ℕ) (cells stack : ℕ) (source : tree.Program) (p : Program) → IsAccepted text source p → Fits p
-    → (c : Compiled) → IsCompilation p cells (whole_words stack) c → (width : ℕ) → width ≡ c.low.width
-    → (from : IsImageOf text cells stack c.image.items) × (1 ≤ width) × (heap_bytes from.made.g 1 ≡ 4 * width)
+-- what is kept beside a file that is an image of the text
+abbrev KeptOf : (text : List ℕ) (cells stack : ℕ) → Built → (file : List ℕ) → Type 0
+KeptOf text cells stack b file =
+    (from : IsImageOf text cells stack file)
+    × ((heap_bytes from.made.g 1 ≡ 4 * b.width) × ((b.starts.items ≡ from.made.addresses) × (b.names.items ≡ names_of from.made.g.procs)))
+
+-- what is kept of a compiled program
+pub is_kept : (text : List ℕ) (cells stack : ℕ) (source : tree.Program) (p : Program) → IsAccepted text source p → Fits p
+    → (c : Compiled) → IsCompilation p cells (whole_words stack) c → (b : Built)
+    → b.image.items ≡ c.image.items → b.width ≡ c.low.width → b.starts.items ≡ c.starts.items → b.names.items ≡ c.names.items → IsKept text cells stack b
 unfolding made_of
-image_of text cells stack source p accepted fits c parts width is =
+is_kept text cells stack source p accepted fits c parts b image width starts names =
     let words = parts.layers.lowers.width in
     let some : 1 ≤ c.low.width = subst (λ w. 1 ≤ w) (sym words) (omega arith) in
     let bytes : heap_bytes parts.g 1 ≡ 4 * c.low.width * 1 = ap (λ w. 4 * w * 1) (sym words) in
-    let kept : 4 * c.low.width * 1 ≡ 4 * width = omega (arith, is) in (
+    let same : 4 * c.low.width * 1 ≡ 4 * b.width = omega (arith, width) in
+    let made : KeptOf text cells stack b c.image.items = (
       record { source = source; program = p; accepted = accepted; fits = fits; made = made_of p cells (whole_words stack) c parts },
-      omega (arith, is, some),
-      bytes ∙ kept,
-    )
+      (bytes ∙ same, (starts, names ∙ parts.names)),
+    ) in
+    let kept = subst (KeptOf text cells stack b) (sym image) made in
+    record { from = kept.0; some_width = omega (arith, width, some); width = kept.1.0; starts = kept.1.1.0; names = kept.1.1.1 }
+
+-- there is an address for each name
+pub one_each : (text : List ℕ) (cells stack : ℕ) (b : Built) → IsKept text cells stack b → length b.starts.items ≡ length b.names.items
+one_each text cells stack b kept =
+    let made = kept.from.made in
+    ap length kept.starts ∙ made.image.code_for.one_each ∙ sym (ap length kept.names ∙ length-map made.g.procs (λ q. q.name))
 
 -- the listing of such words
 pub listing_of : (text : List ℕ) (cells stack : ℕ) (code bytes : List ℕ) → IsCodeOf text cells stack code → bytes ≡ code_listing code

@@ -59,11 +59,11 @@ state_is (Stopped kind s) stop m h = sym h.1.0
 
 module _ {I K : Type 0} (i : SourceChange I) (o : SinkChange K) where
   -- what the machine counts of a run from the start of a program
-  pub counted : (program : Image) (m new : Stand) (steps : ℕ) (stop : Stop) (done next : ℕ) → IsAt m (start_of program) false false
-      → runs.Counted i o steps (state_of m) stop done new → next ≡ reg (state_of new) 3
-      → OfGiven i o (λ given ended. Stops i o program steps stop given ended × AreCounts program steps given ended done next)
-  counted program m new steps stop done next begins h x3 =
-      let a : runs.Counted i o steps (start_of program) stop done new = subst (λ s. runs.Counted i o steps s stop done new) begins.0 h in
+  pub counted : (program : Image) (m new : Stand) (steps : ℕ) (stop : Stop) (c : Counts) → IsAt m (start_of program) false false
+      → runs.Counted i o steps (state_of m) stop c.instructions new → c.next_cell ≡ reg (state_of new) 3 → c.link ≡ reg (state_of new) 5
+      → OfGiven i o (λ given ended. Stops i o program steps stop given ended × AreCounts program steps given ended c)
+  counted program m new steps stop c begins h x3 x5 =
+      let a : runs.Counted i o steps (start_of program) stop c.instructions new = subst (λ s. runs.Counted i o steps s stop c.instructions new) begins.0 h in
       let r = a.answered in (
         r.given,
         (
@@ -74,6 +74,8 @@ module _ {I K : Type 0} (i : SourceChange I) (o : SinkChange K) where
               done = a.counts;
               x3 = λ bytes b.
                   ap (λ (s : State). reg s 3) (state_is (run steps bytes (start_of program)).end stop new (r.stays bytes b).stands) ∙ sym x3;
+              x5 = λ bytes b.
+                  ap (λ (s : State). reg s 5) (state_is (run steps bytes (start_of program)).end stop new (r.stays bytes b).stands) ∙ sym x5;
             },
           ),
         ),

@@ -1,7 +1,6 @@
 -- What the end of a run says of the program.
 use Rattle.std.proofs.Common.{◌≡◌, ℕ, zero, suc, ◌+◌, ◌*◌, ◌<◌, ◌≤◌, Bool, true, false, List, [], ◌∷◌, ◌++◌, length, Option, Some, None, refl, sym, ap, ◌∙◌, subst, arith, length-append}
 use mathlib.Core.Logic.{inl, inr}
-use Rattle.std.specs.Option.{option_map}
 use Rattle.arity_check.specs.Program.{Program}
 use Rattle.core_meaning.specs.Evaluation.{params}
 use Rattle.core_meaning.specs.Told.{of_core}
@@ -31,7 +30,9 @@ use Rattle.grin_driver.specs.Listing.{IsUnlisted}
 use Rattle.rv32_machine.proofs.Sources.{itself}
 use Rattle.grin_driver.specs.Execution.{OfGiven, Stops, Fails, Execution, IsUnloadable, stop_at, status_of}
 use Rattle.grin_driver.specs.Outcome.{IsNotRun, IsImageOf, IsUnmade, named, RunsTo, Breaks, Says, Runs, Outcome}
-use Rattle.grin_driver.specs.Costs.{has_stopped, AreCounts, run_cost, Counted, CountsExecution, CostsRun, CostsText}
+use Rattle.grin_syntax.specs.SameOutside.{names_of}
+use Rattle.grin_driver.specs.declared.cost.Cost.{Cost}
+use Rattle.grin_driver.specs.Costs.{has_stopped, AreCounts, IsRunCost, IsCostOf, Counted, CountsExecution, CostsRun, CostsText}
 use Rattle.grin_driver.specs.declared.cost.Counts.{Counts}
 use Rattle.grin_driver.proofs.Costs.{counted_stops}
 use Rattle.text_commands.proofs.Texts.{refused_long, accepted_short}
@@ -291,31 +292,39 @@ module _ {I K : Type 0} (i : SourceChange I) (o : SinkChange K) (text : List ℕ
 
     -- what it cost
     costs_to : (stop : Stop) → Stops i o image steps stop given ended → Said given ended (named (status_of stop))
-        → (c : Counts) → AreCounts image steps given ended c.instructions c.next_cell → CostsRun i o text cells stack steps (named (status_of stop)) (run_cost (heap_bytes from.made.g 1) cells c)
+        → (c : Counts) → AreCounts image steps given ended c → (cost : Cost) → IsRunCost (heap_bytes from.made.g 1) cells from.made.addresses (names_of from.made.g.procs) (named (status_of stop)) c cost
+        → CostsRun i o text cells stack steps (named (status_of stop)) cost
     unfolding runs_from
-    costs_to Steps ran says c are = record { runs = runs_from (named (status_of Steps)) Steps ran ran says; counts = c; are = are; cost_is = refl }
-    costs_to (Exit zero) ran says c are = record { runs = runs_from (named (status_of (Exit 0))) (Exit 0) ran ran says; counts = c; are = are; cost_is = refl }
-    costs_to (Exit (suc zero)) ran says c are = absurd (never (named (status_of (Exit 1))) ran.gave says)
-    costs_to (Exit (suc (suc zero))) ran says c are = absurd (never (named (status_of (Exit 2))) ran.gave says)
-    costs_to (Exit (suc (suc (suc zero)))) ran says c are = record { runs = runs_from (named (status_of (Exit 3))) (Exit 3) ran ran says; counts = c; are = are; cost_is = refl }
-    costs_to (Exit (suc (suc (suc (suc zero))))) ran says c are = record { runs = runs_from (named (status_of (Exit 4))) (Exit 4) ran ran says; counts = c; are = are; cost_is = refl }
-    costs_to (Exit (suc (suc (suc (suc (suc zero)))))) ran says c are = record { runs = runs_from (named (status_of (Exit 5))) (Exit 5) ran ran says; counts = c; are = are; cost_is = refl }
-    costs_to (Exit (suc (suc (suc (suc (suc (suc k))))))) ran says c are = absurd (never (named (status_of (Exit (suc (suc (suc (suc (suc (suc k))))))))) ran.gave says)
-    costs_to (Trap kind pc) ran says c are = absurd (never (named (status_of (Trap kind pc))) ran.gave says)
+    costs_to Steps ran says c are cost is = record { runs = runs_from (named (status_of Steps)) Steps ran ran says; counts = c; are = are; cost_is = is }
+    costs_to (Exit zero) ran says c are cost is = record { runs = runs_from (named (status_of (Exit 0))) (Exit 0) ran ran says; counts = c; are = are; cost_is = is }
+    costs_to (Exit (suc zero)) ran says c are cost is = absurd (never (named (status_of (Exit 1))) ran.gave says)
+    costs_to (Exit (suc (suc zero))) ran says c are cost is = absurd (never (named (status_of (Exit 2))) ran.gave says)
+    costs_to (Exit (suc (suc (suc zero)))) ran says c are cost is = record { runs = runs_from (named (status_of (Exit 3))) (Exit 3) ran ran says; counts = c; are = are; cost_is = is }
+    costs_to (Exit (suc (suc (suc (suc zero))))) ran says c are cost is = record { runs = runs_from (named (status_of (Exit 4))) (Exit 4) ran ran says; counts = c; are = are; cost_is = is }
+    costs_to (Exit (suc (suc (suc (suc (suc zero)))))) ran says c are cost is = record { runs = runs_from (named (status_of (Exit 5))) (Exit 5) ran ran says; counts = c; are = are; cost_is = is }
+    costs_to (Exit (suc (suc (suc (suc (suc (suc k))))))) ran says c are cost is = absurd (never (named (status_of (Exit (suc (suc (suc (suc (suc (suc k))))))))) ran.gave says)
+    costs_to (Trap kind pc) ran says c are cost is = absurd (never (named (status_of (Trap kind pc))) ran.gave says)
 
-  costs : (status : Status) (c : Counts) → Counted i o file steps status c → CostsRun i o text cells stack steps (named status) (run_cost (heap_bytes from.made.g 1) cells c)
-  costs status c h =
+  costs : (status : Status) (c : Counts) → Counted i o file steps status c → (cost : Cost) → IsRunCost (heap_bytes from.made.g 1) cells from.made.addresses (names_of from.made.g.procs) (named status) c cost
+      → CostsRun i o text cells stack steps (named status) cost
+  costs status c h cost is =
       let g = h.2.2 in
-      subst (λ s. CostsRun i o text cells stack steps (named s) (run_cost (heap_bytes from.made.g 1) cells c)) h.2.1
-      (costs_to h.0 h.1 g.0 g.1.0 h.2.0 g.1.1.0 (said h.0 h.1 g.0 g.1.0 h.2.0 g.1.1.0) c g.1.1.1)
+      let is' = subst (λ s. IsRunCost (heap_bytes from.made.g 1) cells from.made.addresses (names_of from.made.g.procs) (named s) c cost) (sym h.2.1) is in
+      subst (λ s. CostsRun i o text cells stack steps (named s) cost) h.2.1
+      (costs_to h.0 h.1 g.0 g.1.0 h.2.0 g.1.1.0 (said h.0 h.1 g.0 g.1.0 h.2.0 g.1.1.0) c g.1.1.1 cost is')
 
   -- the cost of the run of a text's file is that of the text
-  pub costs_text : (cell_bytes : ℕ) → heap_bytes from.made.g 1 ≡ cell_bytes → (status : Status) (counts : Option Counts) → CountsExecution i o file steps status counts
-      → CostsText i o text cells stack steps (named status) (option_map (run_cost cell_bytes cells) counts)
-  costs_text cell_bytes bytes status None h = named_stops status ∙ h
-  costs_text cell_bytes bytes status (Some c) h = (
+  pub costs_text : (cell_bytes : ℕ) (starts : List ℕ) (names : List (List ℕ)) → heap_bytes from.made.g 1 ≡ cell_bytes → starts ≡ from.made.addresses → names ≡ names_of from.made.g.procs
+      → (status : Status) (counts : Option Counts) → CountsExecution i o file steps status counts → (cost : Option Cost) → IsCostOf cell_bytes cells starts names (named status) counts cost
+      → CostsText i o text cells stack steps (named status) cost
+  costs_text cell_bytes starts names bytes are named' status None h None is = named_stops status ∙ h
+  costs_text cell_bytes starts names bytes are named' status None h (Some cost) is = absurd is
+  costs_text cell_bytes starts names bytes are named' status (Some c) h None is = absurd is
+  costs_text cell_bytes starts names bytes are named' status (Some c) h (Some cost) is = (
     named_stops status ∙ counted_stops i o file steps status c h,
-    subst (λ n. CostsRun i o text cells stack steps (named status) (run_cost n cells c)) bytes (costs status c h),
+    costs status c h cost (subst (λ n. IsRunCost n cells from.made.addresses (names_of from.made.g.procs) (named status) c cost) (sym bytes)
+        (subst (λ as'. IsRunCost cell_bytes cells as' (names_of from.made.g.procs) (named status) c cost) are
+        (subst (λ ns. IsRunCost cell_bytes cells starts ns (named status) c cost) named' is))),
   )
 
   stopped : (status : Status) → (image : Image) × Loads file image × ((stop : Stop) × (status_of stop ≡ status) × OfGiven i o (Stops i o image steps stop))

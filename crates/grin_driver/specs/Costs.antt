@@ -1,10 +1,12 @@
--- What a run cost: the instructions that were done, and the cells that were bound.
+-- What a run cost: the instructions that were done, and the cells that were bound; and where it
+-- found no alternative.
 use Rattle.std.specs.Prelude.{◌≡◌, ℕ, ◌-◌, ◌/◌, min, ◌⊎◌, ◌≤◌, Bool, true, false, ◌&&◌, if◌then◌else◌, List, [], ◌++◌, codes, decimal, Option, Some, None}
 use Rattle.elf32.specs.Image.{Image}
 use Rattle.elf32.specs.Rules.{Loads}
 use Rattle.command_line.specs.Commands.{CommandLine, RunFile, ExecImage}
 use Rattle.grin_io.specs.Causes.{Rose}
 use Rattle.grin_io.specs.Changes.{Told, ShelfChange, SourceChange, SinkChange, of_sink, BeginsWith}
+use Rattle.grin_syntax.specs.SameOutside.{names_of}
 use Rattle.rv32_machine.specs.Steps.{State, reg, start_of}
 use Rattle.rv32_machine.specs.Runs.{End, Going, Exited as exited, Stopped, run, IsCount}
 use Rattle.rv32_machine.specs.declared.machine.Stop.{Stop}
@@ -13,6 +15,7 @@ use Rattle.text_commands.specs.declared.status.Status.TheVariants.{Done, NoAlter
 use Rattle.text_commands.specs.Operands.{OfFile, most_of_text}
 use Rattle.text_commands.specs.Telling.{IsOnePut, IsTold}
 use Rattle.grin_compile.specs.Limits.{heap_bytes}
+use Rattle.grin_driver.specs.Standing.{IsPlace}
 use Rattle.grin_driver.specs.Execution.{OfGiven, Stops, status_of}
 use Rattle.grin_driver.specs.Outcome.{Runs}
 use Rattle.grin_driver.specs.Answer.{most_of_image}
@@ -38,29 +41,40 @@ state_at (Going s) = s
 state_at (exited code s) = s
 state_at (Stopped kind s) = s
 
--- On whatever input begins with the bytes that were given, so many instructions of the program's run
--- are done, and at its end x3 is this.
-pub record AreCounts (program : Image) (steps : ℕ) (given : List ℕ) (ended : Bool)
-    (instructions next_cell : ℕ) : Type 0 where
+-- On whatever input begins with the bytes that were given, so many instructions of the program's
+-- run are done, and at its end x3 and x5 are these.
+pub record AreCounts (program : Image) (steps : ℕ) (given : List ℕ) (ended : Bool) (c : Counts)
+    : Type 0 where
   pub done : (bytes : List ℕ) → BeginsWith given ended bytes
-      → IsCount instructions steps bytes (start_of program)
+      → IsCount c.instructions steps bytes (start_of program)
   pub x3 : (bytes : List ℕ) → BeginsWith given ended bytes
-      → reg (state_at (run steps bytes (start_of program)).end) 3 ≡ next_cell
+      → reg (state_at (run steps bytes (start_of program)).end) 3 ≡ c.next_cell
+  pub x5 : (bytes : List ℕ) → BeginsWith given ended bytes
+      → reg (state_at (run steps bytes (start_of program)).end) 5 ≡ c.link
 
 -- the cells that stand before an address; where the heap is full, x3 may be past its end
 abbrev pub cells_before : (cell_bytes cells next_cell : ℕ) → ℕ
 cells_before cell_bytes cells next_cell = min ((next_cell - 0x50000000) / cell_bytes) cells
 
--- the cost of a run whose image has so many bytes in a cell, and so many cells
-abbrev pub run_cost : (cell_bytes cells : ℕ) → Counts → Cost
-run_cost cell_bytes cells c = record {
-  instructions = c.instructions;
-  cells = Some (cells_before cell_bytes cells c.next_cell);
-}
+-- the cost of a run that ended so, by its counts. The image has so many bytes in a cell, and so
+-- many cells, and its procedures start at these addresses and have these names
+pub record IsRunCost (cell_bytes cells : ℕ) (starts : List ℕ) (names : List (List ℕ))
+    (status : Status) (c : Counts) (cost : Cost) : Type 0 where
+  pub instructions : cost.instructions ≡ c.instructions
+  pub cells_bound : cost.cells ≡ Some (cells_before cell_bytes cells c.next_cell)
+  pub place : IsPlace starts names status c.link cost.place
 
--- the cost of an executable, of whose cells nothing is known
+-- there is a cost just where there are counts
+abbrev pub IsCostOf : (cell_bytes cells : ℕ) → (starts : List ℕ) → (names : List (List ℕ))
+    → Status → Option Counts → Option Cost → Type 0
+IsCostOf cell_bytes cells starts names status None None = Unit {0}
+IsCostOf cell_bytes cells starts names status (Some c) (Some cost) =
+    IsRunCost cell_bytes cells starts names status c cost
+IsCostOf cell_bytes cells starts names status _ _ = ⊥
+
+-- the cost of an executable, of whose cells and procedures nothing is known
 abbrev pub exec_cost : Counts → Cost
-exec_cost c = record { instructions = c.instructions; cells = None }
+exec_cost c = record { instructions = c.instructions; cells = None; place = None }
 
 -- ---- a run from a source to a sink
 
@@ -70,7 +84,7 @@ module _ {I K : Type 0} (i : SourceChange I) (o : SinkChange K) where
   StopsWithin program steps status c =
       (stop : Stop) × (status_of stop ≡ status)
       × OfGiven i o (λ given ended. Stops i o program steps stop given ended
-      × AreCounts program steps given ended c.instructions c.next_cell)
+      × AreCounts program steps given ended c)
 
   -- there are counts just where the run of a program stopped
   abbrev pub CountsRun : (program : Image) → (steps : ℕ) → Status → Option Counts → Type 0
@@ -96,8 +110,10 @@ module _ {I K : Type 0} (i : SourceChange I) (o : SinkChange K) where
       : Type 0 where
     pub runs : Runs i o text cells stack steps status
     pub counts : Counts
-    pub are : AreCounts runs.image steps runs.given runs.ended counts.instructions counts.next_cell
-    pub cost_is : cost ≡ run_cost (heap_bytes runs.from.made.g 1) cells counts
+    pub are : AreCounts runs.image steps runs.given runs.ended counts
+    pub cost_is :
+        IsRunCost (heap_bytes runs.from.made.g 1) cells runs.from.made.addresses
+        (names_of runs.from.made.g.procs) status counts cost
 
   -- there is a cost just where the run of a text stopped
   abbrev pub CostsText : (text : List ℕ) → (cells stack steps : ℕ) → Status → Option Cost → Type 0
@@ -144,17 +160,24 @@ cost_line cost =
     codes "grinc: instructions "
     ++ (decimal cost.instructions ++ (cells_text cost.cells ++ codes "\n"))
 
--- The line of a cost is told: by one put, and where the sink's count did not rise it took just the
--- line.
-pub record IsCostTold {K : Type 0} (o : SinkChange K) (cost : Cost) : Type 0 where
-  pub puts : IsOnePut o (cost_line cost)
+-- A line is told: by one put, and where the sink's count did not rise it took just the line.
+pub record IsLineTold {K : Type 0} (o : SinkChange K) (line : List ℕ) : Type 0 where
+  pub puts : IsOnePut o line
   pub later : o.faults o.old ≤ o.faults o.new
-  pub line : Rose (o.faults o.old) (o.faults o.new)
-      ⊎ Told (o.taken o.old) (λ before. o.taken o.new ≡ Some (before ++ cost_line cost))
+  pub took : Rose (o.faults o.old) (o.faults o.new)
+      ⊎ Told (o.taken o.old) (λ before. o.taken o.new ≡ Some (before ++ line))
 
--- the line of the status is told, and behind it that of the cost, where there is one
+-- a line is told, and behind it another one, where there is one
+abbrev pub TellsLines : {K : Type 0} → SinkChange K → List ℕ → Option (List ℕ) → Type 0
+TellsLines o line None = IsLineTold o line
+TellsLines {K} o line (Some more) =
+    (between : K) × IsLineTold (of_sink o.gives o.taken o.faults o.old between) line
+    × IsLineTold (of_sink o.gives o.taken o.faults between o.new) more
+
+-- the line of the status is told, and behind it, where there is a cost, its line and that of the
+-- place where the image stood, if there is one
 abbrev pub TellsBoth : {K : Type 0} → SinkChange K → Status → Option Cost → Type 0
 TellsBoth {K} o status None = IsTold o status
 TellsBoth {K} o status (Some cost) =
     (between : K) × IsTold (of_sink o.gives o.taken o.faults o.old between) status
-    × IsCostTold (of_sink o.gives o.taken o.faults between o.new) cost
+    × TellsLines (of_sink o.gives o.taken o.faults between o.new) (cost_line cost) cost.place

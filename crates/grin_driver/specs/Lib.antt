@@ -8,5 +8,7 @@ pub mod Building
 pub mod Generating
 pub mod Execution
 pub mod Answer
+pub mod Standing
+pub mod Kept
 pub mod Costs
 pub mod Completeness

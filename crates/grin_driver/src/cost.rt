@@ -1,10 +1,12 @@
 //! What a run cost, and what is told of it.
 
-ghost use Rattle.std.specs.Prelude.{◌≡◌, ◌*◌, ◌≤◌, Some, None, if◌then◌else◌};
+ghost use Rattle.std.specs.Prelude.{◌≡◌, ◌*◌, ◌≤◌, Some, None, length, if◌then◌else◌};
 ghost use Rattle.std.specs.Option.{option_map};
 ghost use Rattle.grin_io.specs.Changes.{of_sink};
-ghost use Rattle.grin_driver.specs.Costs.{run_cost, exec_cost, cost_line, IsCostTold, TellsBoth};
+ghost use Rattle.grin_driver.specs.Costs.{IsCostOf, exec_cost, cost_line, cells_before, IsLineTold, TellsLines, TellsBoth};
 
+use crate::image::Built;
+use crate::standing::place;
 use grin_io::Sink;
 use text_commands::note::Note;
 use text_commands::status::Status;
@@ -19,6 +21,9 @@ pub(crate) struct Counts {
     pub(crate) instructions: u64,
     /// What x3 was at the end: in an image that was compiled, the address of the next cell.
     pub(crate) next_cell: u32,
+    /// What x5 was at the end: in an image that found no alternative, the address behind its jump
+    /// to where it stopped.
+    pub(crate) link: u32,
 }
 
 /// How a program ended, and the counts of its run, where that stopped.
@@ -28,35 +33,62 @@ pub(crate) struct Counted {
     pub(crate) counts: Option<Counts>,
 }
 
-/// What a run cost.
-#[derive(Clone, Copy, Drop)]
+/// What a run cost, and where it found no alternative.
+#[derive(Drop)]
 pub(crate) struct Cost {
     /// The instructions that were done.
     pub(crate) instructions: u64,
     /// The cells that were bound, where it is known how large they are.
     pub(crate) cells: Option<u64>,
+    /// The line that names the procedure in whose code the image found no alternative, where it
+    /// ended so.
+    pub(crate) place: Option<Note>,
 }
 
 /// How a command ended, and what its run cost, where that is told.
-#[derive(Clone, Copy, Drop)]
+#[derive(Drop)]
 pub(crate) struct Ended {
     pub(crate) status: Status,
     pub(crate) cost: Option<Cost>,
 }
 
+/// The cells of so many words that stand before an address, and at most `cells`.
+fn cells_before(next_cell: u32, width: u32, cells: u32) -> u64
+    requires { 1 ≤ width }
+    ensures { result ≡ cells_before (4 * width) cells next_cell }
+{
+    let bytes = next_cell.saturating_sub(HEAP) as u64;
+    let bound = bytes / (4 * width as u64);
+    bound.min(cells as u64)
+}
+
+/// Puts a line on the error output, as one put. A fault changes nothing else.
+fn put_line<E: Sink>(err: &mut E, line: &[u8])
+    ensures { IsLineTold (of_sink E.put_gives E.taken E.faults err.old err.new) line.now }
+{
+    let _told = err.put(line);
+}
+
 impl Cost {
-    /// What the run of a compiled image cost, by its counts, the words of a cell, and the cells
-    /// that it was given.
-    pub(crate) fn of_run(counts: Option<Counts>, width: u32, cells: u32) -> Option<Cost>
-        requires { 1 ≤ width }
-        ensures { result ≡ option_map (run_cost (4 * width) cells) counts }
+    /// What the run of a compiled image cost that ended so, by its counts, where the image was given
+    /// so many cells.
+    pub(crate) fn of_run(
+        built: &Built,
+        status: Status,
+        counts: Option<Counts>,
+        cells: u32,
+    ) -> Option<Cost>
+        requires width { 1 ≤ built.now.width }
+        requires one_each { length built.now.starts.items ≡ length built.now.names.items }
+        ensures { IsCostOf (4 * built.now.width) cells built.now.starts.items built.now.names.items
+            status counts result }
     {
         let counts = counts?;
-        let bytes = counts.next_cell.saturating_sub(HEAP) as u64;
-        let bound = bytes / (4 * width as u64);
+        let place = place(&built.starts, &built.names, status, counts.link);
         Some(Cost {
             instructions: counts.instructions,
-            cells: Some(bound.min(cells as u64)),
+            cells: Some(cells_before(counts.next_cell, built.width, cells)),
+            place,
         })
     }
 
@@ -68,6 +100,7 @@ impl Cost {
         Some(Cost {
             instructions: counts.instructions,
             cells: None,
+            place: None,
         })
     }
 
@@ -90,11 +123,18 @@ impl Cost {
         }
     }
 
-    /// Puts the line on the error output, as one put. A fault changes nothing else.
+    /// Puts the line on the error output, and behind it that of the place, if there is one.
     fn tell<E: Sink>(&self, err: &mut E)
-        ensures { IsCostTold (of_sink E.put_gives E.taken E.faults err.old err.new) self.now }
+        ensures { TellsLines (of_sink E.put_gives E.taken E.faults err.old err.new)
+            (cost_line self.now) self.now.place }
     {
-        let _told = err.put(self.line().as_slice());
+        match &self.place {
+            None => put_line(err, self.line().as_slice()),
+            Some(place) => {
+                put_line(err, self.line().as_slice());
+                put_line(err, place.as_slice());
+            }
+        }
     }
 }
 
@@ -112,10 +152,7 @@ impl Ended {
         ensures status { result.status ≡ self.status }
         ensures cost { result.cost ≡ (if stats then self.cost else None) }
     {
-        Ended {
-            status: self.status,
-            cost: if stats { self.cost } else { None },
-        }
+        if stats { self } else { Ended::of(self.status) }
     }
 
     /// Puts the line of the status on the error output, and behind it that of the cost, where there
@@ -124,7 +161,7 @@ impl Ended {
         ensures { TellsBoth (of_sink E.put_gives E.taken E.faults err.old err.new) self.now.status
             self.now.cost }
     {
-        match self.cost {
+        match &self.cost {
             None => self.status.tell(err),
             Some(cost) => {
                 self.status.tell(err);

@@ -72,6 +72,7 @@ fn execute<I: Source, K: Sink>(
             counts: Some(Counts {
                 instructions: ran.done,
                 next_cell: machine.register(Reg(3)),
+                link: machine.register(Reg(5)),
             }),
         },
         Err(Fault::Read) => Counted {

@@ -12,6 +12,7 @@ pub mod laws;
 mod list;
 mod points;
 mod run;
+mod standing;
 
 pub use command::grinc_main;
 pub use command_line::Line;

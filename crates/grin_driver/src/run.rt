@@ -51,9 +51,10 @@ pub(crate) fn run_counted<I: Source, K: Sink>(
     match compiled(alloc, text, options) {
         Ok(built) => {
             let ran = exec_counted(alloc, built.image.as_slice(), steps, input, out);
+            let status = named(ran.status);
             Ended {
-                status: named(ran.status),
-                cost: Cost::of_run(ran.counts, built.width, options.cells),
+                status,
+                cost: Cost::of_run(&built, status, ran.counts, options.cells),
             }
         }
         Err(status) => Ended { status, cost: None },

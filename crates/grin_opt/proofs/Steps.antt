@@ -22,7 +22,7 @@ shaped_of_vectors Raise g h s = s.of_vectors
 shaped_of_vectors Flat g h s = s.stays.of_vectors
 shaped_of_vectors Known g h s = s.stays.of_vectors
 shaped_of_vectors Cells g h s = s.stays.of_vectors
-shaped_of_vectors Dead g h s = s.of_vectors
+shaped_of_vectors Dead g h s = s.stays.of_vectors
 
 pub of_vectors : (g h : Program) (k : PassName) → IsPass k → IsOptimised g k h → OfVectors h
 of_vectors g h k has itself = absurd has
@@ -55,7 +55,7 @@ shaped_by_words Raise g h has so_far s = s.by_words
 shaped_by_words Flat g h has so_far s = s.stays.by_words (so_far tt)
 shaped_by_words Known g h has so_far s = s.stays.by_words (so_far tt)
 shaped_by_words Cells g h has so_far s = s.stays.by_words (so_far tt)
-shaped_by_words Dead g h has so_far s = s.by_words
+shaped_by_words Dead g h has so_far s = s.stays.by_words (so_far tt)
 
 pub by_words : (g h : Program) (k : PassName) → FetchesWords k → IsOptimised g k h → IsFetchedByWords h
 by_words g h k has itself = absurd has
@@ -78,7 +78,7 @@ of_stage Raise g h of s = (shaped_of_vectors Raise g h s, s.by_words)
 of_stage Flat g h of s = (shaped_of_vectors Flat g h s, s.stays.by_words of.1)
 of_stage Known g h of s = (shaped_of_vectors Known g h s, s.stays.by_words of.1)
 of_stage Cells g h of s = (shaped_of_vectors Cells g h s, s.stays.by_words of.1)
-of_stage Dead g h of s = (shaped_of_vectors Dead g h s, s.by_words)
+of_stage Dead g h of s = (shaped_of_vectors Dead g h s, s.stays.by_words of.1)
 
 -- the programs of the schedule are of their stages
 pub stage_of : (g h : Program) (k : PassName) → IsTaken g → IsOptimised g k h → IsOfStage k h

@@ -13,8 +13,7 @@ use Rattle.update_special.specs.Updated.{Updated}
 use Rattle.unbox.specs.Unboxed.{Unboxed}
 use Rattle.arity_raise.specs.Raised.{Raised}
 use Rattle.flat_blocks.specs.Flattened.{Flattened}
-use Rattle.dead_store.specs.Stored.{Stored}
-use Rattle.grin_opt.specs.Several.{OfKnownWords, OfOwnCells}
+use Rattle.grin_opt.specs.Several.{OfKnownWords, OfOwnCells, OfDeadStores}
 use Rattle.grin_opt.specs.declared.pass.PassName.{PassName}
 use Rattle.grin_opt.specs.declared.pass.PassName.TheVariants.{Translate, Eval, Apply, Vectorise, Simplify, Fetch, Copy, Update, Unbox, Raise, Flat, Known, Cells, Dead}
 
@@ -46,7 +45,7 @@ shape_of Raise g h = Raised g h
 shape_of Flat g h = Flattened g h
 shape_of Known g h = OfKnownWords g h
 shape_of Cells g h = OfOwnCells g h
-shape_of Dead g h = Stored g h
+shape_of Dead g h = OfDeadStores g h
 shape_of _ g h = ⊥
 
 -- the stage that such a pass takes

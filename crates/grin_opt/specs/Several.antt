@@ -1,14 +1,18 @@
 -- Stages that several passes make, one after another.
 use Rattle.std.specs.Prelude.{◌≤◌}
 use Rattle.grin_syntax.specs.Tree.{Program}
+use Rattle.flow_system.specs.Tables.{tables}
+use Rattle.flow_system.specs.System.{system}
+use Rattle.flow_system.specs.Solution.{Solution, IsLeast}
 use Rattle.pass_ground.specs.Vectors.{StaysOfVectors}
 use Rattle.pass_ground.specs.OpenUpdates.{open_updates}
 use Rattle.case_simplify.specs.Simplified.{Simplified}
 use Rattle.copy_prop.specs.Copied.{Copied}
 use Rattle.flat_blocks.specs.Flattened.{Flattened}
 use Rattle.known_words.specs.KnownWords.{KnownWords, ToldWords}
-use Rattle.narrow_vectors.specs.NarrowVectors.{NarrowVectors}
+use Rattle.narrow_vectors.specs.NarrowBy.{NarrowBy}
 use Rattle.own_cells.specs.Unknown.{FetchesAnew}
+use Rattle.dead_store.specs.Stored.{StoredBy}
 
 -- what two passes make, one after the other, by what each of them makes
 pub record Then (First Second : Program → Program → Type 0) (g h : Program) : Type 0 where
@@ -27,10 +31,6 @@ pub record MadeBy (Passes : Program → Program → Type 0) (g h : Program) : Ty
 abbrev pub Tidied : Program → Program → Type 0
 Tidied = Then Simplified (Then Flattened Copied)
 
--- the same, and before the copies go, no word of a vector stays that nobody reads
-abbrev pub Narrowed : Program → Program → Type 0
-Narrowed = Then Simplified (Then Flattened (Then NarrowVectors Copied))
-
 -- literals stand for the words that alternatives tell; and then the program is tidied
 abbrev pub Told : Program → Program → Type 0
 Told = Then ToldWords Tidied
@@ -44,6 +44,16 @@ abbrev pub OfKnownWords : Program → Program → Type 0
 OfKnownWords = MadeBy (Then Told Settled)
 
 -- no word is fetched from a cell of the procedure's own that is known to hold it; and then the
--- program is tidied, without the words of vectors that nobody reads
+-- program is tidied
 abbrev pub OfOwnCells : Program → Program → Type 0
-OfOwnCells = MadeBy (Then FetchesAnew Narrowed)
+OfOwnCells = MadeBy (Then FetchesAnew Tidied)
+
+-- By the least solution of g words that nobody reads are gone from vectors. It still solves what is
+-- made, and by it cells that nothing reads are gone too; and then copies go.
+pub record LeftOut (g h : Program) : Type 0 where
+  pub solution : Solution
+  pub least : IsLeast (tables g) (system g) solution
+  pub by : Then (NarrowBy solution) (Then (StoredBy solution) Copied) g h
+
+abbrev pub OfDeadStores : Program → Program → Type 0
+OfDeadStores = MadeBy LeftOut

@@ -6,8 +6,8 @@
 /// of words in place of those of nodes, copies that are gone, updates with a known tag, numbers
 /// that are given without their tag, parameters in place of which the words of their nodes stand,
 /// nested blocks in place of which their statements stand, words that are known in place of their
-/// variables, words of the procedure's own cells in place of their fetches, and cells that nothing
-/// reads, which are gone.
+/// variables, words of the procedure's own cells in place of their fetches, and words of vectors that
+/// nobody reads and cells that nothing reads, which are gone.
 #[derive(Clone, Copy, PartialEq, Eq, Debug, Drop)]
 pub enum PassName {
     Translate,

@@ -3,23 +3,25 @@
 ghost use Rattle.std.specs.Prelude.{◌≡◌, IfOk};
 ghost use Rattle.grin_syntax.specs.Tree.{program_of};
 ghost use Rattle.grin_meaning.specs.Keeps.{Keeps};
+ghost use Rattle.grin_meaning.specs.Ready.{IsFetchedByWords};
 ghost use Rattle.pass_ground.specs.Vectors.{OfVectors};
 ghost use Rattle.case_simplify.specs.Simplified.{Simplified};
 ghost use Rattle.copy_prop.specs.Copied.{Copied};
-ghost use Rattle.grin_opt.specs.Several.{MadeBy, Tidied, Narrowed, Told, Settled, OfKnownWords, OfOwnCells};
+ghost use Rattle.grin_opt.specs.Several.{MadeBy, Tidied, Told, Settled, OfKnownWords, OfOwnCells, OfDeadStores};
 ghost use Rattle.grin_opt.specs.Schedule.{IsAfterInlining, IsTaken, IsOfStage, Takes, before, IsPassedBy, IsOptimised};
 
 use crate::pass::PassName;
 use arity_raise::Raise;
 use case_simplify::{Simplify, with_fewer_cases};
 use copy_prop::{Copies, without_copies, without_idle};
-use dead_store::DeadStores;
+use dead_store::without_dead_stores;
 use fetch_passes::Fetches;
 use flat_blocks::Flatten;
 use grin_meaning::Pass;
 use grin_syntax::Grin;
 use known_words::{KnownWords, ToldWords};
-use narrow_vectors::NarrowVectors;
+use least_flow::least;
+use narrow_vectors::without_unread_words;
 use own_cells::Remember;
 use std::alloc::{AllocError, Global};
 use unbox::Unbox;
@@ -56,19 +58,6 @@ fn tidied(alloc: Global, g: Grin) -> Result<Grin, AllocError>
     let simple = simplified(alloc, g)?;
     let flat = Flatten.apply(alloc, simple)?;
     let made = copied(alloc, flat)?;
-    Ok(made)
-}
-
-// The same, and words of vectors that nobody reads go before the copies do.
-fn narrowed(alloc: Global, g: Grin) -> Result<Grin, AllocError>
-    requires { OfVectors (program_of g) }
-    ensures shape { IfOk result (λ h. MadeBy Narrowed (program_of g) (program_of h)) }
-    ensures meaning { IfOk result (λ h. Keeps (program_of g) (program_of h)) }
-{
-    let simple = simplified(alloc, g)?;
-    let flat = Flatten.apply(alloc, simple)?;
-    let narrow = NarrowVectors.apply(alloc, flat)?;
-    let made = copied(alloc, narrow)?;
     Ok(made)
 }
 
@@ -112,7 +101,21 @@ fn without_own_fetches(alloc: Global, g: Grin) -> Result<Grin, AllocError>
     ensures meaning { IfOk result (λ h. Keeps (program_of g) (program_of h)) }
 {
     let remembered = Remember.apply(alloc, g)?;
-    let made = narrowed(alloc, remembered)?;
+    let made = tidied(alloc, remembered)?;
+    Ok(made)
+}
+
+// Words that nobody reads go, then cells that nothing reads, and then copies. Both ask one solution:
+// what solves the flow system with those words solves it without them.
+fn without_unread(alloc: Global, g: Grin) -> Result<Grin, AllocError>
+    requires { OfVectors (program_of g) × IsFetchedByWords (program_of g) }
+    ensures shape { IfOk result (λ h. OfDeadStores (program_of g) (program_of h)) }
+    ensures meaning { IfOk result (λ h. Keeps (program_of g) (program_of h)) }
+{
+    let flow = least(alloc, &g)?;
+    let narrow = without_unread_words(alloc, g, &flow)?;
+    let stored = without_dead_stores(alloc, narrow, &flow)?;
+    let made = copied(alloc, stored)?;
     Ok(made)
 }
 
@@ -134,7 +137,7 @@ pub fn passed(alloc: Global, pass: PassName, g: Grin) -> Result<Grin, AllocError
         PassName::Flat => Flatten.apply(alloc, g),
         PassName::Known => with_literals(alloc, g),
         PassName::Cells => without_own_fetches(alloc, g),
-        PassName::Dead => DeadStores.apply(alloc, g),
+        PassName::Dead => without_unread(alloc, g),
     }
 }
 

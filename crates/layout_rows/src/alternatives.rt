@@ -18,7 +18,8 @@ fn words(alloc: Global, count: u32, value: u32) -> Result<Vec<u32>, AllocError>
     requires { (count ≤ 1000) × (value ≤ 1000) }
 {
     let asm = chosen(alloc, count, value)?;
-    place(alloc, &asm)
+    let placement = place(alloc, &asm, 0)?;
+    Ok(placement.words)
 }
 
 fn chosen(alloc: Global, count: u32, value: u32) -> Result<Asm, AllocError>

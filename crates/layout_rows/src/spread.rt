@@ -22,7 +22,8 @@ pub fn words(
     requires few { before + after ≤ 1000000 }
 {
     let asm = spread(alloc, before, &item, after, last)?;
-    place(alloc, &asm)
+    let placement = place(alloc, &asm, 0)?;
+    Ok(placement.words)
 }
 
 fn spread(alloc: Global, before: u32, item: &Item, after: u32, last: u32) -> Result<Asm, AllocError>

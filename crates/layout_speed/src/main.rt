@@ -82,7 +82,8 @@ fn words(alloc: Global, count: u32) -> Result<Vec<u32>, AllocError>
     requires { count ≤ 10000000 }
 {
     let asm = all_blocks(alloc, count)?;
-    rv32_layout::place(alloc, &asm)
+    let placement = rv32_layout::place(alloc, &asm, 0)?;
+    Ok(placement.words)
 }
 
 fn main(rt: HostRuntime) -> anyhow::Result<()> {

@@ -65,21 +65,22 @@ fn allots(
     Ok(())
 }
 
-/// x0 comes in x10; 7 is live across the call and has the last register, x31; results come in x10
-/// to x12. The called procedure doesn't change x31.
+/// x0 comes in x10. 7 is live across the call and given second, so it waits in x11; results come in
+/// x10 and x12, and the one that nothing uses, as x11 is taken, in x8, the first that is free. The
+/// called procedure changes x11, which is saved.
 #[test]
 fn a_call_saves_what_the_callee_changes(rt: HostRuntime) -> Result<(), AllocError> {
     let low = two(rt.alloc())?;
     let spots = [
         Spot::Reg(10),
-        Spot::Reg(31),
-        Spot::Reg(10),
         Spot::Reg(11),
+        Spot::Reg(10),
+        Spot::Reg(8),
         Spot::Reg(10),
         Spot::Reg(12),
     ];
-    let procedures = [(0x80001C00, 1), (0x1C00, 1)];
-    allots(&rt, rt.alloc(), &low, &spots, &[], &procedures)
+    let procedures = [(0x1D00, 2), (0x1C00, 1)];
+    allots(&rt, rt.alloc(), &low, &spots, &[11], &procedures)
 }
 
 /// Each of x8 to x31 has a variable, and the 25th that is live at once has a slot. They stand where

@@ -4,6 +4,7 @@ pub mod Same
 pub mod Well
 pub mod Shape
 pub mod Sizes
+pub mod Solved
 pub mod PassContract
 pub mod Backward
 pub mod Loops

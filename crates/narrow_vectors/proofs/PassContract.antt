@@ -1,5 +1,5 @@
 -- That the pass meets its contract: the shape of what it makes, and that this keeps the program.
-use Rattle.std.proofs.Common.{◌≡◌, ℕ, ◌+◌, ◌≤◌, ◌*◌, length, sym, subst, arith}
+use Rattle.std.proofs.Common.{refl, ◌≡◌, ℕ, ◌+◌, ◌≤◌, ◌*◌, length, sym, subst, arith}
 use Rattle.grin_syntax.specs.Tree.{Program}
 use Rattle.grin_meaning.specs.Ready.{Ready, most_value_fields}
 use Rattle.grin_meaning.specs.Keeps.{Keeps}
@@ -8,22 +8,23 @@ use Rattle.grin_meaning.specs.Slim.{Slim, procs_weight, procs_calls}
 use Rattle.grin_meaning.proofs.Looked.{looking_law}
 use Rattle.flow_system.specs.Tables.{tables}
 use Rattle.flow_system.specs.System.{system}
-use Rattle.flow_system.specs.Solution.{Solution, IsLeast}
+use Rattle.flow_system.specs.Solution.{Solution, Solves}
 use Rattle.pass_ground.specs.Vectors.{OfVectors}
 use Rattle.pass_ground.specs.OpenUpdates.{tag_variable, one_if_some}
 use Rattle.narrow_vectors.specs.Narrow.{narrow}
-use Rattle.narrow_vectors.specs.NarrowVectors.{ByLeast, NarrowVectors}
+use Rattle.narrow_vectors.specs.NarrowBy.{NarrowBy}
 use Rattle.narrow_vectors.proofs.Same.{narrow_kept}
 use Rattle.narrow_vectors.proofs.Shape.{procs_inlined, procs_by_words, procs_vectorised, procs_narrow, procs_give, procs_params, procs_read, procs_update}
 use Rattle.narrow_vectors.proofs.Sizes.{procs_lighter, procs_calls_stay, procs_words}
+use Rattle.narrow_vectors.proofs.Solved.{still_solves}
 use Rattle.narrow_vectors.proofs.Well.{narrow_formed, narrow_outside}
 
-module _ (g : Program) (A : Solution) (of : OfVectors g) (least : IsLeast (tables g) (system g) A) where
+module _ (g : Program) (A : Solution) (of : OfVectors g) (solves : Solves (tables g) (system g) A) where
   abbrev count : ℕ
   count = length g.tags
 
   kept : LooksNeverMissing (narrow A g) × Keeps g (narrow A g)
-  kept = narrow_kept g A of.formed ((looking_law g of.ready.inlined).sees of.ready.never_missing of.ready.runs) least.solves
+  kept = narrow_kept g A of.formed ((looking_law g of.ready.inlined).sees of.ready.never_missing of.ready.runs) solves
 
   ready : Ready (narrow A g)
   ready = record {
@@ -42,7 +43,7 @@ module _ (g : Program) (A : Solution) (of : OfVectors g) (least : IsLeast (table
     few_words = procs_words count A (20 * most) g.procs s.few_words;
   }
 
-  whole : NarrowVectors g (narrow A g)
+  whole : NarrowBy A g (narrow A g)
   whole = record {
     stays = record {
       of_vectors = record { formed = narrow_formed A g of.formed of.vectorised; ready = ready; vectorised = procs_vectorised count A g.procs of.vectorised };
@@ -50,18 +51,15 @@ module _ (g : Program) (A : Solution) (of : OfVectors g) (least : IsLeast (table
       narrow = λ most. procs_narrow count A most g.procs;
       by_words = procs_by_words count A g.procs;
     };
-    solution = A;
-    least = least;
+    made = refl;
     read = procs_read count A g.procs;
+    still_solves = still_solves g A solves;
     same_open = procs_update count A (λ v. one_if_some (tag_variable v)) g.procs;
     slim = slim;
   }
 
-pub is_narrow : (g h : Program) → OfVectors g → ByLeast g h → NarrowVectors g h
-is_narrow g h of m = subst (NarrowVectors g) (sym m.made) (whole g m.solution of m.least)
+pub is_narrow : (g h : Program) (A : Solution) → OfVectors g → Solves (tables g) (system g) A → h ≡ narrow A g → NarrowBy A g h
+is_narrow g h A of solves e = subst (NarrowBy A g) (sym e) (whole g A of solves)
 
-pub is_kept : (g h : Program) → OfVectors g → ByLeast g h → Keeps g h
-is_kept g h of m = subst (Keeps g) (sym m.made) (kept g m.solution of m.least).1
-
-pub by_least : {g h : Program} {A : Solution} → IsLeast (tables g) (system g) A → h ≡ narrow A g → ByLeast g h
-by_least {A = A} least e = record { solution = A; least = least; made = e }
+pub is_kept : (g h : Program) (A : Solution) → OfVectors g → Solves (tables g) (system g) A → h ≡ narrow A g → Keeps g h
+is_kept g h A of solves e = subst (Keeps g) (sym e) (kept g A of solves).1

@@ -20,7 +20,7 @@ use Rattle.copy_prop.specs.Lean.{used_in_code}
 use Rattle.copy_prop.specs.Copied.{BoundAct, BoundCode, BoundArms}
 use Rattle.narrow_vectors.specs.Picked.{picked, stay}
 use Rattle.narrow_vectors.specs.Narrow.{Picking, picked_val, picked_target, act_fits, code_fits, arms_fit, picking, narrow_act, narrow_code, narrow_arms}
-use Rattle.narrow_vectors.specs.NarrowVectors.{IsRead}
+use Rattle.narrow_vectors.specs.NarrowBy.{IsRead}
 use Rattle.narrow_vectors.proofs.Picks.{picked_shorter}
 use Rattle.narrow_vectors.proofs.Well.{no_variable, no_node}
 

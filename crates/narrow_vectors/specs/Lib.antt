@@ -1,3 +1,3 @@
 pub mod Picked
 pub mod Narrow
-pub mod NarrowVectors
+pub mod NarrowBy

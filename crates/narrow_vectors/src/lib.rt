@@ -1,5 +1,5 @@
-//! A pass over programs of vectors: words of a vector that nobody reads go, from the target that
-//! takes it and from each unit that gives it.
+//! Programs of vectors: by a solution of the program's flow system, words of a vector that nobody
+//! reads go, from the target that takes it and from each unit that gives it.
 #![tactic(auto)]
 
 mod blocks;
@@ -7,4 +7,4 @@ mod fit;
 mod pass;
 mod picked;
 
-pub use pass::{NarrowVectors, with_narrow_vectors};
+pub use pass::without_unread_words;

@@ -267,9 +267,17 @@ fn has_block(blocks: &[(u32, u64)], place: usize, block: (u32, u64)) -> bool
     is_within(block.1, blocks[place].1)
 }
 
-// The first place from one on where a block doesn't stand before the one with this number; from the
-// front, where the place is past it.
-fn place_from(blocks: &[(u32, u64)], place: usize, number: u32) -> usize {
+/// The bits of the block with a number, where it stands at a place, and none elsewhere.
+pub fn bits_there(blocks: &[(u32, u64)], place: usize, number: u32) -> u64 {
+    if !stands_at(blocks, place, number) {
+        return 0;
+    }
+    blocks[place].1
+}
+
+/// The first place from one on where a block doesn't stand before the one with this number; from the
+/// front, where the place is past it.
+pub fn place_from(blocks: &[(u32, u64)], place: usize, number: u32) -> usize {
     let mut at = place;
     if at >= blocks.len() || blocks[at].0 > number {
         at = 0;

@@ -19,7 +19,7 @@ ghost use Rattle.points_to.specs.Known.{held, Grows};
 ghost use Rattle.points_to.specs.ValueWords.{elements_of};
 ghost use Rattle.seq.specs.Lists.{or_empty};
 
-use crate::bits::{Bits, bits_at};
+use crate::bits::{Bits, bits_there, number_of, place_from};
 use crate::facts::Facts;
 use crate::kept::Kept;
 use crate::origin::value_in;
@@ -28,7 +28,7 @@ use crate::stored_tags::stored_word;
 use crate::tags::fields_of;
 use flow_system::fact::{Element, Part, Place};
 use flow_system::inclusion::{FlowSystem, Inclusion, Sink, Source};
-use grin_syntax::program::{Target, Val, VarId, Word};
+use grin_syntax::program::{TagId, Target, Val, VarId, Word};
 use seq::Seq;
 use std::alloc::{AllocError, Global};
 
@@ -99,6 +99,14 @@ impl Copies {
     pub fn has_number(&self, g: u32) -> bool {
         match self.fetches.get(g as usize) {
             Some(fetched) => fetched.words.has(0),
+            None => false,
+        }
+    }
+
+    /// Whether a tag is known to be fetched.
+    pub fn has_tag(&self, g: u32, t: TagId) -> bool {
+        match self.fetches.get(g as usize) {
+            Some(fetched) => fetched.words.has(number_of(Element::Tag(t.0))),
             None => false,
         }
     }
@@ -442,8 +450,14 @@ pub fn put_fresh(blocks: &[(u32, u64)], old: &Bits, out: &mut WordRuns) -> Resul
     ensures { OnOk result ((u : Element') → In u out.new
         → In u out.old ⊎ In u (flat_map block_words blocks.now)) }
 {
+    let mut place = 0;
     for block in blocks {
-        put_left(*block, bits_at(old.blocks.as_slice(), block.0), out)?;
+        place = place_from(old.blocks.as_slice(), place, block.0);
+        put_left(
+            *block,
+            bits_there(old.blocks.as_slice(), place, block.0),
+            out,
+        )?;
     }
     Ok(())
 }

@@ -128,6 +128,17 @@ impl Facts {
         }
     }
 
+    /// The blocks of the words in one part of a place.
+    pub fn blocks(&self, place: Place, part: Part) -> &[(u32, u64)]
+        ensures { flat_map block_words result.now ≡ picked part (held self.now place) }
+    {
+        match place {
+            Place::Site(n) => blocks_at(self.sites.as_slice(), n, part),
+            Place::Var(n) => blocks_at(self.vars.as_slice(), n, part),
+            Place::Result(n) => blocks_at(self.results.as_slice(), n, part),
+        }
+    }
+
     /// The items at a site. Where there is no set of them, there are none.
     pub fn items_at_site(&self, site: u32) -> Option<&Items>
         ensures { MatchOption result (held self.now (Place.Site site) ≡ [])
@@ -197,6 +208,15 @@ fn append_items(sets: &[Items], n: u32, out: &mut ItemRuns) -> Result<(), AllocE
     match sets.get(n as usize) {
         None => Ok(()),
         Some(set) => set.append(out),
+    }
+}
+
+fn blocks_at(sets: &[Items], n: u32, part: Part) -> &[(u32, u64)]
+    ensures { flat_map block_words result.now ≡ picked part (items_at sets.now n) }
+{
+    match sets.get(n as usize) {
+        None => &[],
+        Some(set) => set.blocks(part),
     }
 }
 

@@ -15,7 +15,7 @@ use crate::stored::number_block;
 use crate::tags::fields_of;
 use flow_system::fact::{Element, Place};
 use flow_system::inclusion::{FlowSystem, Inclusion, Sink, Source};
-use grin_syntax::program::{Target, Val, Word};
+use grin_syntax::program::{TagId, Target, Val, Word};
 use seq::Seq;
 use std::alloc::{AllocError, Global};
 
@@ -256,10 +256,7 @@ impl Hints {
             }
         };
         if i == 0 {
-            if self.linked.put(alloc, g, n)? {
-                self.steps.push(Step::Give(g, site, n))?;
-            }
-            return Ok(());
+            return self.visit_tag(alloc, system, state, g, site, n);
         }
         let (tag, fewer) = self.tag_for(system, n, i);
         if fewer && !state.copies.has_number(g) {
@@ -269,6 +266,27 @@ impl Hints {
             if self.linked.put(alloc, g, n)? {
                 self.steps.push(Step::Link(g, site, n, t))?;
             }
+        }
+        Ok(())
+    }
+
+    // The same for a fetch of tags. A tag that it has already isn't given again.
+    fn visit_tag(
+        &mut self,
+        alloc: Global,
+        system: &FlowSystem,
+        state: &State,
+        g: u32,
+        site: u32,
+        n: u32,
+    ) -> Result<(), AllocError> {
+        if let Some(t) = literal_tag(system, n) {
+            if state.copies.has_tag(g, t) {
+                return Ok(());
+            }
+        }
+        if self.linked.put(alloc, g, n)? {
+            self.steps.push(Step::Give(g, site, n))?;
         }
         Ok(())
     }
@@ -751,6 +769,18 @@ impl Hints {
             Some(n) => Ok(Some(Hints::step_of(system, n))),
             None => Ok(None),
         }
+    }
+}
+
+// The tag of the value with a number, where that is a literal.
+fn literal_tag(system: &FlowSystem, n: u32) -> Option<TagId> {
+    match value_in(system.inclusions.get(n as usize)?) {
+        Some(Val::Node(t, _)) => Some(*t),
+        Some(Val::Vector(words)) => match words.get(0) {
+            Some(Word::TagWord(t)) => Some(*t),
+            _ => None,
+        },
+        _ => None,
     }
 }
 

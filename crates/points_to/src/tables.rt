@@ -4,7 +4,6 @@ ghost use Rattle.std.specs.Prelude.{◌≡◌, ◌<◌, ℕ, [], ◌∷◌, ◌+
 ghost use Rattle.std.specs.List.{flat_map};
 ghost use Rattle.std.specs.List.Sorted.{IsStrictlyIncreasing};
 ghost use Rattle.points_to.specs.Bits.{block_words};
-ghost use Rattle.points_to.specs.Held.{picked};
 ghost use Rattle.points_to.specs.Known.{held};
 ghost use Rattle.points_to.specs.Rows.{words_in};
 ghost use Rattle.points_to.specs.Wanted.{tag_in, site_in, by_parts, place_of, SameSet, Lists, site_id, numbers_by, TagTable, SiteTable};
@@ -77,37 +76,22 @@ fn put_all_sites(blocks: &[(u32, u64)], out: &mut Seq<u32>) -> Result<(), AllocE
     Ok(())
 }
 
-// The words in one part of a place.
-fn known_in(alloc: Global, facts: &Facts, place: Place, part: Part) -> Result<WordRuns, AllocError>
-    ensures { IfOk result (λ words. words ≡ picked part (held facts.now place)) }
-{
-    let mut words = WordRuns::new(alloc);
-    facts.append_words(place, part, &mut words)?;
-    Ok(words)
-}
-
 // What is wanted of the items at a place, part by part.
-fn put_parts(
-    alloc: Global,
-    facts: &Facts,
-    place: Place,
-    w: Wanted,
-    out: &mut Seq<u32>,
-) -> Result<(), AllocError>
+fn put_parts(facts: &Facts, place: Place, w: Wanted, out: &mut Seq<u32>) -> Result<(), AllocError>
     ensures { OnOk result (out.new ≡ out.old ++ by_parts w (held facts.now place)) }
 {
     match w {
         Wanted::NodeTags => {
-            put_all_tags(known_in(alloc, facts, place, Part::Tags)?.blocks(), out)?;
+            put_all_tags(facts.blocks(place, Part::Tags), out)?;
             Ok(())
         }
         Wanted::Tags => {
-            put_all_tags(known_in(alloc, facts, place, Part::Tags)?.blocks(), out)?;
-            put_all_tags(known_in(alloc, facts, place, Part::Word(0))?.blocks(), out)?;
+            put_all_tags(facts.blocks(place, Part::Tags), out)?;
+            put_all_tags(facts.blocks(place, Part::Word(0)), out)?;
             Ok(())
         }
         Wanted::Sites => {
-            put_all_sites(known_in(alloc, facts, place, Part::Word(0))?.blocks(), out)?;
+            put_all_sites(facts.blocks(place, Part::Word(0)), out)?;
             Ok(())
         }
     }
@@ -182,7 +166,7 @@ fn numbers_at(alloc: Global, facts: &Facts, place: Place, w: Wanted) -> Result<S
     ensures { IfOk result (λ ns. Lists w (held facts.now place) ns) }
 {
     let mut numbers = Seq::new(alloc);
-    put_parts(alloc, facts, place, w, &mut numbers)?;
+    put_parts(facts, place, w, &mut numbers)?;
     Ok(ascending(numbers))
 }
 

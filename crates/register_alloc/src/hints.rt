@@ -55,16 +55,9 @@ impl Hints {
     }
 
     fn until(&self, at: u32, last: LastUse) -> Hint {
-        if self.is_call_between(at, last.at) {
-            Hint {
-                register: None,
-                stays: true,
-            }
-        } else {
-            Hint {
-                register: Wish::arguments().at_place(last.argument),
-                stays: false,
-            }
+        Hint {
+            register: Wish::arguments().at_place(last.argument),
+            stays: self.is_call_between(at, last.at),
         }
     }
 

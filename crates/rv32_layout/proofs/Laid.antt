@@ -37,7 +37,7 @@ far_of ways items n (Some (Jump link l)) regs =
 abbrev segment : List ℕ → Stretch
 segment words = record { first = 65536; write = false; exec = true; bytes = words_bytes words }
 
-abbrev layout : List Way → List Item → (words : List ℕ) → Layout
+abbrev pub layout : List Way → List Item → (words : List ℕ) → Layout
 layout ways items words = record {
   address = λ n. address (place ways items n);
   far = λ n regs. far_of ways items n (slice_get items n) regs;
@@ -219,8 +219,8 @@ module _ (ways : List Way) (items : List Item) (words : List ℕ) (few : size_of
           let w = words_are in
           omega arith
 
-  pub laid : LabelsStand items → AllPlain items → Placed items words
-  laid labels plain = record {
+  placed : LabelsStand items → AllPlain items → Placed items words
+  placed labels plain = record {
     lay = lay;
     at_first = refl;
     code = refl;
@@ -231,3 +231,7 @@ module _ (ways : List Way) (items : List Item) (words : List ℕ) (few : size_of
         let there = does_turn p.regs rest labels plain p.item i e in
         subst (λ mem. (k : ℕ) × ((k ≤ steps (at p.regs (address (place ways items p.item)) mem) i) × Does lay items p.item i k (at p.regs (address (place ways items p.item)) mem) (turn lay items (record { regs = p.regs; item = p.item; memory = mem })))) (sym m) there;
   }
+
+  pub laid : LabelsStand items → AllPlain items → (placed : Placed items words) × (placed.lay ≡ lay)
+  unfolding placed
+  laid labels plain = (placed labels plain, refl)

@@ -6,3 +6,4 @@ pub mod Does
 pub mod Laid
 pub mod Table
 pub mod Encodes
+pub mod Labelled

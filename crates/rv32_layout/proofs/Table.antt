@@ -1,17 +1,17 @@
 -- The table of labels: what it knows once an item is noted, and that it has the goal of each item.
-use Rattle.std.proofs.Common.{◌≡◌, ℕ, ◌+◌, Bool, true, false, List, length, Some, slice_get, inl, inr, refl, sym, ap, ◌∙◌, subst, arith}
+use Rattle.std.proofs.Common.{◌≡◌, ℕ, ◌+◌, ◌≤◌, Bool, true, false, List, length, Some, slice_get, inl, inr, refl, sym, ap, ◌∙◌, subst, arith}
 use Rattle.std.specs.Prelude.{IsSome, unwrap_or, if◌then◌else◌}
 use Rattle.std.proofs.lemmas.Bool.{cases_eq, eqb-true, eq-eqb, true≢false}
 use Rattle.std.proofs.lemmas.Option.{same_Some, slice_get_within}
 use Rattle.rv32_items.specs.declared.Item.{Item}
 use Rattle.rv32_items.specs.declared.Item.TheVariants.{Label, Plain, Branch, Jump}
-use Rattle.rv32_items.specs.Placed.{target_of, LabelsStand, Stands, times}
+use Rattle.rv32_items.specs.Placed.{size_of, target_of, LabelsStand, Stands, times}
 use Rattle.rv32_items.specs.Course.{is_label, label_from}
 use Rattle.rv32_layout.specs.declared.form.Way.{Way}
 use Rattle.rv32_layout.specs.declared.spots.Spots.{Spots}
 use Rattle.rv32_layout.specs.Places.{place, goal}
-use Rattle.rv32_layout.specs.Spots.{find, KnowsPlaces, Notes, spot_of}
-use Rattle.rv32_layout.proofs.Counts.{place_none}
+use Rattle.rv32_layout.specs.Spots.{find, KnowsPlaces, Notes, HasSpot, spot_of}
+use Rattle.rv32_layout.proofs.Counts.{place_none, place_le}
 use Rattle.rv32_items.proofs.Stands.{stands}
 
 label_true : (l : ℕ) (i : Item) → is_label l i ≡ true → i ≡ Label l
@@ -37,11 +37,17 @@ module _ (items : List Item) (ways : List Way) (i : ℕ) (x : Item) (at : ℕ) (
 
 -- a label that stands once is in the table
 module _ (items : List Item) (ways : List Way) (table : Spots) (known : KnowsPlaces items ways (length items) table) where
-  in_table : (l : ℕ) → times l items ≡ 1 → find table l ≡ Some (place ways items (unwrap_or (label_from 0 items l) 0))
+  pub in_table : (l : ℕ) → times l items ≡ 1 → find table l ≡ Some (place ways items (unwrap_or (label_from 0 items l) 0))
   in_table l once =
       let f = stands l items once in
       let at : unwrap_or (label_from 0 items l) 0 ≡ f.0 = ap (λ o. unwrap_or o 0) f.1.0 in
       known l f.0 f.1.1 (slice_get_within items f.0 (Label l) f.1.1.here) ∙ ap (λ n. Some (place ways items n)) (sym at)
+
+  -- and so many words are at most before it
+  pub has_spot : size_of items ≤ 268435456 → (l : ℕ) → times l items ≡ 1 → HasSpot table l
+  has_spot few l once =
+      let at = place ways items (unwrap_or (label_from 0 items l) 0) in
+      (at, in_table l once, omega (arith, place_le ways items (unwrap_or (label_from 0 items l) 0)))
 
   pub has_target : LabelsStand items → (n : ℕ) (x : Item) → slice_get items n ≡ Some x → (l : ℕ) → target_of x ≡ Some l → IsSome (find table l)
   has_target labels n x e l t = subst (λ o. IsSome o) (sym (in_table l (labels n l x e t))) refl

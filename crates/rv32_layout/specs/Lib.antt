@@ -2,3 +2,4 @@ pub mod Forms
 pub mod Places
 pub mod Plans
 pub mod Spots
+pub mod Addresses

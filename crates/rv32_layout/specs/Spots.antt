@@ -1,5 +1,5 @@
 -- The table of the labels.
-use Rattle.std.specs.Prelude.{◌≡◌, ℕ, ◌<◌, List, length, Option, Some, nat_eq, slice_get, unwrap_or, if◌then◌else◌}
+use Rattle.std.specs.Prelude.{◌≡◌, ℕ, ◌+◌, ◌*◌, ◌<◌, ◌≤◌, List, length, Option, Some, nat_eq, slice_get, unwrap_or, if◌then◌else◌}
 use Rattle.std.specs.HashMap.{get}
 use Rattle.rv32_items.specs.declared.Item.{Item}
 use Rattle.rv32_items.specs.declared.Item.TheVariants.{Label, Plain, Branch, Jump}
@@ -31,6 +31,14 @@ Notes i at old new = (l : ℕ) → find new l ≡ (if is_label l i then Some at 
 abbrev pub KnowsPlaces : List Item → List Way → (first : ℕ) → Spots → Type 0
 KnowsPlaces items ways first table =
     (l n : ℕ) → Stands items l n → n < first → find table l ≡ Some (place ways items n)
+
+-- a label has a spot among the words that code may have
+abbrev pub HasSpot : Spots → (label : ℕ) → Type 0
+HasSpot table l = (at : ℕ) × (find table l ≡ Some at) × (at ≤ 268435456)
+
+-- where a label stands by its spot
+abbrev pub address_by : Spots → (label : ℕ) → ℕ
+address_by table l = 65536 + 4 * unwrap_or (find table l) 0
 
 -- the spot of the item to which an item may go
 abbrev pub spot_of : Spots → Item → ℕ

@@ -1,14 +1,18 @@
 // Where the labels of items stand.
 
-ghost use Rattle.std.specs.Prelude.{◌≡◌, ℕ, ◌≤◌, length, IfOk, OnOk, Some, IsSome};
+ghost use Rattle.std.specs.Prelude.{◌≡◌, ℕ, ◌≤◌, ◌<◌, length, map, IfOk, OnOk, Some, IsSome};
+ghost use Rattle.std.specs.List.{range_with_len};
 ghost use Rattle.rv32_items.specs.Placed.{size_of, target_of};
 ghost use Rattle.rv32_layout.specs.Places.{place};
-ghost use Rattle.rv32_layout.specs.Spots.{find, spot_of, HasRoom, KnowsPlaces};
+ghost use Rattle.rv32_layout.specs.Spots.{find, spot_of, address_by, HasRoom, HasSpot, KnowsPlaces};
 
 use crate::form::{self, Way};
 use crate::spots::Spots;
 use rv32_items::Item;
-use std::alloc::AllocError;
+use std::alloc::{AllocError, Global};
+
+/// The address of the first word.
+const FIRST: u32 = 65536;
 
 /// Notes the place of each label. The answer is the number of all words.
 pub fn places(items: &[Item], ways: &[Way], spots: &mut Spots) -> Result<u32, AllocError>
@@ -35,4 +39,17 @@ pub fn target(item: &Item, spots: &Spots) -> u32
         Item::Label(_) | Item::Plain(_) => 0,
         Item::Branch { label, .. } | Item::Jump { label, .. } => spots.find(*label),
     }
+}
+
+/// The addresses of the labels below `count`.
+pub fn addresses(alloc: Global, count: u32, spots: &Spots) -> Result<Vec<u32>, AllocError>
+    requires { (l : ℕ) → l < count → HasSpot spots.now l }
+    ensures { IfOk result (λ addresses.
+        addresses.items ≡ map (address_by spots.now) (range_with_len 0 count)) }
+{
+    let mut addresses = Vec::with_capacity(alloc, count as usize)?;
+    for label in 0..count {
+        addresses.push(FIRST + 4 * spots.find(label))?;
+    }
+    Ok(addresses)
 }

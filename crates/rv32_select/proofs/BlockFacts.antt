@@ -1,5 +1,5 @@
 -- A block of a procedure in the items, what is known where it begins, and how what is needed is kept where variables are bound.
-use Rattle.std.proofs.Common.{◌≡◌, ◌≢◌, ℕ, ◌+◌, ◌*◌, ◌≤◌, List, [], ◌∷◌, ◌++◌, map, length, get_or, cond, Bool, true, false, Some, ◌⊎◌, inl, inr, refl, sym, ap, ◌∙◌, subst, arith}
+use Rattle.std.proofs.Common.{◌≡◌, ◌≢◌, ℕ, ◌+◌, ◌*◌, ◌≤◌, List, [], ◌∷◌, ◌++◌, map, length, get_or, cond, Bool, true, false, Some, ◌⊎◌, inl, inr, refl, sym, ap, ◌∙◌, subst, arith, ◌-◌}
 use Rattle.std.specs.Prelude.{Option, nat_eq, ◌||◌, slice_get}
 use Rattle.std.proofs.lemmas.Bool.Decides.{nat_tests}
 use Rattle.seq.proofs.Truth.{two_ways}
@@ -19,13 +19,13 @@ use Rattle.rv32_items.specs.Course.{Layout, label_from, address_from}
 use Rattle.rv32_select.specs.declared.source.Way.{Way}
 use Rattle.rv32_select.specs.declared.source.Way.TheVariants.{Returns, Follows, Jumps}
 use Rattle.rv32_select.specs.Emit.{argument_spots, result_spots}
-use Rattle.rv32_select.specs.IsSelected.{Emits, first_label}
+use Rattle.rv32_select.specs.IsSelected.{Emits, first_label, is_lasting, stack_end}
 use Rattle.rv32_select.proofs.Courses.{Stands}
 use Rattle.rv32_select.proofs.Straight.{Data, Good, at}
 use Rattle.rv32_select.proofs.FrameViews.{spots, Outside, Kept}
 use Rattle.rv32_select.proofs.OperandsRead.{IsPlace}
 use Rattle.rv32_select.proofs.Gathering.{AllPlaces}
-use Rattle.rv32_select.proofs.Relation.{bases, regs_of, word_of, AllHold, HoldsCells, HoldsWorld, Keeps, Home, Stood, Back, Does', Given, Needed}
+use Rattle.rv32_select.proofs.Relation.{bases, regs_of, word_of, AllHold, HoldsCells, HoldsWorld, Keeps, Home, Stood, Back, Does', Given, Needed, HasBase}
 use Rattle.rv32_select.proofs.PlaceFacts.{NotAmong, AllApart, IsOwn, AllOwn, Binds, Fine}
 use Rattle.seq.specs.Lists.{is_among}
 use Rattle.seq.proofs.Counted.{among_left, among_right}
@@ -205,7 +205,7 @@ module _ (l : Program) (a : Assignment) (cells stack : ℕ) (lay : Layout) (item
   CallsSimulated calls n =
       (f : ℕ) (q : Procedure) (t m : ℕ) (outer : List ℕ) (vs : List Word) (under bound : ℕ) (w : World) (d : Data)
       → slice_get l.procs f ≡ Some q → label_from 0 items f ≡ Some t
-      → HoldsWorld l a cells stack lay d w → d.regs 2 ≡ (bases stack).stack + 4 * bound → 4 * (bound + under) ≡ stack
+      → HoldsWorld l a cells stack lay d w → HasBase (is_lasting a) (stack_end - stack) d → d.regs 2 ≡ (bases stack).stack + 4 * bound → 4 * (bound + under) ≡ stack
       → d.regs 1 ≡ lay.address m → address_from 0 items lay (lay.address m) ≡ Some m
       → AllHold l.width (argument_spots 0 (map (place_of a) q.params)) vs (regs_of d) → w.left ≤ n
       → Does' lay items begins (λ rs w' p calls'. (d' : Data) × ((p ≡ at (bases stack) lay items m d') × ((calls' ≡ outer) × (Back l a cells stack lay f bound d (result_spots 10 q.results) rs d' w' × (length rs ≡ q.results)))))
@@ -234,6 +234,7 @@ module _ (l : Program) (a : Assignment) (cells stack : ℕ) (lay : Layout) (item
       pub to_differ : AllApart to
       pub in_registers : InRegisters way to
       pub stood : Stood l a cells stack lay here f j slots d0 (lay.address m) Needs d w
+      pub base : HasBase (is_lasting a) (stack_end - stack) d0
       pub left : w.left ≤ n
       pub top_is : top ≡ 1 + slots + u
       pub under_is : (v : ℕ) → under ≡ Some v → (v ≡ u) × (way ≡ Returns)

@@ -1,5 +1,5 @@
 -- Calls.
-use Rattle.std.proofs.Common.{◌≡◌, ◌≢◌, ℕ, suc, ◌+◌, ◌*◌, ◌<◌, ◌≤◌, List, ◌∷◌, ◌++◌, map, length, get_or, Bool, true, false, Some, None, inl, inr, refl, sym, ap, ◌∙◌, subst, arith, length-append}
+use Rattle.std.proofs.Common.{◌≡◌, ◌≢◌, ℕ, suc, ◌+◌, ◌*◌, ◌<◌, ◌≤◌, List, ◌∷◌, ◌++◌, map, length, get_or, Bool, true, false, Some, None, inl, inr, refl, sym, ap, ◌∙◌, subst, arith, length-append, ◌-◌}
 use Rattle.std.specs.Prelude.{Option, nat_eq, slice_get}
 use Rattle.std.proofs.lemmas.Bool.Decides.{nat_tests}
 use Rattle.rv32_isa.specs.declared.instr.Instr.{Instr}
@@ -22,7 +22,7 @@ use Rattle.rv32_items.specs.Course.{Layout, Point, label_from, address_from}
 use Rattle.rv32_items.specs.Placed.{is_instruction}
 use Rattle.rv32_select.specs.declared.source.Way.{Way}
 use Rattle.rv32_select.specs.Emit.{plain, moves_code, spot_moves, number_moves, argument_spots, result_spots, save_moves, restore_moves}
-use Rattle.rv32_select.specs.IsSelected.{sources, params_of, argument_spots_of, results_of, result_spots_of, IsOrder, moves_between, call_items, Then}
+use Rattle.rv32_select.specs.IsSelected.{sources, params_of, argument_spots_of, results_of, result_spots_of, IsOrder, moves_between, call_items, Then, is_lasting, stack_end}
 use Rattle.rv32_select.proofs.Courses.{Stands, front, back}
 use Rattle.rv32_select.proofs.Straight.{Data, does_on, at}
 use Rattle.rv32_select.proofs.JumpStretches.{jumped, calls_to, comes_back, there_less}
@@ -30,7 +30,7 @@ use Rattle.rv32_select.proofs.FrameViews.{spots, InFrame, Outside, in_frame}
 use Rattle.rv32_select.proofs.OperandsRead.{read}
 use Rattle.rv32_select.proofs.Gathering.{gathered}
 use Rattle.rv32_select.proofs.SavedRegisters.{among_index, index_inside}
-use Rattle.rv32_select.proofs.Relation.{bases, regs_of, word_of, AllHold, HoldsWorld, Keeps, Stood, Back, Ran, ran_on, quiet, Does', does_after, does_then, Given, Needed}
+use Rattle.rv32_select.proofs.Relation.{bases, regs_of, word_of, AllHold, HoldsWorld, Keeps, Stood, Back, Ran, ran_on, quiet, Does', does_after, does_then, Given, Needed, base_lasts}
 use Rattle.rv32_select.proofs.PlaceFacts.{NotAmong, IsOwn, Binds, CallFits, SavesFit, ProcedureFine, Setting}
 use Rattle.rv32_select.proofs.BlockFacts.{room, Opened, Simulates, CallsSimulated, bound_word, still_scoped, own_places, kept_not_own, apart_not_among, apart_different, world_kept}
 use Rattle.rv32_select.proofs.OneBound.{Cut, cut, ready_at, plain_ran}
@@ -281,6 +281,7 @@ module _ (l : Program) (a : Assignment) (cells stack : ℕ) (lay : Layout) (item
           to_differ = b.to_differ;
           in_registers = b.in_registers;
           stood = stood;
+          base = b.base;
           left = let le = b.left in omega arith;
           top_is = b.top_is;
           under_is = b.under_is;
@@ -310,7 +311,7 @@ module _ (l : Program) (a : Assignment) (cells stack : ℕ) (lay : Layout) (item
             let back_found = comes_back lay items s.rises pj (ap is_instruction call_stands.0) (behind_call l a cells stack lay items begins s pj 1 g call_stands.0) in
             let top_is = b.top_is in
             let whole_stack : 4 * (j + top) ≡ stack = omega arith in
-            let callee = called g fit.called z.place (suc pj) (m ∷ outer) vs top j w z.to' fit.is_called z.found_label z.world (z.sp ∙ b.stood.frame.sp) whole_stack z.link back_found z.hold b.left in
+            let callee = called g fit.called z.place (suc pj) (m ∷ outer) vs top j w z.to' fit.is_called z.found_label z.world (base_lasts l a g (stack_end - stack) d z.to' z.crossed.kept (base_lasts l a f (stack_end - stack) d0 d b.stood.untouched.others b.base)) (z.sp ∙ b.stood.frame.sp) whole_stack z.link back_found z.hold b.left in
             let G1 = λ (rs : List Word) (w' : World) (p' : Point) (calls' : List ℕ). (d' : Data) × ((p' ≡ at (bases stack) lay items (suc pj) d') × ((calls' ≡ m ∷ outer) × (Back l a cells stack lay g j z.to' (result_spots 10 fit.called.results) rs d' w' × (length rs ≡ fit.called.results)))) in
             let G = Given l a cells stack lay items framed f j pf.slots d0 m outer to way Must in
             let onward = λ (rs : List Word) (w' : World). need (with_vars xs rs env) w' (λ env'. code l (words_at a) (room l a cells stack lay items begins) calls_n env' top under c w') in

@@ -146,10 +146,10 @@ module _ (l : Program) (a : Assignment) (cells stack : ℕ) (lay : Layout) (item
       owned_of y v (inr z) = owned y (must y v z).0
 
   -- one test
-  abbrev OneTest : (cond : Cond) (c0 : Code) (env : Env) (Must : ℕ → Word → Type 0) (next p t : ℕ) (x : LowTest) (d : Data) (w : World) (k : ℕ) → Type 0
+  abbrev pub OneTest : (cond : Cond) (c0 : Code) (env : Env) (Must : ℕ → Word → Type 0) (next p t : ℕ) (x : LowTest) (d : Data) (w : World) (k : ℕ) → Type 0
   OneTest cond c0 env Must next p t x d w k = OneBranch cond c0 env Must next p t x.left (Num x.right) d w k x.right
 
-  one_test : (cond : Cond) (c0 : Code) (scope later : List ℕ) (env : Env) (Must : ℕ → Word → Type 0) (next p t : ℕ) (x : LowTest) (d : Data) (w : World) (k : ℕ) → Stands items p (compare_items cond next (source l a x.left) x.right) → label_from 0 items next ≡ Some t
+  pub one_test : (cond : Cond) (c0 : Code) (scope later : List ℕ) (env : Env) (Must : ℕ → Word → Type 0) (next p t : ℕ) (x : LowTest) (d : Data) (w : World) (k : ℕ) → Stands items p (compare_items cond next (source l a x.left) x.right) → label_from 0 items next ≡ Some t
       → Stood l a cells stack lay framed f j pf.slots d0 (lay.address m) (Needed c0 env Must) d w
       → ((y : ℕ) (v : Word) → env y ≡ Some v → is_among y scope ≡ true) → ((y : ℕ) → is_among y scope ≡ true → IsOwn l a f (slots_of (place_of a) (variables q)) (place_of a y)) → ((y : ℕ) (v : Word) → Must y v → (is_among y scope ≡ true) × (is_among y later ≡ true))
       → ((y : ℕ) → is_among y (used_by x.left) ≡ true → is_among y (uses c0) ≡ true) → TestsSmall (x ∷ []) → number_in l (words_at a) env x.left ≡ Some k → OneTest cond c0 env Must next p t x d w k
@@ -272,6 +272,7 @@ module _ (l : Program) (a : Assignment) (cells stack : ℕ) (lay : Layout) (item
               to_differ = b.to_differ;
               in_registers = further_registers way to b.in_registers;
               stood = stood_weaken l a cells stack lay framed f j pf.slots d0 (lay.address m) (Needed (choose (arm ts c as')) env Must) (Needed c env Must) T.0 w weaken_code T.1.1;
+              base = b.base;
               left = b.left;
               top_is = b.top_is;
               under_is = λ v z. let is = b.under_is v z in (is.0, ap further is.1);
@@ -307,6 +308,7 @@ module _ (l : Program) (a : Assignment) (cells stack : ℕ) (lay : Layout) (item
               to_differ = b.to_differ;
               in_registers = b.in_registers;
               stood = stood_weaken l a cells stack lay framed f j pf.slots d0 (lay.address m) (Needed (choose (arm ts c as')) env Must) (ArmsNeed as' env Must) T.0 w weaken_arms T.1.1;
+              base = b.base;
               left = b.left;
               top_is = b.top_is;
               under_is = b.under_is;
@@ -380,6 +382,7 @@ module _ (l : Program) (a : Assignment) (cells stack : ℕ) (lay : Layout) (item
               to_differ = b.to_differ;
               in_registers = b.in_registers;
               stood = stood_weaken l a cells stack lay framed f j pf.slots d0 (lay.address m) (Needed (choose (arm (t ∷ []) c as')) env Must) (Needed c env Must) T.far w weaken_code T.stood_far';
+              base = b.base;
               left = b.left;
               top_is = b.top_is;
               under_is = b.under_is;
@@ -407,6 +410,7 @@ module _ (l : Program) (a : Assignment) (cells stack : ℕ) (lay : Layout) (item
               to_differ = b.to_differ;
               in_registers = further_registers way to b.in_registers;
               stood = stood_weaken l a cells stack lay framed f j pf.slots d0 (lay.address m) (Needed (choose (arm (t ∷ []) c as')) env Must) (ArmsNeed as' env Must) T.to' w weaken_arms T.stood;
+              base = b.base;
               left = b.left;
               top_is = b.top_is;
               under_is = λ v z. let is = b.under_is v z in (is.0, ap further is.1);
@@ -454,6 +458,7 @@ module _ (l : Program) (a : Assignment) (cells stack : ℕ) (lay : Layout) (item
     to_differ = b.to_differ;
     in_registers = b.in_registers;
     stood = b.stood;
+    base = b.base;
     left = b.left;
     top_is = b.top_is;
     under_is = b.under_is;

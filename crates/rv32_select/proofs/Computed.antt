@@ -1,9 +1,10 @@
 -- Code that computes a word from operands: a word of a cell, an operation; and code that stores a word in a cell.
-use Rattle.std.proofs.Common.{◌≡◌, ◌≢◌, ℕ, ◌+◌, ◌*◌, ◌%◌, ◌^◌, ◌<◌, ◌≤◌, List, [], ◌∷◌, ◌++◌, length, get_or, set, Bool, true, false, ◌⊎◌, inl, inr, refl, ap, ◌∙◌, subst, arith, append_assoc}
-use Rattle.std.specs.Prelude.{if◌then◌else◌}
+use Rattle.std.proofs.Common.{◌≡◌, ◌≢◌, ℕ, ◌+◌, ◌-◌, ◌*◌, ◌%◌, ◌^◌, ◌<◌, ◌≤◌, List, [], ◌∷◌, ◌++◌, length, get_or, set, Bool, true, false, ◌⊎◌, inl, inr, refl, ap, ◌∙◌, subst, arith, append_assoc}
+use Rattle.std.specs.Prelude.{if◌then◌else◌, nat_lt, pos}
 use Rattle.rv32_isa.specs.declared.instr.Instr.{Instr}
-use Rattle.rv32_isa.specs.declared.instr.Instr.TheVariants.{Load}
+use Rattle.rv32_isa.specs.declared.instr.Instr.TheVariants.{Load, Store}
 use Rattle.rv32_isa.specs.declared.instr.LoadKind.TheVariants.{Lw}
+use Rattle.rv32_isa.specs.declared.instr.StoreKind.TheVariants.{Sw}
 use Rattle.rv32_machine.specs.Memory.{Stretch}
 use Rattle.rv32_machine.specs.Arithmetic.{plus}
 use Rattle.rv32_machine.specs.Steps.{set_reg}
@@ -15,7 +16,7 @@ use Rattle.low_code.specs.declared.program.PrimOp.{PrimOp}
 use Rattle.low_code.specs.Arithmetic.{arithmetic}
 use Rattle.rv32_select.specs.declared.source.Source.{Source}
 use Rattle.rv32_select.specs.declared.source.Source.TheVariants.{At, Number}
-use Rattle.rv32_select.specs.Emit.{target, keep, held, hold, load_code, save_code, word_offset, immediate, is_immediate, operands_held, operate_on, operate_in_order, is_free, prim_code}
+use Rattle.rv32_select.specs.Emit.{target, keep, held, hold, low_bits, low_part, high_part, load_code, save_code, immediate, is_immediate, operands_held, operate_on, operate_in_order, is_free, prim_code}
 use Rattle.rv32_select.proofs.Straight.{Data, with_reg, with_heap, Good, Does, does_on, does_load_heap, does_store_heap, small_word}
 use Rattle.rv32_select.proofs.NumberParts.{value_is}
 use Rattle.rv32_select.proofs.FrameViews.{spots, InFrame, Kept, kept_on, in_frame, kept_reg}
@@ -38,18 +39,45 @@ module _ (c : Stretch) (b : Bases) (j slots : ℕ) where
 
   -- ---- words of cells
 
+  -- the low bits of an address in the offset
+  bits_below : (k n : ℕ) → low_bits k n ≤ n
+  bits_below k n = either (nat_lt (n % 2048 + 4 * (k % 512)) 2048)
+    where
+      either : (r : Bool) → (if r then n % 2048 else 0) ≤ n
+      either true = omega arith
+      either false = omega arith
+
+  high_readable : (s : Source) (k : ℕ) → Readable c b j slots s → Readable c b j slots (high_part k s)
+  high_readable (At s) k readable = readable
+  high_readable (Number n) k readable = omega (arith, readable)
+
+  high_there : (s : Source) (k i : ℕ) (d : Data) → read c b j slots d s ≡ b.heap + 4 * i → k < 512 → b.heap + 4 * (i + k) < 2 ^ 32
+      → plus (read c b j slots d (high_part k s)) (low_part k s + 4 * (k % 512)) ≡ b.heap + 4 * (i + k)
+  high_there (At s) k i d is small below = ap (λ x. plus x (0 + 4 * (k % 512))) is ∙ omega (arith, small, below)
+  high_there (Number n) k i d is small below = parts (low_bits k n) (bits_below k n)
+    where
+      parts : (low : ℕ) → low ≤ n → plus (n - low) (low + 4 * (k % 512)) ≡ b.heap + 4 * (i + k)
+      parts low le =
+          let whole : (n - low) + (low + 4 * (k % 512)) ≡ b.heap + 4 * (i + k) = omega (arith, is, small, le) in
+          ap (λ x. x % 2 ^ 32) whole ∙ omega (arith, below)
+
+  -- a word of the heap by this offset from an operand
+  sets_word : (t : Spot) (s : Source) (off i : ℕ) (d : Data) → Good c b d → InFrame c b j slots d → IsPlace c b j slots t → Readable c b j slots s → plus (read c b j slots d s) off ≡ b.heap + 4 * i → i < length d.heap
+      → Sets c b j slots (hold 5 s ++ (Load Lw (target 5 t) (held 5 s) (pos off) ∷ keep 5 t)) d t (get_or d.heap i 0)
+  sets_word t s off i d g f o readable is inside =
+      let h = holds c b j slots 5 s d g f (omega arith) (omega arith) readable in
+      let e = with_reg (with_reg d 7 h.seven) 5 h.own in
+      let place : plus (value e.regs (held 5 s)) off ≡ b.heap + 4 * i = ap (λ x. plus x off) h.value_is' ∙ is in
+      let does = does_on c b h.does (does_load_heap c b (target 5 t) (held 5 s) (pos off) i e h.does.good place inside) in
+      let last = kept_to c b j slots t e (get_or d.heap i 0) o (small_word c b d.heap i g.laid.heap_words) f (hold_kept 5 s d h (omega arith)) (hold_seen 5 s d h (omega arith) (omega arith)) does in
+      subst (λ x. Sets c b j slots x d t (get_or d.heap i 0)) (append_assoc (hold 5 s) (Load Lw (target 5 t) (held 5 s) (pos off) ∷ []) (keep 5 t)) last
+
   pub sets_load : (t : Spot) (s : Source) (k i : ℕ) (d : Data) → Good c b d → InFrame c b j slots d → IsPlace c b j slots t → Readable c b j slots s → read c b j slots d s ≡ b.heap + 4 * i → k < 512 → i + k < length d.heap
       → Sets c b j slots (load_code t s k) d t (get_or d.heap (i + k) 0)
   sets_load t s k i d g f o readable is small inside =
-      let h = holds c b j slots 5 s d g f (omega arith) (omega arith) readable in
-      let e = with_reg (with_reg d 7 h.seven) 5 h.own in
       let below = g.laid.heap_below in
       let top = g.top in
-      let base : value e.regs (held 5 s) ≡ b.heap + 4 * i = h.value_is' ∙ is in
-      let place : plus (value e.regs (held 5 s)) (4 * (k % 512)) ≡ b.heap + 4 * (i + k) = ap (λ x. plus x (4 * (k % 512))) base ∙ omega arith in
-      let does = does_on c b h.does (does_load_heap c b (target 5 t) (held 5 s) (word_offset k) (i + k) e h.does.good place inside) in
-      let last = kept_to c b j slots t e (get_or d.heap (i + k) 0) o (small_word c b d.heap (i + k) g.laid.heap_words) f (hold_kept 5 s d h (omega arith)) (hold_seen 5 s d h (omega arith) (omega arith)) does in
-      subst (λ x. Sets c b j slots x d t (get_or d.heap (i + k) 0)) (append_assoc (hold 5 s) (Load Lw (target 5 t) (held 5 s) (word_offset k) ∷ []) (keep 5 t)) last
+      sets_word t (high_part k s) (low_part k s + 4 * (k % 512)) (i + k) d g f o (high_readable s k readable) (high_there s k i d is small (omega arith)) inside
 
   -- a word of the heap is stored, and no place changes
   pub record Stores (is : List Instr) (d : Data) (i n : ℕ) : Type 0 where
@@ -60,24 +88,22 @@ module _ (c : Stretch) (b : Bases) (j slots : ℕ) where
     pub same : (s : Spot) → IsPlace c b j slots s → spots c b j slots to s ≡ spots c b j slots d s
     pub others : (r : ℕ) → r < 5 → to.regs r ≡ d.regs r
 
-  pub stores_word : (cell word : Source) (k i : ℕ) (d : Data) → Good c b d → InFrame c b j slots d → Readable c b j slots cell → Readable c b j slots word → read c b j slots d cell ≡ b.heap + 4 * i → k < 512 → i + k < length d.heap
-      → Stores (save_code cell k word) d (i + k) (read c b j slots d word)
-  stores_word cell word k i d g f readable readable' is small inside =
+  stores_at : (cell word : Source) (off i : ℕ) (d : Data) → Good c b d → InFrame c b j slots d → Readable c b j slots cell → Readable c b j slots word → plus (read c b j slots d cell) off ≡ b.heap + 4 * i → i < length d.heap
+      → Stores (hold 5 cell ++ (hold 6 word ++ Store Sw (held 6 word) (held 5 cell) (pos off) ∷ [])) d i (read c b j slots d word)
+  stores_at cell word off i d g f readable readable' is inside =
       let h = holds c b j slots 5 cell d g f (omega arith) (omega arith) readable in
       let e = with_reg (with_reg d 7 h.seven) 5 h.own in
       let h' = holds c b j slots 6 word e h.does.good (in_frame c b j slots f (hold_kept 5 cell d h (omega arith))) (omega arith) (omega arith) readable' in
       let e' = with_reg (with_reg e 7 h'.seven) 6 h'.own in
-      let below = g.laid.heap_below in
-      let top = g.top in
-      let base : value e'.regs (held 5 cell) ≡ b.heap + 4 * i =
+      let base : value e'.regs (held 5 cell) ≡ read c b j slots d cell =
       held_stays c b j slots (set_reg e.regs 7 h'.seven) 5 0 6 h'.own cell readable (omega arith) (omega arith) (omega arith)
       ∙ held_stays c b j slots e.regs 5 0 7 h'.seven cell readable (omega arith) (omega arith) (omega arith)
-      ∙ h.value_is' ∙ is in
-      let place : plus (value e'.regs (held 5 cell)) (4 * (k % 512)) ≡ b.heap + 4 * (i + k) = ap (λ x. plus x (4 * (k % 512))) base ∙ omega arith in
+      ∙ h.value_is' in
+      let place : plus (value e'.regs (held 5 cell)) off ≡ b.heap + 4 * i = ap (λ x. plus x off) base ∙ is in
       let same_word = h'.value_is' ∙ read_same c b j slots word d e readable' (hold_seen 5 cell d h (omega arith) (omega arith)) in
-      let store = does_store_heap c b (held 6 word) (held 5 cell) (word_offset k) (i + k) (read c b j slots d word) e' h'.does.good (held_not_seven c b j slots 6 word readable' (omega arith)) place inside same_word in
+      let store = does_store_heap c b (held 6 word) (held 5 cell) (pos off) i (read c b j slots d word) e' h'.does.good (held_not_seven c b j slots 6 word readable' (omega arith)) place inside same_word in
       record {
-        to = with_heap e' (set d.heap (i + k) (read c b j slots d word));
+        to = with_heap e' (set d.heap i (read c b j slots d word));
         does = does_on c b h.does (does_on c b h'.does store);
         heap = refl;
         stack = refl;
@@ -86,6 +112,13 @@ module _ (c : Stretch) (b : Bases) (j slots : ℕ) where
             set_there (set_reg e.regs 7 h'.seven) 6 h'.own r (omega arith) ∙ set_there e.regs 7 h'.seven r (omega arith)
             ∙ set_there (set_reg d.regs 7 h.seven) 5 h.own r (omega arith) ∙ set_there d.regs 7 h.seven r (omega arith);
       }
+
+  pub stores_word : (cell word : Source) (k i : ℕ) (d : Data) → Good c b d → InFrame c b j slots d → Readable c b j slots cell → Readable c b j slots word → read c b j slots d cell ≡ b.heap + 4 * i → k < 512 → i + k < length d.heap
+      → Stores (save_code cell k word) d (i + k) (read c b j slots d word)
+  stores_word cell word k i d g f readable readable' is small inside =
+      let below = g.laid.heap_below in
+      let top = g.top in
+      stores_at (high_part k cell) word (low_part k cell + 4 * (k % 512)) (i + k) d g f (high_readable cell k readable) readable' (high_there cell k i d is small (omega arith)) inside
 
   -- ---- operations
 

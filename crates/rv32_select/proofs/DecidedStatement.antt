@@ -125,6 +125,7 @@ module _ (l : Program) (a : Assignment) (cells stack : ℕ) (lay : Layout) (item
     to_differ = b.to_differ;
     in_registers = registers;
     stood = stood;
+    base = b.base;
     left = b.left;
     top_is = b.top_is;
     under_is = under_is;

@@ -1,5 +1,5 @@
 -- Items of statements, ends and arms that were put behind others.
-use Rattle.std.proofs.Common.{◌≡◌, ◌≢◌, ℕ, suc, ◌+◌, ◌*◌, ◌<◌, ◌≤◌, List, [], ◌∷◌, ◌++◌, map, length, refl, sym, ap, ◌∙◌, append_assoc, append-nil, arith, zero, drop, drop-cons, get_or, subst, Some}
+use Rattle.std.proofs.Common.{◌≡◌, ◌≢◌, ℕ, suc, ◌+◌, ◌*◌, ◌<◌, ◌≤◌, List, [], ◌∷◌, ◌++◌, map, length, refl, sym, ap, ◌∙◌, append_assoc, append-nil, arith, zero, drop, drop-cons, get_or, subst, Some, inr}
 use Rattle.std.specs.Prelude.{slice_get, nat_eq, ◌||◌, Bool, true, false, if◌then◌else◌}
 use Rattle.std.proofs.lemmas.List.{length-map}
 use Rattle.std.proofs.lemmas.Bool.Decides.{nat_tests}
@@ -542,14 +542,14 @@ module _ (l : Program) (a : Assignment) (cells stack words saved : ℕ) (framed 
   last_made to way as' old new n m e t = record {
     items = t.items;
     is = t.is;
-    emits = subst (λ r. elim r as (λ x. Type 0) [ true ↦ EmitsLast l a cells stack words saved framed to way as' n m t.items | false ↦ EmitsArms l a cells stack words saved framed to way as' n m t.items ]) (sym e) t.emits;
+    emits = inr (subst (λ r. elim r as (λ x. Type 0) [ true ↦ EmitsLast l a cells stack words saved framed to way as' n m t.items | false ↦ EmitsArms l a cells stack words saved framed to way as' n m t.items ]) (sym e) t.emits);
   }
 
   pub in_order_made : (to : List Spot) (way : Way) (as' : Arms) (old new : List Item) (n m : ℕ) → stands_last way as' ≡ false → EmittedArms l a cells stack words saved framed to way as' old n new m → Emitted l a cells stack words saved framed to way (choose as') old n new m
   in_order_made to way as' old new n m e t = record {
     items = t.items;
     is = t.is;
-    emits = subst (λ r. elim r as (λ x. Type 0) [ true ↦ EmitsLast l a cells stack words saved framed to way as' n m t.items | false ↦ EmitsArms l a cells stack words saved framed to way as' n m t.items ]) (sym e) t.emits;
+    emits = inr (subst (λ r. elim r as (λ x. Type 0) [ true ↦ EmitsLast l a cells stack words saved framed to way as' n m t.items | false ↦ EmitsArms l a cells stack words saved framed to way as' n m t.items ]) (sym e) t.emits);
   }
 
   -- arms of which the first and the others are known, by the rule

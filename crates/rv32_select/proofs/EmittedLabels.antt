@@ -1,5 +1,6 @@
 -- The labels of a block's own rise.
-use Rattle.std.proofs.Common.{ℕ, suc, ◌≤◌, List, Bool, true, false, arith}
+use Rattle.std.proofs.Common.{ℕ, suc, ◌≤◌, List, Bool, true, false, None, ◌⊎◌, inl, inr, sym, subst, arith}
+use Rattle.low_code.specs.declared.program.Operand.{Operand}
 use Rattle.parallel_move.specs.declared.Spot.{Spot}
 use Rattle.low_code.specs.declared.program.PrimOp.{PrimOp}
 use Rattle.low_code.specs.Tree.{Code, set, prim, load, save, take, put, get, call, join, give, tail, choose, fail, Arms, otherwise, arm, Procedure, Program}
@@ -12,7 +13,9 @@ use Rattle.rv32_select.specs.declared.source.Way.{Way}
 use Rattle.rv32_select.specs.declared.source.Way.TheVariants.{Returns, Follows}
 use Rattle.rv32_select.specs.Emit.{plain, prim_code, result_spots}
 use Rattle.rv32_select.specs.Decides.{decides}
-use Rattle.rv32_select.specs.IsSelected.{Round, Emits, EmitsArms, EmitsLast, EmitsDecided, EmitsDecidedFirst, EmitsDecidedLast, Then, EmitsProcedure, further, places, source, stands_last}
+use Rattle.rv32_select.specs.IsSelected.{EmitsEach, Round, Emits, EmitsArms, EmitsLast, EmitsDecided, EmitsDecidedFirst, EmitsDecidedLast, Then, EmitsProcedure, further, places, source, stands_last}
+use Rattle.rv32_select.specs.Halves.{Sought}
+use Rattle.rv32_select.proofs.HalvesFacts.{AllOf, IsUp, halves_up}
 
 -- what follows of both, whichever it is
 pub whichever : {A : Type 0} (T F : Type 0) (r : Bool) → (T → A) → (F → A) → elim r as (λ x. Type 0) [ true ↦ T | false ↦ F ] → A
@@ -43,7 +46,12 @@ module _ (l : Program) (a : Assignment) (cells stack words saved : ℕ) (framed 
         omega arith
     emits_up (give os) to way n m items h = let e = h.0 in omega arith
     emits_up (tail f site os) to way n m items h = let e = h.0 in omega arith
-    emits_up (choose as') to way n m items h =
+    emits_up (choose as') to way n m items (inl h) =
+        let each = each_up h.0 as' to way h.1 h.2 m h.4 h.6 in
+        let up = halves_up n (source l a h.0) 0 None h.1 (suc n) h.2 h.3 h.5 each.0 in
+        let more = each.1 in
+        omega (arith, up, more)
+    emits_up (choose as') to way n m items (inr h) =
         whichever (EmitsLast l a cells stack words saved framed to way as' n m items) (EmitsArms l a cells stack words saved framed to way as' n m items) (stands_last way as')
         (λ z. last_up as' to way n m items z) (λ z. arms_up as' to way n m items z) h
     emits_up fail to way n m items h = let e = h.0 in omega arith
@@ -54,6 +62,12 @@ module _ (l : Program) (a : Assignment) (cells stack words saved : ℕ) (framed 
         let first = emits_up c to (further way) (suc n) h.0 h.1 h.2 in
         let second = arms_up as' to way h.0 m h.3.0 h.3.2 in
         omega arith
+
+    pub each_up : (word : Operand) (as' : Arms) (to : List Spot) (way : Way) (all : List Sought) (k m : ℕ) (rest : List Item) → EmitsEach l a cells stack words saved framed word to way as' all k m rest → AllOf IsUp all × (k ≤ m)
+    each_up word (otherwise c) to way all k m rest h = (subst (AllOf IsUp) (sym h.0) tt, emits_up c to way k m rest h.1)
+    each_up word (arm ts c as') to way all k m rest h =
+        let more = each_up word as' to way h.1 k m rest h.5 in
+        (subst (AllOf IsUp) (sym h.2) (emits_up c to (further way) h.0.first h.0.next h.0.block h.4, more.0), more.1)
 
     pub last_up : (as' : Arms) (to : List Spot) (way : Way) (n m : ℕ) (items : List Item) → EmitsLast l a cells stack words saved framed to way as' n m items → n ≤ m
     last_up (otherwise c) to way n m items h = absurd h

@@ -1,5 +1,5 @@
 -- The items of a block: its labels, where they go, and how many words they take.
-use Rattle.std.proofs.Common.{◌≡◌, ℕ, suc, ◌+◌, ◌*◌, ◌<◌, ◌≤◌, List, [], ◌∷◌, ◌++◌, length, ◌⊎◌, inl, inr, refl, sym, subst, arith, length-append, append_assoc, Bool, true, false}
+use Rattle.std.proofs.Common.{◌≡◌, ℕ, suc, ◌+◌, ◌*◌, ◌<◌, ◌≤◌, List, [], ◌∷◌, ◌++◌, length, ◌⊎◌, inl, inr, refl, sym, subst, arith, length-append, append_assoc, Bool, true, false, None, ap}
 use Rattle.std.specs.Prelude.{pos}
 use Rattle.std.proofs.lemmas.List.{length-map}
 use Rattle.rv32_isa.specs.declared.instr.Instr.{Instr}
@@ -22,11 +22,16 @@ use Rattle.rv32_select.specs.declared.source.Way.{Way}
 use Rattle.rv32_select.specs.declared.source.Way.TheVariants.{Returns, Follows, Jumps}
 use Rattle.rv32_select.specs.Emit.{put_link, take_link, plain, moves_code, spot_moves, number_moves, take_items, leave_code, save_moves, restore_moves, prim_code, branch_items, test_items, match_items}
 use Rattle.rv32_select.specs.Decides.{decides, tested, condition, other_condition}
-use Rattle.rv32_select.specs.IsSelected.{Round, IsOrder, moves_between, heap_end, heap_full, step, no_alternative, source, sources, places, argument_spots_of, result_spots_of, further, way_out, tests_items, call_items, stands_last, Then, Emits, EmitsArms, EmitsLast, EmitsDecided, EmitsDecidedFirst, EmitsDecidedLast}
+use Rattle.rv32_select.specs.IsSelected.{Round, IsOrder, moves_between, heap_end, heap_full, step, no_alternative, source, sources, places, argument_spots_of, result_spots_of, further, way_out, tests_items, call_items, stands_last, Then, Emits, EmitsArms, EmitsLast, EmitsDecided, EmitsDecidedFirst, EmitsDecidedLast, ByHalves, EmitsEach}
 use Rattle.rv32_select.specs.Writable.{Placed, ArmsPlaced}
 use Rattle.rv32_select.proofs.StaticPieces.{Piece, piece_append, piece_more, set_piece, prim_piece, load_word_piece, save_word_piece, put_piece, get_piece, piece_one, leave_piece, save_piece, restore_piece}
-use Rattle.rv32_select.proofs.EmittedLabels.{whichever, emits_up, arms_up}
+use Rattle.rv32_select.proofs.EmittedLabels.{whichever, emits_up, arms_up, each_up}
 use Rattle.rv32_select.proofs.Parts.{sent_code, between_code, Part, inside_part, code_part, part_append, part_more, part_then, part_under, jump_part, take_part, compare_part, two_words_part, closed_part, tested_part}
+use Rattle.rv32_items.specs.Placed.{size_of}
+use Rattle.rv32_select.specs.Halves.{Sought, Halves}
+use Rattle.rv32_select.proofs.HalvesFacts.{AllOf, all_map, IsUp, StartsFrom, halves_up, halves_from}
+use Rattle.rv32_select.proofs.HalvesParts.{sizes, goes_wider, SoughtPart, halves_part}
+use Rattle.rv32_select.proofs.Flowing.{Goes, Counts}
 
 -- the label behind a block
 abbrev pub IsWay : Way → ℕ → Type 0
@@ -211,6 +216,48 @@ module _ (l : Program) (a : Assignment) (cells stack : ℕ) where
         (part_under procs (Outer way) Inner Few n k most (block ++ Label n ∷ []) in_few closed))
         (part_under procs (Outer way) Behind Few k m most' rest behind_few q)
 
+    -- arms with one test each, by the blocks that stand for them; `miss` is the label where no number is the word
+    record EachPart (miss : ℕ) (way : Way) (as' : Arms) (all : List Sought) (k m : ℕ) (rest : List Item) : Type 0 where
+      pub sought : AllOf (SoughtPart procs (λ j. (miss ≡ j) ⊎ Outer way j)) all
+      pub counts : Counts k m rest
+      pub goes : Goes procs (Outer way) rest
+      pub size : ArmsFewTests as' → 16 * length all + sizes all + size_of rest ≤ arms_most as'
+
+    last_each : (miss : ℕ) (way : Way) (c : Code) (all : List Sought) (k m : ℕ) (rest : List Item) → all ≡ [] → Block way c k m rest → EachPart miss way (otherwise c) all k m rest
+    last_each miss way c all k m rest e p = record {
+      sought = subst (AllOf (SoughtPart procs (λ j. (miss ≡ j) ⊎ Outer way j))) (sym e) tt;
+      counts = p.counts;
+      goes = p.goes;
+      size = λ f. let s = p.size f in let count = ap length e in let words = ap sizes e in omega (arith, s, count, words);
+    }
+
+    one_each : (miss : ℕ) (way : Way) (ts : List LowTest) (c : Code) (as' : Arms) (s : Sought) (all others : List Sought) (k m : ℕ) (rest : List Item) → all ≡ s ∷ others → Block (further way) c s.first s.next s.block
+        → EachPart miss way as' others k m rest → EachPart miss way (arm ts c as') all k m rest
+    one_each miss way ts c as' s all others k m rest e p more = record {
+      sought = subst (AllOf (SoughtPart procs (λ j. (miss ≡ j) ⊎ Outer way j))) (sym e)
+          ((p.counts, goes_wider procs (λ j. (miss ≡ j) ⊎ Outer way j) (Outer (further way)) (λ j h. inr (same_way way j h)) s.block p.goes), more.sought);
+      counts = more.counts;
+      goes = more.goes;
+      size = λ f.
+          let one = p.size f.1 in
+          let rest' = more.size f.2 in
+          let both = length-append (calls_in c) (arms_calls as') in
+          let count = ap length e in
+          let words = ap sizes e in
+          omega (arith, one, rest', both, count, words);
+    }
+
+    by_halves : (way : Way) (word : Operand) (as' : Arms) (all : List Sought) (n k m : ℕ) (search rest items : List Item) → 3 + procs ≤ n → AllOf IsUp all → Halves n (source l a word) 0 None all (suc n) k search → EachPart n way as' all k m rest
+        → items ≡ (search ++ Label n ∷ []) ++ rest → ArmsBlock way as' n m items
+    by_halves way word as' all n k m search rest items le ups h each e =
+        let le' : procs ≤ n = omega (arith, le) in
+        let found = halves_part procs (λ j. (n ≡ j) ⊎ Outer way j) n (source l a word) (inl refl) 0 None all (suc n) k search h (omega (arith, le)) ups each.sought in
+        let few = found.1.0 in
+        let closed = closed_part procs (Outer way) (Unit {0}) (λ j. (n ≡ j) ⊎ Outer way j) n k found.0 search le' (λ j z. z) found.1.1 in
+        let last : Part procs (Outer way) k m (size_of rest) (Unit {0}) rest = record { counts = each.counts; goes = each.goes; size = λ f. omega arith } in
+        let whole = part_then procs (Outer way) (Unit {0}) n k m found.0 (size_of rest) (found.0 + size_of rest) (search ++ Label n ∷ []) rest items e (omega arith) closed last in
+        record { counts = whole.counts; goes = whole.goes; size = λ f. let s = whole.size tt in let bound = each.size f in omega (arith, s, few, bound) }
+
     mutual
       pub block_part : (c : Code) (to : List Spot) (way : Way) (n m : ℕ) (items : List Item) → 3 + procs ≤ n → Placed l a c → Emits l a cells stack words saved framed to way c n m items → Block way c n m items
       block_part (set x b c) to way n m items le p h =
@@ -249,7 +296,13 @@ module _ (l : Program) (a : Assignment) (cells stack : ℕ) where
       block_part (tail f site os) to way n m items le p h =
           let e = h.0 in
           ended way n m (6 * length os + 7) (most (tail f site os)) (FewTests (tail f site os)) _ items e h.3 (omega arith) (tail_part way (FewTests (tail f site os)) f os h.1 n p.0 h.2)
-      block_part (choose as') to way n m items le p h =
+      block_part (choose as') to way n m items le p (inl h) =
+          let each = each_up l a cells stack words saved framed h.0 as' to way h.1 h.2 m h.4 h.6 in
+          let up = halves_up n (source l a h.0) 0 None h.1 (suc n) h.2 h.3 h.5 each.0 in
+          let from = all_map (StartsFrom (suc n)) (StartsFrom (3 + procs)) h.1 (λ s z. let above : suc n ≤ s.first = z in omega (arith, le, above)) (halves_from n (source l a h.0) 0 None h.1 (suc n) h.2 h.3 h.5 each.0) in
+          let parts = each_part n h.0 as' to way h.1 h.2 m h.4 from (omega (arith, le, up)) p h.6 in
+          part_more procs (Outer way) (ArmsFewTests as') n m (arms_most as') (most (choose as')) items (omega arith) (by_halves way h.0 as' h.1 n h.2 m h.3 h.4 items le each.0 h.5 parts h.7)
+      block_part (choose as') to way n m items le p (inr h) =
           let part : ArmsBlock way as' n m items = whichever (EmitsLast l a cells stack words saved framed to way as' n m items) (EmitsArms l a cells stack words saved framed to way as' n m items) (stands_last way as')
           (λ z. last_part as' to way n m items le p z) (λ z. arms_part as' to way n m items le p z) h in
           part_more procs (Outer way) (ArmsFewTests as') n m (arms_most as') (most (choose as')) items (omega arith) part
@@ -263,6 +316,14 @@ module _ (l : Program) (a : Assignment) (cells stack : ℕ) where
           let first = block_part c to (further way) (suc n) h.0 h.1 (omega (arith, le)) p.1 h.2 in
           let rest = arms_part as' to way h.0 m h.3.0 (omega (arith, le, up)) p.2 h.3.2 in
           chosen way ts c as' n h.0 m h.1 h.3.0 items le first rest h.3.1
+
+      each_part : (miss : ℕ) (word : Operand) (as' : Arms) (to : List Spot) (way : Way) (all : List Sought) (k m : ℕ) (rest : List Item) → AllOf (StartsFrom (3 + procs)) all → 3 + procs ≤ k → ArmsPlaced l a as'
+          → EmitsEach l a cells stack words saved framed word to way as' all k m rest → EachPart miss way as' all k m rest
+      each_part miss word (otherwise c) to way all k m rest from le p h = last_each miss way c all k m rest h.0 (block_part c to way k m rest le p h.1)
+      each_part miss word (arm ts c as') to way all k m rest from le p h =
+          let from' = subst (AllOf (StartsFrom (3 + procs))) h.2 from in
+          one_each miss way ts c as' h.0 all h.1 k m rest h.2 (block_part c to (further way) h.0.first h.0.next h.0.block from'.0 p.1 h.4)
+          (each_part miss word as' to way h.1 k m rest from'.1 le p.2 h.5)
 
       pub last_part : (as' : Arms) (to : List Spot) (way : Way) (n m : ℕ) (items : List Item) → 3 + procs ≤ n → ArmsPlaced l a as' → EmitsLast l a cells stack words saved framed to way as' n m items → ArmsBlock way as' n m items
       last_part (otherwise c) to way n m items le p h = absurd h

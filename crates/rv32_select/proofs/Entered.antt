@@ -14,7 +14,7 @@ use Rattle.register_alloc.specs.Fits.{slots_of}
 use Rattle.rv32_items.specs.declared.Item.{Item}
 use Rattle.rv32_select.specs.declared.source.Way.TheVariants.{Returns}
 use Rattle.rv32_select.specs.Emit.{result_spots, entry_items, start_items, stop_items}
-use Rattle.rv32_select.specs.IsSelected.{EmitsProcedure, EmitsProcedures, IsSelected, stack_full, stack_end, heap_base, heap_end, heap_full, step, first_call, first_label, no_alternative}
+use Rattle.rv32_select.specs.IsSelected.{EmitsProcedure, EmitsProcedures, IsSelected, stack_full, stack_end, heap_base, heap_end, heap_full, step, first_call, first_label, no_alternative, is_lasting}
 use Rattle.rv32_select.specs.Ranges.{AreSpots}
 use Rattle.rv32_select.specs.Writable.{Writable, Placed, ProcedurePlaced}
 use Rattle.rv32_select.specs.Emitting.{Emitted, EmittedProcedure}
@@ -32,12 +32,12 @@ few_spots low a q xs made spots p is e h =
     let size : length spots ≡ length q.params = ap length (params_are a q xs made spots is e h).0 ∙ length-map q.params (place_of a) in
     omega (arith, size, p.few_params)
 
-pub procedure_made : (low : Low) (a : Assignment) (cells stack : ℕ) (procs : List LowProc) (f : ℕ) (q : LowProc) (words saved full base : ℕ) (framed : Bool) (params results : List Spot) (old mid new : List Item) (n m : ℕ) → f < length low.procs → procs ≡ low.procs → q ≡ get_or procs f q
-    → words ≡ words_at a f → saved ≡ slots_of (place_of a) (variables (procedure_of q)) → (params ≡ map (place_of a) q.params) × AreSpots params → full ≡ stack_full (program_of low) → base ≡ stack_end - stack → mid ≡ old ++ entry_items f words framed base full params → results ≡ result_spots 10 q.results
+pub procedure_made : (low : Low) (a : Assignment) (cells stack : ℕ) (procs : List LowProc) (f : ℕ) (q : LowProc) (words saved full base : ℕ) (framed lasting : Bool) (params results : List Spot) (old mid new : List Item) (n m : ℕ) → f < length low.procs → procs ≡ low.procs → q ≡ get_or procs f q
+    → words ≡ words_at a f → saved ≡ slots_of (place_of a) (variables (procedure_of q)) → (params ≡ map (place_of a) q.params) × AreSpots params → full ≡ stack_full (program_of low) → base ≡ stack_end - stack → lasting ≡ is_lasting a → mid ≡ old ++ entry_items f words framed lasting base full params → results ≡ result_spots 10 q.results
     → Emitted (program_of low) a cells stack words saved framed results Returns (code_of q.body) mid n new m → EmittedProcedure (program_of low) a cells stack f old n new m
-procedure_made low a cells stack procs f q words saved full base framed params results old mid new n m lt e is at first_saved given fulls bases comes rs b =
-    let entry = entry_items f (words_at a f) framed (stack_end - stack) (stack_full (program_of low)) (map (place_of a) q.params) in
-    let first : mid ≡ old ++ entry = comes ∙ (λ i. old ++ entry_items f (at i) framed (bases i) (fulls i) (given.0 i)) in
+procedure_made low a cells stack procs f q words saved full base framed lasting params results old mid new n m lt e is at first_saved given fulls bases lasts comes rs b =
+    let entry = entry_items f (words_at a f) framed (is_lasting a) (stack_end - stack) (stack_full (program_of low)) (map (place_of a) q.params) in
+    let first : mid ≡ old ++ entry = comes ∙ (λ i. old ++ entry_items f (at i) framed (lasts i) (bases i) (fulls i) (given.0 i)) in
     record {
       items = entry ++ b.items;
       is = b.is ∙ ap (λ x. x ++ b.items) first ∙ append_assoc old entry b.items;
@@ -90,12 +90,12 @@ next_procedure low a cells stack f f' count old mid new n k m size lt next t p =
 -- all items of a program
 pub whole_made : (low : Low) (a : Assignment) (cells stack count f n m : ℕ) (empty started called last new : List Item) → count ≡ length low.procs → count ≤ f → empty ≡ []
     → started ≡ empty ++ start_items stack_end heap_base (heap_end (program_of low) cells) (step (program_of low)) (heap_full (program_of low)) low.globals
-    → called ≡ started ++ first_call (program_of low) a → n ≡ first_label (program_of low) → Procedures (program_of low) a cells stack (program_of low).procs f called n last m
+    → called ≡ started ++ first_call (program_of low) a (stack_end - stack) → n ≡ first_label (program_of low) → Procedures (program_of low) a cells stack (program_of low).procs f called n last m
     → new ≡ last ++ stop_items (no_alternative (program_of low)) → IsSelected (program_of low) a cells stack new
 whole_made low a cells stack count f n m empty started called last new size over none starts calls next t stops =
     let l = program_of low in
     let head = start_items stack_end heap_base (heap_end l cells) (step l) (heap_full l) low.globals in
-    let first = first_call l a in
+    let first = first_call l a (stack_end - stack) in
     let tail = stop_items (no_alternative l) in
     let past : drop f l.procs ≡ [] = drop_past l.procs f (let e = length-map low.procs procedure_of in omega (arith, size, over, e)) in
     let all : EmitsProcedures l a cells stack 0 l.procs n m (t.items ++ []) = t.emits m [] (subst (λ qs. EmitsProcedures l a cells stack f qs m m []) (sym past) (refl, refl)) in

@@ -271,7 +271,7 @@ module _ (l : Program) (a : Assignment) (fits : Fits l a) (formed : Formed l) (n
   call_fits k site g e =
       let range = call_at (length l.procs) (calls_in q.body) k (site, g) e (calls_at (length l.procs) l.procs f q is formed.calls_in_range) in
       let q' = some_at l.procs g range in
-      record { called = q'.0; is_called = q'.1; keeps = λ r h. record { variable = h.variable; among = h.among; place = h.place; low = h.low; high = h.high; unchanged = by_mask r range h.unchanged (two_ways (may_change a g r)) } }
+      record { called = q'.0; is_called = q'.1; keeps = λ r h. record { held = h.held; low = h.low; high = h.high; unchanged = by_mask r range h.unchanged (two_ways (may_change a g r)) } }
     where
       by_mask : (r : ℕ) → g < length l.procs → may_change a f r ≡ false → (may_change a g r ≡ true) ⊎ (may_change a g r ≡ false) → may_change a g r ≡ false
       by_mask r range kept (inl t) = absurd (not_both (may_change a f r) ((fits.written f r within).1 (called f g site r q is k e ((fits.written g r range).0 t))) kept)
@@ -302,7 +302,7 @@ module _ (l : Program) (a : Assignment) (fits : Fits l a) (formed : Formed l) (n
       by_mask k e y r live e' (inr t) =
           let among = variables_within l.procs f q is y (h.known y live.0) in
           let place = subst IsPlace e' (fits.places y among) in
-          inr (record { variable = y; among = among; place = e'; low = place.0; high = place.1; unchanged = t })
+          inr (record { held = inl (y, (among, e')); low = place.0; high = place.1; unchanged = t })
 
   binds_fit : (scope xs bound : List ℕ) (size : ℕ) (sites : List Site) (Live : ℕ → ℕ → Type 0) (c : Code) (later : List ℕ) → Apart (place_of a) scope xs c later → Inside q scope (xs ++ bound) size sites Live → Binds l a f slots saved scope xs c later
   binds_fit scope xs bound size sites Live c later apart h = (apart, all_own xs (λ x e. h.own x (among_left x xs bound e)))
@@ -400,7 +400,10 @@ module _ (l : Program) (a : Assignment) (fits : Fits l a) (formed : Formed l) (n
       subst Given (sym here) (record { own = registers_own 8 (length q.params) (omega arith) (omega arith) none; differ = results_apart 8 (length q.params) })
     where
       none : (k : ℕ) → 8 ≤ k → k < 8 + length q.params → Free l a f k
-      none k low high h = subst IsSlot h.place (all h.variable h.among)
+      none k low high h = elim h.held [
+        | inl x ↦ subst IsSlot x.1.1 (all x.0 x.1.0)
+        | inr far ↦ absurd (omega (arith, few, high, far))
+      ]
   arguments_given few (inr registers) =
       let regs = λ (x : ℕ) (e : is_among x q.params ≡ true). registers f x q is e in
       let here : argument_spots 0 (map (place_of a) q.params) ≡ map (place_of a) q.params = registers_given (place_of a) q.params 0 regs in

@@ -60,6 +60,7 @@ module _ (l : Program) (a : Assignment) (cells stack : ℕ) (lay : Layout) (item
       to_differ = apart_different l a scope xs c later b.fine.1.0.0;
       in_registers = tt;
       stood = stood_weaken l a cells stack lay framed f j pf.slots d0 (lay.address m) (Needed (join xs bb c) env Must) (Needed bb env (Needed c env Must)) d w weaker b.stood;
+      base = b.base;
       left = b.left;
       top_is = b.top_is;
       under_is = λ v e. absurd (cc);
@@ -108,6 +109,7 @@ module _ (l : Program) (a : Assignment) (cells stack : ℕ) (lay : Layout) (item
               to_differ = b.to_differ;
               in_registers = b.in_registers;
               stood = record { world = st.world; frame = st.frame; home = st.home; vars = vars e rs env' bind hold st.vars; untouched = st.untouched };
+              base = b.base;
               left = let le = b.left in omega arith;
               top_is = b.top_is;
               under_is = b.under_is;

@@ -29,10 +29,12 @@ pub mod SavedRegisters
 pub mod TailStatement
 pub mod CallParts
 pub mod CallStatement
+pub mod HalvesFacts
 pub mod EmittedLabels
 pub mod JoinStatement
 pub mod ChoiceStatement
 pub mod DecidedStatement
+pub mod SearchStatement
 pub mod MachineCalls
 pub mod ByteStatements
 pub mod Simulation
@@ -47,6 +49,7 @@ pub mod Weight
 pub mod Emitted
 pub mod VariableUsed
 pub mod Deciding
+pub mod EmittedHalves
 pub mod Entered
 pub mod Among
 pub mod Writes
@@ -54,6 +57,7 @@ pub mod SlotsOf
 pub mod StaticPieces
 pub mod Flowing
 pub mod Parts
+pub mod HalvesParts
 pub mod EmittedParts
 pub mod WholeParts
 pub mod Statics

@@ -98,6 +98,7 @@ module _ (l : Program) (a : Assignment) (cells stack : ℕ) (lay : Layout) (item
             others = λ r h. P.regs r ∙ b.stood.untouched.others r h;
           };
         };
+        base = b.base;
         left = b.left;
         top_is = b.top_is;
         under_is = b.under_is;
@@ -149,6 +150,7 @@ module _ (l : Program) (a : Assignment) (cells stack : ℕ) (lay : Layout) (item
             others = λ r h. (let lo = h.low in set_there d.regs 1 link r (omega arith)) ∙ b.stood.untouched.others r h;
           };
         };
+        base = b.base;
         left = b.left;
         top_is = b.top_is;
         under_is = b.under_is;

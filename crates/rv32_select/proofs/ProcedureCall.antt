@@ -15,8 +15,9 @@ use Rattle.rv32_items.specs.Course.{Layout, Point, label_from, address_from}
 use Rattle.rv32_select.specs.declared.source.Way.TheVariants.{Returns}
 use Rattle.rv32_select.specs.Emit.{argument_spots, result_spots}
 use Rattle.rv32_select.proofs.Courses.{Stands, stays}
+use Rattle.rv32_select.specs.IsSelected.{is_lasting, stack_end}
 use Rattle.rv32_select.proofs.Straight.{Data, at}
-use Rattle.rv32_select.proofs.Relation.{bases, regs_of, AllHold, HoldsWorld, Back, quiet, Does', does_after, does_then, Given}
+use Rattle.rv32_select.proofs.Relation.{bases, regs_of, AllHold, HoldsWorld, Back, quiet, Does', does_after, does_then, Given, HasBase}
 use Rattle.rv32_select.proofs.PlaceFacts.{ProcedureFine, Setting}
 use Rattle.rv32_select.proofs.BlockFacts.{room, Block, Simulates, still_scoped, own_at, free_own}
 use Rattle.rv32_select.proofs.ProcedureEntry.{NoMust, at_stands, entered, stack_is_full}
@@ -55,13 +56,13 @@ module _ (l : Program) (a : Assignment) (cells stack : ℕ) (lay : Layout) (item
 
   pub call_simulated : BodySimulates → (t m : ℕ) (outer : List ℕ) (vs : List Word) (under bound : ℕ) (w : World) (d : Data)
       → slice_get l.procs f ≡ Some q → label_from 0 items f ≡ Some t
-      → HoldsWorld l a cells stack lay d w → d.regs 2 ≡ (bases stack).stack + 4 * bound → 4 * (bound + under) ≡ stack
+      → HoldsWorld l a cells stack lay d w → HasBase (is_lasting a) (stack_end - stack) d → d.regs 2 ≡ (bases stack).stack + 4 * bound → 4 * (bound + under) ≡ stack
       → d.regs 1 ≡ lay.address m → address_from 0 items lay (lay.address m) ≡ Some m
       → AllHold l.width (argument_spots 0 (map (place_of a) q.params)) vs (regs_of d) → w.left ≤ suc n
       → Does' lay items begins (λ rs w' p calls'. (d' : Data) × ((p ≡ at (bases stack) lay items m d') × ((calls' ≡ outer) × (Back l a cells stack lay f bound d (result_spots 10 q.results) rs d' w' × (length rs ≡ q.results)))))
       (at (bases stack) lay items t d) (m ∷ outer) w (calls l (words_at a) (room l a cells stack lay items begins) (suc n) f vs under w)
   unfolding calls
-  call_simulated bodies t m outer vs under bound w d is_q found h sp total link home args units = by_units w.left refl
+  call_simulated bodies t m outer vs under bound w d is_q found h base sp total link home args units = by_units w.left refl
     where
       G : List Word → World → Point → List ℕ → Type 0
       G rs w' p calls' = (d' : Data) × ((p ≡ at (bases stack) lay items m d') × ((calls' ≡ outer) × (Back l a cells stack lay f bound d (result_spots 10 q.results) rs d' w' × (length rs ≡ q.results))))
@@ -78,11 +79,11 @@ module _ (l : Program) (a : Assignment) (cells stack : ℕ) (lay : Layout) (item
             | true ↦ stops stack_full' (spent f (under + words_at a f) left w)
             | false ↦ as_many q.results (code l (words_at a) (room l a cells stack lay items begins) (calls l (words_at a) (room l a cells stack lay items begins) n) env (under + words_at a f) (Some under) q.body (spent f (under + words_at a f) left w))
           ])
-      by_limit left e env bind true over = stack_is_full l a cells stack lay items begins s f q pf t m bound under left outer vs w d is_q found h sp total link args e (grind (arith, nat_tests))
+      by_limit left e env bind true over = stack_is_full l a cells stack lay items begins s f q pf t m bound under left outer vs w d is_q found h base sp total link args e (grind (arith, nat_tests))
       by_limit left e env bind false fits =
           let room_is : 4 * (under + words_at a f) ≤ stack = grind (arith, nat_tests) in
-          let z = entered l a cells stack lay items begins s f q pf t m bound under left outer vs w d is_q found h sp total link args e env room_is bind in
-          let st = at_stands l a cells stack lay items begins s f q pf t m bound under left outer vs w d is_q found h sp total link args e in
+          let z = entered l a cells stack lay items begins s f q pf t m bound under left outer vs w d is_q found h base sp total link args e env room_is bind in
+          let st = at_stands l a cells stack lay items begins s f q pf t m bound under left outer vs w d is_q found h base sp total link args e in
           let words = pf.words in
           let j = bound - (1 + pf.slots) in
           let w' = spent f (under + words_at a f) left w in
@@ -101,6 +102,7 @@ module _ (l : Program) (a : Assignment) (cells stack : ℕ) (lay : Layout) (item
             to_differ = pf.results_differ;
             in_registers = refl;
             stood = z.stood;
+            base = base;
             left = omega arith;
             top_is = omega arith;
             under_is = λ v k. ((cc), refl);

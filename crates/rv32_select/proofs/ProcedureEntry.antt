@@ -21,15 +21,15 @@ use Rattle.rv32_items.specs.declared.Cond.TheVariants.{Ltu}
 use Rattle.rv32_items.specs.declared.Item.{Item}
 use Rattle.rv32_items.specs.declared.Item.TheVariants.{Branch}
 use Rattle.rv32_items.specs.Course.{Layout, label_from}
-use Rattle.rv32_select.specs.Emit.{plain, link_put, add_to, load_constant, argument_spots, parameters_code, entry_items}
-use Rattle.rv32_select.specs.IsSelected.{stack_end}
+use Rattle.rv32_select.specs.Emit.{plain, link_put, add_to, load_constant, argument_spots, parameters_code, entry_items, base_register, base_at_entry}
+use Rattle.rv32_select.specs.IsSelected.{stack_end, is_lasting}
 use Rattle.rv32_select.proofs.Courses.{Stands, front, back}
 use Rattle.rv32_select.proofs.Straight.{Data, with_reg, with_stack, Good, Does, does_nothing, does_on, does_store_stack, at}
 use Rattle.rv32_select.proofs.NumberParts.{value_is, does_add, does_number}
 use Rattle.rv32_select.proofs.JumpStretches.{with_regs, passes, branches, goes_on}
 use Rattle.rv32_select.proofs.FrameViews.{spots, InFrame, Kept, kept, kept_on, in_frame, stores}
 use Rattle.rv32_select.proofs.OperandsRead.{IsPlace, put_here, put_there}
-use Rattle.rv32_select.proofs.Relation.{bases, regs_of, word_of, AllHold, HoldsWorld, home_kept, Stood, Ran, Ends, ran_on, ends_on, quiet, enters, Needed}
+use Rattle.rv32_select.proofs.Relation.{bases, regs_of, word_of, AllHold, HoldsWorld, home_kept, Stood, Ran, Ends, ran_on, ends_on, quiet, enters, Needed, HasBase, base_same}
 use Rattle.rv32_select.proofs.PlaceFacts.{NotAmong, AllApart, AllOwn, AllFree, ProcedureFine, StandsAt, Setting}
 use Rattle.rv32_select.proofs.BlockFacts.{bound_word, own_place, apart_different}
 use Rattle.rv32_select.proofs.OneBound.{plain_ran}
@@ -101,7 +101,27 @@ places_many place [] = refl
 places_many place (x ∷ xs) = ap suc (places_many place xs)
 
 module _ (l : Program) (a : Assignment) (cells stack : ℕ) (lay : Layout) (items : List Item) (begins : List ℕ) (s : Setting l a cells stack lay items begins) (f : ℕ) (q : Procedure) (pf : ProcedureFine l a f q) where
-  -- the frame's test: x2 goes down, and x5 has the stack's base
+  -- the stack's base is ready
+  record BaseReady (t : Bool) (d : Data) : Type 0 where
+    pub to : Data
+    pub does : Does lay.code (bases stack) (base_at_entry t (stack_end - stack)) d to
+    pub same : (r : ℕ) → r ≢ 5 → to.regs r ≡ d.regs r
+    pub heap : to.heap ≡ d.heap
+    pub stack' : to.stack ≡ d.stack
+    pub is : value to.regs (base_register t) ≡ stack_end - stack
+
+  base_ready : (t : Bool) (d : Data) → Good lay.code (bases stack) d → HasBase t (stack_end - stack) d → BaseReady t d
+  base_ready true d g h = record { to = d; does = does_nothing lay.code (bases stack) d g; same = λ r ne. refl; heap = refl; stack' = refl; is = h }
+  base_ready false d g h = record {
+    to = with_reg d 5 (stack_end - stack);
+    does = does_number lay.code (bases stack) 5 (stack_end - stack) d g (omega arith) (omega arith);
+    same = λ r ne. set_there d.regs 5 (stack_end - stack) r ne;
+    heap = refl;
+    stack' = refl;
+    is = refl;
+  }
+
+  -- the frame's test: x2 goes down
   record FrameTested (bound p : ℕ) (d : Data) (calls : List ℕ) (w : World) (rest : List Item) : Type 0 where
     pub to : Data
     pub good : Good lay.code (bases stack) to
@@ -109,26 +129,25 @@ module _ (l : Program) (a : Assignment) (cells stack : ℕ) (lay : Layout) (item
     pub same : (r : ℕ) → r ≢ 2 → r ≢ 5 → to.regs r ≡ d.regs r
     pub heap : to.heap ≡ d.heap
     pub stack' : to.stack ≡ d.stack
-    pub ran : Ran lay items begins (at (bases stack) lay items p d) calls w (at (bases stack) lay items (p + length (plain (add_to 2 2 (negated (4 * words_at a f)) ++ load_constant 5 (stack_end - stack)))) to) calls w
-    pub five : to.regs 5 ≡ stack_end - stack
+    pub ran : Ran lay items begins (at (bases stack) lay items p d) calls w (at (bases stack) lay items (p + length (plain (add_to 2 2 (negated (4 * words_at a f)) ++ base_at_entry (is_lasting a) (stack_end - stack)))) to) calls w
+    pub five : value to.regs (base_register (is_lasting a)) ≡ stack_end - stack
 
-  frame_tested : (bound p : ℕ) (d : Data) (calls : List ℕ) (w : World) (rest : List Item) → Good lay.code (bases stack) d → Stands items p (plain (add_to 2 2 (negated (4 * words_at a f)) ++ load_constant 5 (stack_end - stack))) → FrameTested bound p d calls w rest
-  frame_tested bound p d calls w rest g stands =
+  frame_tested : (bound p : ℕ) (d : Data) (calls : List ℕ) (w : World) (rest : List Item) → Good lay.code (bases stack) d → HasBase (is_lasting a) (stack_end - stack) d → Stands items p (plain (add_to 2 2 (negated (4 * words_at a f)) ++ base_at_entry (is_lasting a) (stack_end - stack))) → FrameTested bound p d calls w rest
+  frame_tested bound p d calls w rest g base stands =
       let x = plus (d.regs 2) (negated (4 * words_at a f)) in
       let add = does_add lay.code (bases stack) 2 2 (negated (4 * words_at a f)) d g (omega arith) (omega arith) (omega arith) in
       let d1 = with_reg (with_reg d 5 add.scratch) 2 x in
-      let base = does_number lay.code (bases stack) 5 (stack_end - stack) d1 add.does.good (omega arith) (omega arith) in
-      let to = with_reg d1 5 (stack_end - stack) in
-      let does = does_on lay.code (bases stack) add.does base in
+      let B = base_ready (is_lasting a) d1 add.does.good (base_same (is_lasting a) (stack_end - stack) d d1 refl base) in
+      let does = does_on lay.code (bases stack) add.does B.does in
       record {
-        to = to;
+        to = B.to;
         good = does.good;
-        sp = refl;
-        same = λ r n2 n5. set_there d1.regs 5 (stack_end - stack) r n5 ∙ set_there (set_reg d.regs 5 add.scratch) 2 x r n2 ∙ set_there d.regs 5 add.scratch r n5;
-        heap = refl;
-        stack' = refl;
-        ran = plain_ran l a cells stack lay items begins (add_to 2 2 (negated (4 * words_at a f)) ++ load_constant 5 (stack_end - stack)) p d to calls w g does stands;
-        five = refl;
+        sp = B.same 2 (omega arith);
+        same = λ r n2 n5. B.same r n5 ∙ set_there (set_reg d.regs 5 add.scratch) 2 x r n2 ∙ set_there d.regs 5 add.scratch r n5;
+        heap = B.heap;
+        stack' = B.stack';
+        ran = plain_ran l a cells stack lay items begins (add_to 2 2 (negated (4 * words_at a f)) ++ base_at_entry (is_lasting a) (stack_end - stack)) p d B.to calls w g does stands;
+        five = B.is;
       }
 
   abbrev pub NoMust : ℕ → Word → Type 0
@@ -142,13 +161,13 @@ module _ (l : Program) (a : Assignment) (cells stack : ℕ) (lay : Layout) (item
     pub ran : Ran lay items begins (at (bases stack) lay items t d) (m ∷ outer) w (at (bases stack) lay items start to) (m ∷ outer) (spent f (under + words_at a f) left w)
     pub stood : Stood l a cells stack lay framed f (bound - (1 + pf.slots)) pf.slots d (lay.address m) (Needed q.body env NoMust) to (spent f (under + words_at a f) left w)
 
-  module _ (t m bound under left : ℕ) (outer : List ℕ) (vs : List Word) (w : World) (d : Data) (is_q : slice_get l.procs f ≡ Some q) (found : label_from 0 items f ≡ Some t) (h : HoldsWorld l a cells stack lay d w)
+  module _ (t m bound under left : ℕ) (outer : List ℕ) (vs : List Word) (w : World) (d : Data) (is_q : slice_get l.procs f ≡ Some q) (found : label_from 0 items f ≡ Some t) (h : HoldsWorld l a cells stack lay d w) (base : HasBase (is_lasting a) (stack_end - stack) d)
       (sp : d.regs 2 ≡ (bases stack).stack + 4 * bound) (total : 4 * (bound + under) ≡ stack) (link : d.regs 1 ≡ lay.address m) (args : AllHold l.width (argument_spots 0 (map (place_of a) q.params)) vs (regs_of d)) (units : w.left ≡ suc left) where
     abbrev w' : World
     w' = spent f (under + words_at a f) left w
 
     abbrev branch : Item
-    branch = Branch Ltu 2 5 (2 + length l.procs)
+    branch = Branch Ltu 2 (base_register (is_lasting a)) (2 + length l.procs)
 
     pub at_stands : StandsAt l a cells stack items f q
     at_stands = s.procedures f q is_q
@@ -160,20 +179,20 @@ module _ (l : Program) (a : Assignment) (cells stack : ℕ) (lay : Layout) (item
         let two : Some at_stands.place ≡ Some t = sym here ∙ found in
         cc
 
-    entry_stands : Stands items t (entry_items f (words_at a f) at_stands.emits.framed (stack_end - stack) (2 + length l.procs) (map (place_of a) q.params) ++ at_stands.emits.block)
-    entry_stands = subst (λ x. Stands items x (entry_items f (words_at a f) at_stands.emits.framed (stack_end - stack) (2 + length l.procs) (map (place_of a) q.params) ++ at_stands.emits.block)) place_is (subst (λ x. Stands items at_stands.place x) at_stands.emits.is at_stands.stands)
+    entry_stands : Stands items t (entry_items f (words_at a f) at_stands.emits.framed (is_lasting a) (stack_end - stack) (2 + length l.procs) (map (place_of a) q.params) ++ at_stands.emits.block)
+    entry_stands = subst (λ x. Stands items x (entry_items f (words_at a f) at_stands.emits.framed (is_lasting a) (stack_end - stack) (2 + length l.procs) (map (place_of a) q.params) ++ at_stands.emits.block)) place_is (subst (λ x. Stands items at_stands.place x) at_stands.emits.is at_stands.stands)
 
     labelled : Ran lay items begins (at (bases stack) lay items t d) (m ∷ outer) w (at (bases stack) lay items (suc t) d) (m ∷ outer) (spent f (under + words_at a f) left w)
     labelled = enters lay items begins f (under + words_at a f) left w (s.begins_procedures f (slice_get_within l.procs f q is_q)) units (passes (bases stack) lay items t f d w.input (m ∷ outer) entry_stands.0)
 
-    rest_stands : Stands items (suc t) (plain (add_to 2 2 (negated (4 * words_at a f)) ++ load_constant 5 (stack_end - stack)) ++ (Branch Ltu 2 5 (2 + length l.procs) ∷ plain (link_put at_stands.emits.framed ++ parameters_code 0 (map (place_of a) q.params))))
-    rest_stands = front items (suc t) (plain (add_to 2 2 (negated (4 * words_at a f)) ++ load_constant 5 (stack_end - stack)) ++ (Branch Ltu 2 5 (2 + length l.procs) ∷ plain (link_put at_stands.emits.framed ++ parameters_code 0 (map (place_of a) q.params)))) at_stands.emits.block entry_stands.1
+    rest_stands : Stands items (suc t) (plain (add_to 2 2 (negated (4 * words_at a f)) ++ base_at_entry (is_lasting a) (stack_end - stack)) ++ (Branch Ltu 2 (base_register (is_lasting a)) (2 + length l.procs) ∷ plain (link_put at_stands.emits.framed ++ parameters_code 0 (map (place_of a) q.params))))
+    rest_stands = front items (suc t) (plain (add_to 2 2 (negated (4 * words_at a f)) ++ base_at_entry (is_lasting a) (stack_end - stack)) ++ (Branch Ltu 2 (base_register (is_lasting a)) (2 + length l.procs) ∷ plain (link_put at_stands.emits.framed ++ parameters_code 0 (map (place_of a) q.params)))) at_stands.emits.block entry_stands.1
 
     tested : FrameTested bound (suc t) d (m ∷ outer) (spent f (under + words_at a f) left w) []
-    tested = frame_tested bound (suc t) d (m ∷ outer) (spent f (under + words_at a f) left w) [] h.good (front items (suc t) (plain (add_to 2 2 (negated (4 * words_at a f)) ++ load_constant 5 (stack_end - stack))) (Branch Ltu 2 5 (2 + length l.procs) ∷ plain (link_put at_stands.emits.framed ++ parameters_code 0 (map (place_of a) q.params))) rest_stands)
+    tested = frame_tested bound (suc t) d (m ∷ outer) (spent f (under + words_at a f) left w) [] h.good base (front items (suc t) (plain (add_to 2 2 (negated (4 * words_at a f)) ++ base_at_entry (is_lasting a) (stack_end - stack))) (Branch Ltu 2 (base_register (is_lasting a)) (2 + length l.procs) ∷ plain (link_put at_stands.emits.framed ++ parameters_code 0 (map (place_of a) q.params))) rest_stands)
 
-    branch_stands : Stands items (suc t + length (plain (add_to 2 2 (negated (4 * words_at a f)) ++ load_constant 5 (stack_end - stack)))) (Branch Ltu 2 5 (2 + length l.procs) ∷ plain (link_put at_stands.emits.framed ++ parameters_code 0 (map (place_of a) q.params)))
-    branch_stands = back items (suc t) (plain (add_to 2 2 (negated (4 * words_at a f)) ++ load_constant 5 (stack_end - stack))) (Branch Ltu 2 5 (2 + length l.procs) ∷ plain (link_put at_stands.emits.framed ++ parameters_code 0 (map (place_of a) q.params))) rest_stands
+    branch_stands : Stands items (suc t + length (plain (add_to 2 2 (negated (4 * words_at a f)) ++ base_at_entry (is_lasting a) (stack_end - stack)))) (Branch Ltu 2 (base_register (is_lasting a)) (2 + length l.procs) ∷ plain (link_put at_stands.emits.framed ++ parameters_code 0 (map (place_of a) q.params)))
+    branch_stands = back items (suc t) (plain (add_to 2 2 (negated (4 * words_at a f)) ++ base_at_entry (is_lasting a) (stack_end - stack))) (Branch Ltu 2 (base_register (is_lasting a)) (2 + length l.procs) ∷ plain (link_put at_stands.emits.framed ++ parameters_code 0 (map (place_of a) q.params))) rest_stands
 
     -- no room for the frame
     pub stack_is_full : stack < 4 * (under + words_at a f) → Ends lay items begins (at (bases stack) lay items t d) (m ∷ outer) w (spent f (under + words_at a f) left w) 5
@@ -181,11 +200,11 @@ module _ (l : Program) (a : Assignment) (cells stack : ℕ) (lay : Layout) (item
         let z = tested in
         let few = s.stack_few in
         let small = pf.small in
-        let n = suc t + length (plain (add_to 2 2 (negated (4 * words_at a f)) ++ load_constant 5 (stack_end - stack))) in
+        let n = suc t + length (plain (add_to 2 2 (negated (4 * words_at a f)) ++ base_at_entry (is_lasting a) (stack_end - stack))) in
         let sum : plus (d.regs 2) (negated (4 * words_at a f)) < stack_end - stack = omega arith in
-        let low : nat_lt (z.to.regs 2) (z.to.regs 5) ≡ true = let x = z.sp in let y = z.five in let lt : z.to.regs 2 < z.to.regs 5 = omega arith in grind (arith, nat_tests) in
+        let low : nat_lt (z.to.regs 2) (value z.to.regs (base_register (is_lasting a))) ≡ true = let x = z.sp in let y = z.five in let lt : z.to.regs 2 < value z.to.regs (base_register (is_lasting a)) = omega arith in grind (arith, nat_tests) in
         let stop = stack_full_stop l a cells stack lay items begins s in
-        let step = branches (bases stack) lay items n stop.place (2 + length l.procs) 2 5 Ltu z.to w.input (m ∷ outer) branch_stands.0 stop.found low in
+        let step = branches (bases stack) lay items n stop.place (2 + length l.procs) 2 (base_register (is_lasting a)) Ltu z.to w.input (m ∷ outer) branch_stands.0 stop.found low in
         let ran = ran_on lay items begins labelled (ran_on lay items begins z.ran (quiet lay items begins w' w' step refl refl refl refl refl)) in
         ends_on lay items begins ran (stop.ends (with_regs z.to (lay.far n z.to.regs)) (m ∷ outer) w' (good_far items lay (bases stack) s.rises n z.to z.good))
 
@@ -197,10 +216,10 @@ module _ (l : Program) (a : Assignment) (cells stack : ℕ) (lay : Layout) (item
         let small = pf.small in
         let words = pf.words in
         let j = bound - (1 + pf.slots) in
-        let n = suc t + length (plain (add_to 2 2 (negated (4 * words_at a f)) ++ load_constant 5 (stack_end - stack))) in
+        let n = suc t + length (plain (add_to 2 2 (negated (4 * words_at a f)) ++ base_at_entry (is_lasting a) (stack_end - stack))) in
         let sum : plus (d.regs 2) (negated (4 * words_at a f)) ≡ (bases stack).stack + 4 * (bound - (1 + pf.slots)) = omega arith in
-        let on : nat_lt (z.to.regs 2) (z.to.regs 5) ≡ false = let x = z.sp in let y = z.five in let le : z.to.regs 5 ≤ z.to.regs 2 = omega arith in grind (arith, nat_tests) in
-        let step = goes_on (bases stack) lay items n (2 + length l.procs) 2 5 Ltu z.to w.input (m ∷ outer) branch_stands.0 on in
+        let on : nat_lt (z.to.regs 2) (value z.to.regs (base_register (is_lasting a))) ≡ false = let x = z.sp in let y = z.five in let le : value z.to.regs (base_register (is_lasting a)) ≤ z.to.regs 2 = omega arith in grind (arith, nat_tests) in
+        let step = goes_on (bases stack) lay items n (2 + length l.procs) 2 (base_register (is_lasting a)) Ltu z.to w.input (m ∷ outer) branch_stands.0 on in
         let len = h.stack_words in
         let same_length = ap length z.stack' in
         let P = link_put_done l a cells stack lay at_stands.emits.framed (bound - (1 + pf.slots)) z.to z.good (z.sp ∙ sum) (omega arith) in
@@ -221,9 +240,9 @@ module _ (l : Program) (a : Assignment) (cells stack : ℕ) (lay : Layout) (item
           start = suc n + length (plain (link_put at_stands.emits.framed ++ parameters_code 0 (map (place_of a) q.params)));
           to = pr.to;
           stands =
-              let b1 = back items t (entry_items f (words_at a f) at_stands.emits.framed (stack_end - stack) (2 + length l.procs) (map (place_of a) q.params)) at_stands.emits.block entry_stands in
-              let e = length-append (plain (add_to 2 2 (negated (4 * words_at a f)) ++ load_constant 5 (stack_end - stack))) (Branch Ltu 2 5 (2 + length l.procs) ∷ plain (link_put at_stands.emits.framed ++ parameters_code 0 (map (place_of a) q.params))) in
-              subst (λ x. Stands items x at_stands.emits.block) (let y : t + length (entry_items f (words_at a f) at_stands.emits.framed (stack_end - stack) (2 + length l.procs) (map (place_of a) q.params)) ≡ suc n + length (plain (link_put at_stands.emits.framed ++ parameters_code 0 (map (place_of a) q.params))) = omega arith in y) b1;
+              let b1 = back items t (entry_items f (words_at a f) at_stands.emits.framed (is_lasting a) (stack_end - stack) (2 + length l.procs) (map (place_of a) q.params)) at_stands.emits.block entry_stands in
+              let e = length-append (plain (add_to 2 2 (negated (4 * words_at a f)) ++ base_at_entry (is_lasting a) (stack_end - stack))) (Branch Ltu 2 (base_register (is_lasting a)) (2 + length l.procs) ∷ plain (link_put at_stands.emits.framed ++ parameters_code 0 (map (place_of a) q.params))) in
+              subst (λ x. Stands items x at_stands.emits.block) (let y : t + length (entry_items f (words_at a f) at_stands.emits.framed (is_lasting a) (stack_end - stack) (2 + length l.procs) (map (place_of a) q.params)) ≡ suc n + length (plain (link_put at_stands.emits.framed ++ parameters_code 0 (map (place_of a) q.params))) = omega arith in y) b1;
           ran = whole;
           stood = record {
             world = record {

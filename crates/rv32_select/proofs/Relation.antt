@@ -1,6 +1,6 @@
 -- How the machine's data stand for the state of a run of low code, and what it is that the machine does what a run does.
-use Rattle.std.proofs.Common.{◌≡◌, ℕ, suc, ◌+◌, ◌-◌, ◌*◌, ◌%◌, ◌<◌, ◌≤◌, List, [], ◌∷◌, ◌++◌, length, get_or, true, false, Some, ◌⊎◌, refl, sym, ap, ◌∙◌, subst, arith, append_assoc, Bool}
-use Rattle.std.specs.Prelude.{drop, slice_get}
+use Rattle.std.proofs.Common.{◌≡◌, ℕ, suc, ◌+◌, ◌-◌, ◌*◌, ◌%◌, ◌<◌, ◌≤◌, List, [], ◌∷◌, ◌++◌, length, get_or, true, false, Some, ◌⊎◌, refl, sym, ap, ◌∙◌, subst, arith, append_assoc, Bool, inr, ◌/◌, ◌^◌, zero}
+use Rattle.std.specs.Prelude.{drop, slice_get, nat_eq, if◌then◌else◌, slice_index_or}
 use Rattle.std.proofs.lemmas.Grind.{common_steps}
 use Rattle.headline.specs.Carries.{IsBytes}
 use Rattle.parallel_move.specs.declared.Spot.{Spot}
@@ -18,7 +18,7 @@ use Rattle.rv32_items.specs.declared.Item.TheVariants.{Label}
 use Rattle.rv32_items.specs.Course.{Layout, Point, label_from}
 use Rattle.rv32_select.specs.declared.source.Way.{Way}
 use Rattle.rv32_select.specs.declared.source.Way.TheVariants.{Returns, Follows, Jumps}
-use Rattle.rv32_select.specs.IsSelected.{heap_base, stack_end}
+use Rattle.rv32_select.specs.IsSelected.{heap_base, stack_end, all_keep, is_lasting}
 use Rattle.rv32_select.proofs.Courses.{Goes, Exits, goes, exits}
 use Rattle.rv32_select.proofs.Straight.{Data, Good, at}
 use Rattle.rv32_select.proofs.FrameViews.{spots, InFrame}
@@ -52,14 +52,43 @@ pub record HoldsCells (width : ℕ) (heap : List ℕ) (cs : List (List Word)) : 
   pub words : (i k : ℕ) (ws : List Word) (v : Word) → slice_get cs i ≡ Some ws → slice_get ws k ≡ Some v → get_or heap (width * i + k) 0 ≡ word_of width v
   pub zeros : (t : ℕ) → width * length cs ≤ t → get_or heap t 0 ≡ 0
 
--- a register is the place of a variable, and procedure f leaves it
+-- a register is the place of a variable or beyond those of arguments and results, and procedure f leaves it
 pub record Keeps (l : Program) (a : Assignment) (f r : ℕ) : Type 0 where
-  pub variable : ℕ
-  pub among : is_among variable (all_variables l.procs) ≡ true
-  pub place : place_of a variable ≡ Reg r
+  pub held : ((x : ℕ) × ((is_among x (all_variables l.procs) ≡ true) × (place_of a x ≡ Reg r))) ⊎ (24 ≤ r)
   pub low : 8 ≤ r
   pub high : r < 32
   pub unchanged : may_change a f r ≡ false
+
+-- where the stack's base lasts, x27 has it
+abbrev pub HasBase : (lasting : Bool) → (base : ℕ) → Data → Type 0
+HasBase true base d = d.regs 27 ≡ base
+HasBase false base d = Unit {0}
+
+pub base_same : (t : Bool) (base : ℕ) (d d' : Data) → d'.regs 27 ≡ d.regs 27 → HasBase t base d → HasBase t base d'
+base_same true base d d' e h = e ∙ h
+base_same false base d d' e h = tt
+
+if_false : (t x : Bool) → (if t then false else x) ≡ true → (t ≡ false) × (x ≡ true)
+if_false true x e = absurd (cc)
+if_false false x e = (refl, e)
+
+all_keep_one : (ms : List ℕ) (f : ℕ) → all_keep ms ≡ true → nat_eq (slice_index_or ms f 0 / 2 ^ 27 % 2) 1 ≡ false
+all_keep_one [] zero e = refl
+all_keep_one [] (suc f) e = refl
+all_keep_one (m ∷ ms) zero e = (if_false (nat_eq (m / 2 ^ 27 % 2) 1) (all_keep ms) e).0
+all_keep_one (m ∷ ms) (suc f) e = all_keep_one ms f (if_false (nat_eq (m / 2 ^ 27 % 2) 1) (all_keep ms) e).1
+
+-- x27 is such a register of each procedure
+pub base_kept : (l : Program) (a : Assignment) (f : ℕ) → is_lasting a ≡ true → Keeps l a f 27
+base_kept l a f e = record { held = inr (omega arith); low = omega arith; high = omega arith; unchanged = all_keep_one a.masks f e }
+
+-- so it has the base still where procedure f has left its registers
+pub base_lasts : (l : Program) (a : Assignment) (f base : ℕ) (d d' : Data) → ((r : ℕ) → Keeps l a f r → d'.regs r ≡ d.regs r) → HasBase (is_lasting a) base d → HasBase (is_lasting a) base d'
+base_lasts l a f base d d' keep h = go (is_lasting a) refl h
+  where
+    go : (t : Bool) → is_lasting a ≡ t → HasBase t base d → HasBase t base d'
+    go true e h = keep 27 (base_kept l a f e) ∙ h
+    go false e h = tt
 
 module _ (l : Program) (a : Assignment) (cells stack : ℕ) (lay : Layout) where
   -- the data beside a frame: the cells, the next cell and the heap's end, and what is left of the input

@@ -41,6 +41,7 @@ module _ (l : Program) (a : Assignment) (cells stack : ℕ) (lay : Layout) (item
     to_differ = b.to_differ;
     in_registers = b.in_registers;
     stood = b.stood;
+    base = b.base;
     left = b.left;
     top_is = b.top_is;
     under_is = b.under_is;

@@ -1,6 +1,6 @@
 -- Selected items do what low code does, whatever their layout: their courses follow its runs and arrive where those do, and each
 -- return goes home.
-use Rattle.std.proofs.Common.{ℕ, List, [], length}
+use Rattle.std.proofs.Common.{ℕ, List, [], length, refl}
 use Rattle.headline.specs.Carries.{IsBytes}
 use Rattle.rv32_steps.specs.Trace.{procedures_at}
 use Rattle.low_code.specs.Tree.{Program}
@@ -50,6 +50,7 @@ selected_items_do l a cells stack items fine there s =
     let runs = selected_runs l a cells stack items fine s there in
     record {
       begins = begins (length l.procs);
+      begins_are = refl;
       one_each = still.one_each;
       different = still.different;
       stand = still.stand;

@@ -1,5 +1,5 @@
 -- What the simulation asks of items and layout, of selected items: where procedures, stops and the start stand.
-use Rattle.std.proofs.Common.{◌≡◌, ◌≢◌, ℕ, zero, suc, ◌+◌, ◌<◌, ◌≤◌, Bool, true, false, List, [], ◌∷◌, ◌++◌, length, Some, None, refl, sym, ap, ◌∙◌, subst, arith, append_assoc, length-append}
+use Rattle.std.proofs.Common.{◌≡◌, ◌≢◌, ℕ, zero, suc, ◌+◌, ◌<◌, ◌≤◌, Bool, true, false, List, [], ◌∷◌, ◌++◌, length, Some, None, refl, sym, ap, ◌∙◌, subst, arith, append_assoc, length-append, ◌-◌}
 use Rattle.std.specs.Prelude.{Option, nat_eq, if◌then◌else◌, slice_get}
 use Rattle.std.specs.List.{range_with_len}
 use Rattle.std.proofs.lemmas.Bool.Decides.{nat_tests}
@@ -14,8 +14,8 @@ use Rattle.rv32_items.specs.declared.Item.TheVariants.{Jump}
 use Rattle.rv32_items.specs.Course.{Layout}
 use Rattle.rv32_items.specs.Placed.{Rises}
 use Rattle.rv32_select.specs.declared.source.Way.TheVariants.{Returns}
-use Rattle.rv32_select.specs.Emit.{plain, number_moves, result_spots, start_items, exit_with, stop_items}
-use Rattle.rv32_select.specs.IsSelected.{heap_base, stack_end, heap_end, step, heap_full, no_alternative, first_label, params_of, sources, start_argument, EmitsProcedures, first_call, IsSelected}
+use Rattle.rv32_select.specs.Emit.{plain, number_moves, result_spots, start_items, exit_with, stop_items, base_at_start}
+use Rattle.rv32_select.specs.IsSelected.{heap_base, stack_end, heap_end, step, heap_full, no_alternative, first_label, params_of, sources, start_argument, EmitsProcedures, first_call, IsSelected, is_lasting}
 use Rattle.rv32_select.specs.Selectable.{Selectable}
 use Rattle.rv32_select.specs.Selects.{BelowHeap}
 use Rattle.rv32_select.proofs.Courses.{Stands, front, back}
@@ -94,7 +94,7 @@ module _ (l : Program) (a : Assignment) (cells stack : ℕ) (items : List Item) 
 
 module _ (l : Program) (a : Assignment) (cells stack : ℕ) (items : List Item) (fine : Selectable l a cells stack) (s : IsSelected l a cells stack items) where
   abbrev start_piece : List Item
-  start_piece = start_items stack_end heap_base (heap_end l cells) (step l) (heap_full l) l.globals ++ first_call l a
+  start_piece = start_items stack_end heap_base (heap_end l cells) (step l) (heap_full l) l.globals ++ first_call l a (stack_end - stack)
 
   abbrev stops_piece : List Item
   stops_piece = stop_items (no_alternative l)
@@ -148,7 +148,7 @@ module _ (l : Program) (a : Assignment) (cells stack : ℕ) (items : List Item) 
     start = q;
     is_start = e;
     stands = subst (λ (o : Option Procedure). Stands items 0 (start_items stack_end heap_base (heap_end l cells) (step l) (heap_full l) l.globals
-        ++ (plain (number_moves (params_of a o) (sources l a (start_argument l.argument))) ++ Jump 1 l.start ∷ exit_with 0))) e start_stands;
+        ++ (plain (number_moves (params_of a o) (sources l a (start_argument l.argument)) ++ base_at_start (is_lasting a) (stack_end - stack)) ++ Jump 1 l.start ∷ exit_with 0))) e start_stands;
     argument = λ i is. global l.argument i is h;
     tags = fine.formed.literals.tags;
     few = fine.globals;

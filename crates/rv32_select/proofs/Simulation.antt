@@ -1,5 +1,5 @@
 -- The machine does what runs of low code do: blocks by their structure, and calls by the units that are left.
-use Rattle.std.proofs.Common.{◌≡◌, ℕ, zero, suc, ◌+◌, ◌*◌, List, [], ◌∷◌, ◌++◌, map, length, Bool, true, false, Some, None, refl, arith}
+use Rattle.std.proofs.Common.{◌≡◌, ℕ, zero, suc, ◌+◌, ◌*◌, List, [], ◌∷◌, ◌++◌, map, length, Bool, true, false, Some, None, refl, arith, inl, inr}
 use Rattle.std.specs.Prelude.{Option}
 use Rattle.parallel_move.specs.declared.Spot.{Spot}
 use Rattle.low_code.specs.declared.program.Operand.{Operand}
@@ -32,6 +32,7 @@ use Rattle.rv32_select.proofs.RoundStatements.{put_round, get_round, call_round}
 use Rattle.rv32_select.proofs.JoinStatement.{inner, join_simulated}
 use Rattle.rv32_select.proofs.ChoiceStatement.{ArmsBlock, ArmsSimulates, arm_simulated, turned_arm, arms_block, choice, last_arm}
 use Rattle.rv32_select.proofs.DecidedStatement.{decided, decided_first, decided_last}
+use Rattle.rv32_select.proofs.SearchStatement.{EachSimulates, searched}
 use Rattle.rv32_select.proofs.EmittedLabels.{whichever}
 use Rattle.rv32_select.proofs.ProcedureEntry.{NoMust}
 use Rattle.rv32_select.proofs.ProcedureCall.{waits_here, call_simulated}
@@ -84,12 +85,18 @@ module _ (l : Program) (a : Assignment) (cells stack : ℕ) (lay : Layout) (item
         tail_simulated l a cells stack lay items begins s calls_n n called f q pf framed j m outer d0 u found total g site os to way Must k k' block p scope later env top under d w b
     simulate (choose as') to way Must k k' block p scope later env top under d w b =
         choice l a cells stack lay items begins s calls_n n f q pf framed j m outer d0 u as' to way Must k k' block p scope later env top under d w
-        (whichever (EmitsLast l a cells stack (words_at a f) (slots_of (place_of a) (variables q)) framed to way as' k k' block) (EmitsArms l a cells stack (words_at a f) (slots_of (place_of a) (variables q)) framed to way as' k k' block) (stands_last way as')
-        (λ h. simulate_last as' to way Must k k' block p scope later env top under d w b h)
-        (λ h.
-        simulate_arms as' to way Must k k' block p scope later env top under d w
-        (arms_block l a cells stack lay items begins s calls_n n f q pf framed j m outer d0 u as' to way Must k k' block p scope later env top under d w b h))
-        b.emits)
+        (elim b.emits [
+          | inl h ↦
+              searched l a cells stack lay items begins s calls_n n f q pf framed j m outer d0 u to way Must scope later env top under w as' k k' block p d b h
+              (simulate_each as' to way Must scope later env top under w)
+          | inr h ↦
+              whichever (EmitsLast l a cells stack (words_at a f) (slots_of (place_of a) (variables q)) framed to way as' k k' block) (EmitsArms l a cells stack (words_at a f) (slots_of (place_of a) (variables q)) framed to way as' k k' block) (stands_last way as')
+              (λ h. simulate_last as' to way Must k k' block p scope later env top under d w b h)
+              (λ h.
+              simulate_arms as' to way Must k k' block p scope later env top under d w
+              (arms_block l a cells stack lay items begins s calls_n n f q pf framed j m outer d0 u as' to way Must k k' block p scope later env top under d w b h))
+              h
+        ])
     simulate fail to way Must k k' block p scope later env top under d w b =
         fail_simulated l a cells stack lay items begins s calls_n n f q pf framed j m outer d0 u to way Must k k' block p scope later env top under d w b
 
@@ -104,6 +111,12 @@ module _ (l : Program) (a : Assignment) (cells stack : ℕ) (lay : Layout) (item
         arm_simulated l a cells stack lay items begins s calls_n n f q pf framed j m outer d0 u ts c as' to way Must k k' block p scope later env top under d w b h
         (λ d' b'. simulate c to (further way) Must (suc k) h.0 h.1 (p + length (tests_items l a k ts)) scope later env top under d' w b')
         (λ d' b'. simulate_arms as' to way Must h.0 k' h.3.0 (p + length (tests_items l a k ts ++ (h.1 ++ Label k ∷ []))) scope later env top under d' w b')
+
+    simulate_each : (as' : Arms) (to : List Spot) (way : Way) (Must : ℕ → Word → Type 0) (scope later : List ℕ) (env : Env) (top : ℕ) (under : Option ℕ) (w : World)
+        → EachSimulates l a cells stack lay items begins s calls_n n f q pf framed j m outer d0 u to way Must scope later env top under w as'
+    simulate_each (otherwise c) to way Must scope later env top under w = λ k k' block p d b. simulate c to way Must k k' block p scope later env top under d w b
+    simulate_each (arm ts c as') to way Must scope later env top under w =
+        ((λ k k' block p d b. simulate c to (further way) Must k k' block p scope later env top under d w b), simulate_each as' to way Must scope later env top under w)
 
     pub simulate_last : (as' : Arms) (to : List Spot) (way : Way) (Must : ℕ → Word → Type 0) (k k' : ℕ) (block : List Item) (p : ℕ) (scope later : List ℕ) (env : Env) (top : ℕ) (under : Option ℕ) (d : Data) (w : World)
         → Block l a cells stack lay items begins f q framed pf.slots j m outer d0 u n (choose as') to way Must k k' block p scope later env top under d w
@@ -162,11 +175,11 @@ module _ (l : Program) (a : Assignment) (cells stack : ℕ) (lay : Layout) (item
   -- calls with so many units
   pub calls_simulated : (n : ℕ) → CallsSimulated l a cells stack lay items begins (calls l (words_at a) (room l a cells stack lay items begins) n) n
   unfolding calls
-  calls_simulated zero f q t m outer vs under bound w d is_q found h sp total link home args units =
+  calls_simulated zero f q t m outer vs under bound w d is_q found h base sp total link home args units =
       waits_here l a cells stack lay items begins s f q t (m ∷ outer) d w (λ rs w' p calls'. (d' : Data) × ((p ≡ at (bases stack) lay items m d') × ((calls' ≡ outer) × (Back l a cells stack lay f bound d (result_spots 10 q.results) rs d' w' × (length rs ≡ q.results))))) is_q found (omega arith)
-  calls_simulated (suc n) f q t m outer vs under bound w d is_q found h sp total link home args units =
+  calls_simulated (suc n) f q t m outer vs under bound w d is_q found h base sp total link home args units =
       let more = calls_simulated n in
       call_simulated l a cells stack lay items begins s n f q (s.fine f q is_q)
       (λ framed j m' outer' d0 u k k' block p env d' w' found' total' b.
       simulate l a cells stack lay items begins s (calls l (words_at a) (room l a cells stack lay items begins) n) n more f q (s.fine f q is_q) framed j m' outer' d0 u found' total' q.body (result_spots 10 q.results) Returns (NoMust l a cells stack lay items begins s f q (s.fine f q is_q)) k k' block p q.params [] env (u + words_at a f) (Some u) d' w' b)
-      t m outer vs under bound w d is_q found h sp total link home args units
+      t m outer vs under bound w d is_q found h base sp total link home args units

@@ -11,7 +11,7 @@ use Rattle.parallel_move.specs.declared.Move.{Move}
 use Rattle.parallel_move.specs.Moves.{counted, ends}
 use Rattle.rv32_select.specs.declared.source.Source.{Source}
 use Rattle.rv32_select.specs.declared.source.Source.TheVariants.{At, Number}
-use Rattle.rv32_select.specs.Emit.{link_put, is_short, load_constant, add_to, copy, reach, load_slot, store_slot, move_to, moves_code, keep, held, hold, number_into, spot_moves, number_moves, set_code, operation, is_immediate, immediate, operands_held, operate_on, is_free, operate_in_order, target, prim_code, load_code, save_code, is_offset, go_on, next_offset, cells_code, cells_below, aside, back, call_code, put_code, byte_given, get_code, parameters_code, leave_code, save_moves, restore_moves, globals_code}
+use Rattle.rv32_select.specs.Emit.{link_put, is_short, load_constant, add_to, copy, reach, load_slot, store_slot, move_to, moves_code, keep, held, hold, number_into, spot_moves, number_moves, set_code, operation, is_immediate, immediate, operands_held, operate_on, is_free, operate_in_order, target, prim_code, high_part, load_code, save_code, is_offset, go_on, next_offset, cells_code, cells_below, aside, back, call_code, put_code, byte_given, get_code, parameters_code, leave_code, save_moves, restore_moves, globals_code, base_at_entry, base_at_start}
 
 -- neither a branch nor a jump, nor AUIPC
 abbrev pub IsStraight : Instr → Type 0
@@ -181,11 +181,11 @@ pub prim_piece : (f : PrimOp) (to : Spot) (u v : Source) → Piece 11 (prim_code
 prim_piece f to u v = piece_append 8 3 (operate_in_order f (target 5 to) u v) _ (in_order_piece f (target 5 to) u v) (keep_piece 5 to)
 
 pub load_word_piece : (to : Spot) (cell : Source) (k : ℕ) → Piece 7 (load_code to cell k)
-load_word_piece to cell k = piece_append 3 4 (hold 5 cell) _ (hold_piece 5 cell) (piece_cons 3 _ _ tt (keep_piece 5 to))
+load_word_piece to cell k = piece_append 3 4 (hold 5 (high_part k cell)) _ (hold_piece 5 (high_part k cell)) (piece_cons 3 _ _ tt (keep_piece 5 to))
 
 pub save_word_piece : (cell : Source) (k : ℕ) (word : Source) → Piece 7 (save_code cell k word)
 save_word_piece cell k word =
-    piece_append 3 4 (hold 5 cell) _ (hold_piece 5 cell) (piece_append 3 1 (hold 6 word) _ (hold_piece 6 word) (piece_one _ tt))
+    piece_append 3 4 (hold 5 (high_part k cell)) _ (hold_piece 5 (high_part k cell)) (piece_append 3 1 (hold 6 word) _ (hold_piece 6 word) (piece_one _ tt))
 
 go_on_piece : (step off : ℕ) → Piece 2 (go_on step off)
 go_on_piece step off = piece_if 2 (is_offset (off + step)) _ _ (piece_nil 2) (piece_cons 1 _ _ tt (piece_one _ tt))
@@ -251,6 +251,14 @@ parameters_piece i (s ∷ ss) =
 pub leave_piece : (framed : Bool) (words : ℕ) → Piece 4 (leave_code framed words)
 leave_piece true words = piece_cons 3 _ _ tt (add_piece 2 2 (4 * words))
 leave_piece false words = piece_more 3 4 _ (omega arith) (add_piece 2 2 (4 * words))
+
+pub base_piece : (lasting : Bool) (base : ℕ) → Piece 2 (base_at_entry lasting base)
+base_piece true base = piece_nil 2
+base_piece false base = number_piece 5 base
+
+pub start_base_piece : (lasting : Bool) (base : ℕ) → Piece 2 (base_at_start lasting base)
+start_base_piece true base = number_piece 27 base
+start_base_piece false base = piece_nil 2
 
 pub link_piece : (framed : Bool) → Piece 1 (link_put framed)
 link_piece true = piece_one _ tt

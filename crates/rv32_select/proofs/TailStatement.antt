@@ -1,5 +1,5 @@
 -- Tail calls.
-use Rattle.std.proofs.Common.{◌≡◌, ◌≢◌, ℕ, ◌+◌, ◌*◌, ◌<◌, ◌≤◌, List, [], ◌∷◌, ◌++◌, map, length, get_or, Some, None, inl, inr, refl, sym, ap, ◌∙◌, subst, arith, append_assoc, Bool}
+use Rattle.std.proofs.Common.{◌≡◌, ◌≢◌, ℕ, ◌+◌, ◌*◌, ◌<◌, ◌≤◌, List, [], ◌∷◌, ◌++◌, map, length, get_or, Some, None, inl, inr, refl, sym, ap, ◌∙◌, subst, arith, append_assoc, Bool, ◌-◌}
 use Rattle.std.specs.Prelude.{Option}
 use Rattle.parallel_move.specs.declared.Spot.{Spot}
 use Rattle.parallel_move.specs.declared.Spot.TheVariants.{Reg, Slot, Scratch}
@@ -14,14 +14,14 @@ use Rattle.rv32_items.specs.Course.{Layout, Point, address_from}
 use Rattle.rv32_select.specs.declared.source.Way.{Way}
 use Rattle.rv32_select.specs.declared.source.Way.TheVariants.{Returns}
 use Rattle.rv32_select.specs.Emit.{plain, moves_code, spot_moves, number_moves, leave_code, argument_spots, result_spots}
-use Rattle.rv32_select.specs.IsSelected.{sources, params_of, argument_spots_of, IsOrder}
+use Rattle.rv32_select.specs.IsSelected.{sources, params_of, argument_spots_of, IsOrder, is_lasting, stack_end}
 use Rattle.rv32_select.proofs.Courses.{Stands}
 use Rattle.rv32_select.proofs.Straight.{Data, Does, does_on, at}
 use Rattle.rv32_select.proofs.JumpStretches.{jumped, jumps}
 use Rattle.rv32_select.proofs.FrameViews.{spots, in_frame}
 use Rattle.rv32_select.proofs.OperandsRead.{read}
 use Rattle.rv32_select.proofs.Gathering.{gathered}
-use Rattle.rv32_select.proofs.Relation.{bases, regs_of, AllHold, home_kept, Back, ran_on, quiet, Does', does_after, does_map, Given}
+use Rattle.rv32_select.proofs.Relation.{bases, regs_of, AllHold, home_kept, Back, ran_on, quiet, Does', does_after, does_map, Given, base_lasts, Keeps}
 use Rattle.rv32_select.proofs.PlaceFacts.{AllFree, CallFits, ProcedureFine, Setting}
 use Rattle.rv32_select.proofs.BlockFacts.{Block, Simulates, CallsSimulated, InRegisters, own_places, kept_not_own, world_kept}
 use Rattle.rv32_select.proofs.OneBound.{cut, plain_ran}
@@ -85,7 +85,10 @@ module _ (l : Program) (a : Assignment) (cells stack : ℕ) (lay : Layout) (item
           let hold = all_hold l.width (read lay.code (bases stack) j pf.slots d) (spots lay.code (bases stack) j pf.slots z.data') to_args ss vs reads.as_many z.each reads.are in
           let hold2 = free_hold l a lay stack j pf.slots g to_args vs z.data' d2 g_fine.arguments (λ r lo hi. regs_same r lo) hold in
           let link = jump_reg 1 (omega arith) (omega arith) ∙ L.link (lay.address m) (home_kept l a cells stack lay framed j (lay.address m) d z.data' z.keeps.link (z.keeps.outside j (inl (omega arith))) b.stood.home) in
-          let callee = called g fit.called there.place m outer vs u (j + (1 + pf.slots)) w d2 fit.is_called label_is world2 (jump_reg 2 (omega arith) (omega arith) ∙ L.sp) total link found hold2 b.left in
+          let kept2 = λ (r : ℕ) (keep : Keeps l a g r).
+          regs_same r keep.low ∙ z.others (Reg r) ((keep.low, keep.high), λ e. absurd (cc)) (kept_not_own l a g 0 r to_args keep g_fine.arguments) in
+          let base2 = base_lasts l a g (stack_end - stack) d d2 kept2 (base_lasts l a f (stack_end - stack) d0 d b.stood.untouched.others b.base) in
+          let callee = called g fit.called there.place m outer vs u (j + (1 + pf.slots)) w d2 fit.is_called label_is world2 base2 (jump_reg 2 (omega arith) (omega arith) ∙ L.sp) total link found hold2 b.left in
           let G1 = λ (rs : List Word) (w' : World) (p' : Point) (calls' : List ℕ). (d' : Data) × ((p' ≡ at (bases stack) lay items m d') × ((calls' ≡ outer) × (Back l a cells stack lay g (j + (1 + pf.slots)) d2 (result_spots 10 fit.called.results) rs d' w' × (length rs ≡ fit.called.results)))) in
           let G2 = Given l a cells stack lay items framed f j pf.slots d0 m outer to Returns Must in
           let to_is = subst (λ x. InRegisters l a cells stack lay items begins f q framed pf.slots j m outer d0 u n x to) returning b.in_registers in

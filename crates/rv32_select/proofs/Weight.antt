@@ -26,7 +26,7 @@ stmt_layer (Join xs b) = 2 + b.value
 abbrev end_layer : LowEnd-F ℕ ℕ ℕ ℕ → ℕ
 end_layer (Give as') = 0
 end_layer (Tail f site as') = 0
-end_layer (Choose arms b) = 3 + (sum_of arms + b.value)
+end_layer (Choose arms b) = 4 + (sum_of arms + b.value)
 end_layer Fail = 0
 
 abbrev arm_layer : LowArm-F ℕ ℕ ℕ ℕ → ℕ
@@ -51,7 +51,7 @@ weight_of-Join : (xs : List ℕ) (b : Box LowBlock Global) → stmt_weight (stmt
 unfolding stmt_weight block_weight
 weight_of-Join xs b = ap stmt_weight (sym (stmt.rolls-Join xs b)) ∙ fold-roll-LowStmt ℕ ℕ ℕ ℕ end_layer stmt_layer arm_layer block_layer (Join xs b)
 
-weight_of-Choose : (arms : List LowArm) (b : Box LowBlock Global) → end_weight (end'.Choose arms b) ≡ 3 + (sum_of (map arm_weight arms) + block_weight b.value)
+weight_of-Choose : (arms : List LowArm) (b : Box LowBlock Global) → end_weight (end'.Choose arms b) ≡ 4 + (sum_of (map arm_weight arms) + block_weight b.value)
 unfolding end_weight arm_weight block_weight
 weight_of-Choose arms b = ap end_weight (sym (end'.rolls-Choose arms b)) ∙ fold-roll-LowEnd ℕ ℕ ℕ ℕ end_layer stmt_layer arm_layer block_layer (Choose arms b)
 
@@ -83,7 +83,7 @@ last_lighter b = let whole = weight_of-block b in omega (arith, whole)
 pub join_lighter : (s : LowStmt) (xs : List ℕ) (b : Box LowBlock Global) (block : LowBlock) → s ≡ stmt.Join xs b → block ≡ b.value → block_weight block + 1 < stmt_weight s
 join_lighter s xs b block is e = let whole = ap stmt_weight is ∙ weight_of-Join xs b in let same = ap block_weight e in omega (arith, whole, same)
 
-pub choice_lighter : (e : LowEnd) (arms items : List LowArm) (b : Box LowBlock Global) (block : LowBlock) → e ≡ end'.Choose arms b → items ≡ arms → block ≡ b.value → 2 + (sum_of (map arm_weight items) + block_weight block) < end_weight e
+pub choice_lighter : (e : LowEnd) (arms items : List LowArm) (b : Box LowBlock Global) (block : LowBlock) → e ≡ end'.Choose arms b → items ≡ arms → block ≡ b.value → 3 + (sum_of (map arm_weight items) + block_weight block) < end_weight e
 choice_lighter e arms items b block is are same =
     let whole = ap end_weight is ∙ weight_of-Choose arms b in
     let weights = ap (λ ts. sum_of (map arm_weight ts)) are in

@@ -17,10 +17,10 @@ use Rattle.rv32_items.specs.declared.Item.{Item}
 use Rattle.rv32_items.specs.declared.Item.TheVariants.{Branch, Jump}
 use Rattle.rv32_items.specs.Placed.{is_instruction, size_of, times}
 use Rattle.rv32_select.specs.declared.source.Way.TheVariants.{Returns}
-use Rattle.rv32_select.specs.Emit.{plain, is_short, load_constant, add_to, number_moves, result_spots, parameters_code, exit_with, room_items, globals_code, start_items, stop_items, link_put}
-use Rattle.rv32_select.specs.IsSelected.{heap_base, stack_end, heap_end, heap_full, step, stack_full, no_alternative, places, sources, argument_spots_of, EmitsProcedure, EmitsProcedures, start_argument, first_call, IsSelected}
+use Rattle.rv32_select.specs.Emit.{plain, is_short, load_constant, add_to, number_moves, result_spots, parameters_code, exit_with, room_items, globals_code, start_items, stop_items, link_put, base_register, base_at_entry, base_at_start}
+use Rattle.rv32_select.specs.IsSelected.{heap_base, stack_end, heap_end, heap_full, step, stack_full, no_alternative, places, sources, argument_spots_of, EmitsProcedure, EmitsProcedures, start_argument, first_call, IsSelected, is_lasting}
 use Rattle.rv32_select.specs.Writable.{ProcedurePlaced, Writable}
-use Rattle.rv32_select.proofs.StaticPieces.{piece_append, number_piece, add_piece, parameters_piece, globals_piece, sent_piece, link_piece, piece_more}
+use Rattle.rv32_select.proofs.StaticPieces.{piece_append, number_piece, add_piece, parameters_piece, globals_piece, sent_piece, link_piece, piece_more, base_piece, start_base_piece}
 use Rattle.rv32_select.proofs.Flowing.{Goes, goes_both, below, below_more, Counts}
 use Rattle.rv32_select.proofs.EmittedLabels.{procedure_up}
 use Rattle.rv32_select.proofs.Parts.{Part, code_part, part_append, part_more, jump_part, branch_part, room_part}
@@ -67,16 +67,16 @@ module _ (l : Program) (a : Assignment) (cells stack : ℕ) where
     pub goes : Goes procs Far items
     pub size : Few → size_of items ≤ most
 
-  entry_part : (Few : Type 0) (framed : Bool) (n words base : ℕ) (params : List Spot)
-      → Part procs Far n n (9 + 3 * length params) Few (plain (add_to 2 2 (negated (4 * words)) ++ load_constant 5 base) ++ Branch Ltu 2 5 (stack_full l) ∷ plain (link_put framed ++ parameters_code 0 params))
-  entry_part Few framed n words base params =
-      let first = add_to 2 2 (negated (4 * words)) ++ load_constant 5 base in
+  entry_part : (Few : Type 0) (framed lasting : Bool) (n words base : ℕ) (params : List Spot)
+      → Part procs Far n n (9 + 3 * length params) Few (plain (add_to 2 2 (negated (4 * words)) ++ base_at_entry lasting base) ++ Branch Ltu 2 (base_register lasting) (stack_full l) ∷ plain (link_put framed ++ parameters_code 0 params))
+  entry_part Few framed lasting n words base params =
+      let first = add_to 2 2 (negated (4 * words)) ++ base_at_entry lasting base in
       let behind = link_put framed ++ parameters_code 0 params in
-      part_more procs Far Few n n (5 + (3 + suc (3 * length params))) (9 + 3 * length params) (plain first ++ Branch Ltu 2 5 (stack_full l) ∷ plain behind) (omega arith)
-      (part_append procs Far Few n n n 5 (3 + suc (3 * length params)) (plain first) (Branch Ltu 2 5 (stack_full l) ∷ plain behind)
-      (code_part procs Far Few n 5 first (piece_append 3 2 (add_to 2 2 (negated (4 * words))) (load_constant 5 base) (add_piece 2 2 (negated (4 * words))) (number_piece 5 base)))
-      (part_append procs Far Few n n n 3 (suc (3 * length params)) (Branch Ltu 2 5 (stack_full l) ∷ []) (plain behind)
-      (branch_part procs Far Few n Ltu 2 5 (stack_full l) (inl (omega arith)))
+      part_more procs Far Few n n (5 + (3 + suc (3 * length params))) (9 + 3 * length params) (plain first ++ Branch Ltu 2 (base_register lasting) (stack_full l) ∷ plain behind) (omega arith)
+      (part_append procs Far Few n n n 5 (3 + suc (3 * length params)) (plain first) (Branch Ltu 2 (base_register lasting) (stack_full l) ∷ plain behind)
+      (code_part procs Far Few n 5 first (piece_append 3 2 (add_to 2 2 (negated (4 * words))) (base_at_entry lasting base) (add_piece 2 2 (negated (4 * words))) (base_piece lasting base)))
+      (part_append procs Far Few n n n 3 (suc (3 * length params)) (Branch Ltu 2 (base_register lasting) (stack_full l) ∷ []) (plain behind)
+      (branch_part procs Far Few n Ltu 2 (base_register lasting) (stack_full l) (inl (omega arith)))
       (code_part procs Far Few n (suc (3 * length params)) behind (piece_more (1 + 3 * length params) (suc (3 * length params)) behind (omega arith) (piece_append 1 (3 * length params) (link_put framed) (parameters_code 0 params) (link_piece framed) (parameters_piece 0 params))))))
 
   procedure_part : (f n m : ℕ) (q : Procedure) (items : List Item) → f < procs → 3 + procs ≤ n → ProcedurePlaced l a q → EmitsProcedure l a cells stack f q n m items
@@ -87,13 +87,13 @@ module _ (l : Program) (a : Assignment) (cells stack : ℕ) where
       let params = places a q.params in
       let Few = FewTests q.body in
       let count = length-map q.params (place_of a) in
-      let first = add_to 2 2 (negated (4 * words)) ++ load_constant 5 base in
-      let behind = Branch Ltu 2 5 (stack_full l) ∷ plain (link_put e.framed ++ parameters_code 0 params) in
+      let first = add_to 2 2 (negated (4 * words)) ++ base_at_entry (is_lasting a) base in
+      let behind = Branch Ltu 2 (base_register (is_lasting a)) (stack_full l) ∷ plain (link_put e.framed ++ parameters_code 0 params) in
       let block = block_part l a cells stack words (slots_of (place_of a) (variables q)) e.framed q.body (result_spots 10 q.results) Returns n m e.block le placed.body e.body in
-      let p = part_append procs Far Few n n m (9 + 3 * length params) (8 * code_size q.body + 256 * length (calls_in q.body)) (plain first ++ behind) e.block (entry_part Few e.framed n words base params) block in
+      let p = part_append procs Far Few n n m (9 + 3 * length params) (8 * code_size q.body + 256 * length (calls_in q.body)) (plain first ++ behind) e.block (entry_part Few e.framed (is_lasting a) n words base params) block in
       subst (Procedures f (suc f) n m (64 + 8 * (length q.params + code_size q.body) + 256 * length (calls_in q.body)) Few) (sym e.is) (record {
         counts = λ k. let c = p.counts k in let b = below_more f k (times k ((plain first ++ behind) ++ e.block)) in omega arith;
-        goes = ((λ h. ap (λ is. is_instruction (slice_get is 0)) (append_assoc (plain first) behind e.block) ∙ first_of_code first (behind ++ e.block) (some_append (add_to 2 2 (negated (4 * words))) (load_constant 5 base) (some_sum 2 2 (negated (4 * words))))), p.goes);
+        goes = ((λ h. ap (λ is. is_instruction (slice_get is 0)) (append_assoc (plain first) behind e.block) ∙ first_of_code first (behind ++ e.block) (some_append (add_to 2 2 (negated (4 * words))) (base_at_entry (is_lasting a) base) (some_sum 2 2 (negated (4 * words))))), p.goes);
         size = λ few. let s = p.size few in omega (arith, count, s);
       })
 
@@ -128,16 +128,17 @@ module _ (l : Program) (a : Assignment) (cells stack : ℕ) where
   few_arguments None = omega arith
   few_arguments (Some i) = omega arith
 
-  first_call_part : (Few : Type 0) → l.start < procs → Part procs Far 0 0 12 Few (first_call l a)
+  first_call_part : (Few : Type 0) → l.start < procs → Part procs Far 0 0 14 Few (first_call l a (stack_end - stack))
   first_call_part Few lt =
       let to = argument_spots_of l a l.start in
       let from = sources l a (start_argument l.argument) in
+      let base = base_at_start (is_lasting a) (stack_end - stack) in
       let sent = sent_piece to from in
       let few = few_arguments l.argument in
       let enough = sent.1.1 in
-      part_more procs Far Few 0 0 (sent.0 + (3 + 3)) 12 (first_call l a) (omega arith)
-      (part_append procs Far Few 0 0 0 sent.0 6 (plain (number_moves to from)) (Jump 1 l.start ∷ exit_with 0)
-      (code_part procs Far Few 0 sent.0 (number_moves to from) sent.1.0)
+      part_more procs Far Few 0 0 (sent.0 + 2 + (3 + 3)) 14 (first_call l a (stack_end - stack)) (omega arith)
+      (part_append procs Far Few 0 0 0 (sent.0 + 2) 6 (plain (number_moves to from ++ base)) (Jump 1 l.start ∷ exit_with 0)
+      (code_part procs Far Few 0 (sent.0 + 2) (number_moves to from ++ base) (piece_append sent.0 2 (number_moves to from) base sent.1.0 (start_base_piece (is_lasting a) (stack_end - stack))))
       (part_append procs Far Few 0 0 0 3 3 (Jump 1 l.start ∷ []) (exit_with 0) (jump_part procs Far Few 0 1 l.start (inl (omega (arith, lt))) (λ e. lt)) (exit_part Few 0 0)))
 
   abbrev start : List Item
@@ -205,9 +206,9 @@ module _ (l : Program) (a : Assignment) (cells stack : ℕ) where
 
   pub whole : (items : List Item) → Writable l a → IsSelected l a cells stack items → Whole items
   whole items w s =
-      let before = start ++ first_call l a in
+      let before = start ++ first_call l a (stack_end - stack) in
       let Few = AtMostTwoTests l in
-      let p = part_append procs Far Few 0 0 0 (12 + 4 * length l.globals) 12 start (first_call l a) (start_part Few) (first_call_part Few w.start) in
+      let p = part_append procs Far Few 0 0 0 (12 + 4 * length l.globals) 14 start (first_call l a (stack_end - stack)) (start_part Few) (first_call_part Few w.start) in
       let r = procedures_part l.procs 0 (3 + procs) s.last s.procedures (omega arith) (omega arith) w.procedures s.each in
       let t = stops_part Few in
       let up = procedures_up l.procs 0 (3 + procs) s.last s.procedures s.each in
@@ -228,7 +229,7 @@ module _ (l : Program) (a : Assignment) (cells stack : ℕ) where
             let same = ap (times k) is in
             omega arith;
         goes = subst (Goes procs Far) (sym is) (goes_both procs Far before (s.procedures ++ stops) p.goes (goes_both procs Far s.procedures stops r.goes t.goes));
-        first = subst (λ is. is_instruction (slice_get is 0) ≡ true) (sym (is ∙ append_assoc start (first_call l a) (s.procedures ++ stops))) (first_here (first_call l a ++ (s.procedures ++ stops)));
+        first = subst (λ is. is_instruction (slice_get is 0) ≡ true) (sym (is ∙ append_assoc start (first_call l a (stack_end - stack)) (s.procedures ++ stops))) (first_here (first_call l a (stack_end - stack) ++ (s.procedures ++ stops)));
         size = λ few.
             let c = p.size few in
             let d = r.size few in

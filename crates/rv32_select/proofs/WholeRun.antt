@@ -1,5 +1,5 @@
 -- From the first item on the machine does what the run of the program does.
-use Rattle.std.proofs.Common.{◌≡◌, ◌≢◌, ℕ, zero, suc, ◌+◌, ◌*◌, ◌/◌, ◌%◌, ◌^◌, ◌<◌, ◌≤◌, List, [], ◌∷◌, ◌++◌, map, length, get_or, replicate, Bool, true, false, Some, None, refl, sym, ap, ◌∙◌, subst, arith, length-append}
+use Rattle.std.proofs.Common.{◌≡◌, ◌≢◌, ℕ, zero, suc, ◌+◌, ◌*◌, ◌/◌, ◌%◌, ◌^◌, ◌<◌, ◌≤◌, List, [], ◌∷◌, ◌++◌, map, length, get_or, replicate, Bool, true, false, Some, None, refl, sym, ap, ◌∙◌, subst, arith, length-append, ◌-◌}
 use Rattle.std.specs.Prelude.{Option, nat_eq, nat_lt, if◌then◌else◌, slice_get}
 use Rattle.std.proofs.lemmas.Bool.Decides.{nat_tests}
 use Rattle.std.proofs.lemmas.List.{length-replicate, length-map}
@@ -19,15 +19,15 @@ use Rattle.rv32_items.specs.declared.Item.TheVariants.{Jump}
 use Rattle.rv32_items.specs.Course.{Layout, label_from}
 use Rattle.rv32_items.specs.Placed.{is_instruction}
 use Rattle.rv32_select.specs.declared.source.Source.TheVariants.{Number}
-use Rattle.rv32_select.specs.Emit.{plain, load_constant, room_items, globals_code, start_items, argument_spots, number_moves, result_spots, exit_with}
-use Rattle.rv32_select.specs.IsSelected.{heap_base, stack_end, sources, start_argument}
+use Rattle.rv32_select.specs.Emit.{plain, load_constant, room_items, globals_code, start_items, argument_spots, number_moves, result_spots, exit_with, base_at_start}
+use Rattle.rv32_select.specs.IsSelected.{heap_base, stack_end, sources, start_argument, is_lasting}
 use Rattle.low_code.specs.Literals.{TagsSmall}
 use Rattle.rv32_select.proofs.Courses.{Stands, front, back}
 use Rattle.rv32_select.proofs.Straight.{Data, words, with_reg, Good, Does, does_nothing, does_on, at}
 use Rattle.rv32_select.proofs.NumberParts.{does_number}
 use Rattle.rv32_select.proofs.JumpStretches.{jumped, calls_to, comes_back}
-use Rattle.rv32_select.proofs.Relation.{bases, regs_of, AllHold, HoldsCells, HoldsWorld, Back, Ran, Ends, ran_on, ends_on, quiet, Does'}
-use Rattle.rv32_select.proofs.PlaceFacts.{AllFree, Setting}
+use Rattle.rv32_select.proofs.Relation.{bases, regs_of, AllHold, HoldsCells, HoldsWorld, Back, Ran, Ends, ran_on, ends_on, quiet, Does', HasBase, Keeps, base_kept, base_same}
+use Rattle.rv32_select.proofs.PlaceFacts.{AllFree, Setting, Free}
 use Rattle.rv32_select.proofs.BlockFacts.{room}
 use Rattle.rv32_select.proofs.OneBound.{plain_ran}
 use Rattle.rv32_select.proofs.Stops.{Tested, tested, exits_here}
@@ -42,7 +42,7 @@ use Rattle.rv32_machine.proofs.Registers.{set_there, set_here}
 pub record Started (l : Program) (a : Assignment) (cells stack : ℕ) (items : List Item) : Type 0 where
   pub start : Procedure
   pub is_start : slice_get l.procs l.start ≡ Some start
-  pub stands : Stands items 0 (start_items stack_end heap_base (heap_base + 4 * l.width * cells) (4 * l.width) (1 + length l.procs) l.globals ++ (plain (number_moves (argument_spots 0 (map (place_of a) start.params)) (sources l a (start_argument l.argument))) ++ Jump 1 l.start ∷ exit_with 0))
+  pub stands : Stands items 0 (start_items stack_end heap_base (heap_base + 4 * l.width * cells) (4 * l.width) (1 + length l.procs) l.globals ++ (plain (number_moves (argument_spots 0 (map (place_of a) start.params)) (sources l a (start_argument l.argument)) ++ base_at_start (is_lasting a) (stack_end - stack)) ++ Jump 1 l.start ∷ exit_with 0))
   pub argument : (i : ℕ) → l.argument ≡ Some i → i < length l.globals
   pub tags : TagsSmall l.globals
   pub few : length l.globals ≤ 131072
@@ -187,7 +187,7 @@ module _ (l : Program) (a : Assignment) (cells stack : ℕ) (lay : Layout) (item
   start_piece = start_items stack_end heap_base (heap_base + 4 * l.width * cells) (4 * l.width) (1 + length l.procs) l.globals
 
   abbrev argument_code : List Instr
-  argument_code = number_moves (argument_spots 0 (map (place_of a) z.start.params)) (sources l a (start_argument l.argument))
+  argument_code = number_moves (argument_spots 0 (map (place_of a) z.start.params)) (sources l a (start_argument l.argument)) ++ base_at_start (is_lasting a) (stack_end - stack)
 
   abbrev numbered : Data
   numbered = with_reg (with_reg (with_reg (start_data l.width cells stack) 2 stack_end) 3 heap_base) 4 (heap_base + 4 * l.width * cells)
@@ -241,6 +241,28 @@ module _ (l : Program) (a : Assignment) (cells stack : ℕ) (lay : Layout) (item
       let one_more : 4 * l.width * suc cells ≡ 4 * l.width * cells + 4 * l.width = omega arith in
       ends_on lay items begins (numbers_ran w0) ((room_test w0).full (omega arith))
 
+  -- the stack's base goes to x27, if it lasts there
+  record BaseSet (t : Bool) (d : Data) : Type 0 where
+    pub to : Data
+    pub does : Does lay.code (bases stack) (base_at_start t (stack_end - stack)) d to
+    pub low : (r : ℕ) → r < 5 → to.regs r ≡ d.regs r
+    pub free : (r : ℕ) → 8 ≤ r → Free l a l.start r → to.regs r ≡ d.regs r
+    pub heap : to.heap ≡ d.heap
+    pub stack' : to.stack ≡ d.stack
+    pub has : HasBase t (stack_end - stack) to
+
+  base_set : (t : Bool) → is_lasting a ≡ t → (d : Data) → Good lay.code (bases stack) d → BaseSet t d
+  base_set true e d g = record {
+    to = with_reg d 27 (stack_end - stack);
+    does = does_number lay.code (bases stack) 27 (stack_end - stack) d g (omega arith) (omega arith);
+    low = λ r lt. set_there d.regs 27 (stack_end - stack) r (omega arith);
+    free = λ r le f. set_there d.regs 27 (stack_end - stack) r (λ same. f (subst (Keeps l a l.start) (sym same) (base_kept l a l.start e)));
+    heap = refl;
+    stack' = refl;
+    has = refl;
+  }
+  base_set false e d g = record { to = d; does = does_nothing lay.code (bases stack) d g; low = λ r lt. refl; free = λ r le f. refl; heap = refl; stack' = refl; has = tt }
+
   -- the call of the start
   record FirstCall (input : List ℕ) (n : ℕ) : Type 0 where
     pub to : Data
@@ -248,6 +270,7 @@ module _ (l : Program) (a : Assignment) (cells stack : ℕ) (lay : Layout) (item
     pub found : label_from 0 items l.start ≡ Some place
     pub ran : Ran lay items begins (at (bases stack) lay items 0 (start_data l.width cells stack)) [] (start_world l (words_at a) input n) (at (bases stack) lay items place to) (suc (0 + length start_piece + length (plain argument_code)) ∷ []) (start_world l (words_at a) input n)
     pub world : HoldsWorld l a cells stack lay to (start_world l (words_at a) input n)
+    pub base : HasBase (is_lasting a) (stack_end - stack) to
     pub sp : to.regs 2 ≡ (bases stack).stack + 4 * (stack / 4)
     pub link : to.regs 1 ≡ lay.address (suc (0 + length start_piece + length (plain argument_code)))
     pub hold : AllHold l.width (argument_spots 0 (map (place_of a) z.start.params)) (start_words l.argument) (regs_of to)
@@ -274,8 +297,10 @@ module _ (l : Program) (a : Assignment) (cells stack : ℕ) (lay : Layout) (item
       let s4 : Stands items (0 + length (plain numbers) + length room_piece) (plain globals_piece) = back items (0 + length (plain numbers)) room_piece (plain globals_piece) at_room in
       let ran3 = plain_ran l a cells stack lay items begins globals_piece p2 test.to G.to [] w0 test.good G.does s4 in
       let end : p2 + length (plain globals_piece) ≡ 0 + length start_piece = let x = length-append (plain numbers) (room_piece ++ plain globals_piece) in let y = length-append room_piece (plain globals_piece) in omega arith in
-      let A = argument_done G.to G.does.good fits in
-      let ran4 = plain_ran l a cells stack lay items begins argument_code (0 + length start_piece) G.to A.to [] w0 G.does.good A.does (front items (0 + length start_piece) (plain argument_code) (Jump 1 l.start ∷ exit_with 0) at_first_call) in
+      let A' = argument_done G.to G.does.good fits in
+      let B = base_set (is_lasting a) refl A'.to A'.does.good in
+      let A = B in
+      let ran4 = plain_ran l a cells stack lay items begins argument_code (0 + length start_piece) G.to A.to [] w0 G.does.good (does_on lay.code (bases stack) A'.does B.does) (front items (0 + length start_piece) (plain argument_code) (Jump 1 l.start ∷ exit_with 0) at_first_call) in
       let pj = 0 + length start_piece + length (plain argument_code) in
       let there = s.procedures l.start z.start z.is_start in
       let label = (subst (λ x. Stands items there.place x) there.emits.is there.stands).0 in
@@ -284,7 +309,7 @@ module _ (l : Program) (a : Assignment) (cells stack : ℕ) (lay : Layout) (item
       let ran3' = subst (λ y. Ran lay items begins (at (bases stack) lay items p2 test.to) [] w0 (at (bases stack) lay items y G.to) [] w0) end ran3 in
       let d4 = jumped (bases stack) lay items pj 1 A.to in
       let jump_reg = λ (r : ℕ) (z0 : r ≢ 0) (z7 : r ≢ 7) (z1 : r ≢ 1). jumped_reg l a cells stack lay items begins s pj 1 r A.to z0 z7 z1 in
-      let stack_len : length A.to.stack ≡ stack / 4 = ap length (A.stack' ∙ G.stack' ∙ test.stack') ∙ length-replicate (stack / 4) 0 in
+      let stack_len : length A.to.stack ≡ stack / 4 = ap length (A.stack' ∙ A'.stack' ∙ G.stack' ∙ test.stack') ∙ length-replicate (stack / 4) 0 in
       let many : length w0.cells ≡ length l.globals = length-map l.globals (global_cell l (words_at a)) in
       record {
         to = d4;
@@ -293,24 +318,25 @@ module _ (l : Program) (a : Assignment) (cells stack : ℕ) (lay : Layout) (item
         ran = ran_on lay items begins (numbers_ran w0) (ran_on lay items begins ran2 (ran_on lay items begins ran3' (ran_on lay items begins ran4 (quiet lay items begins w0 w0 step refl refl refl refl refl))));
         world = record {
           good = good_jumped l a cells stack lay items begins s pj 1 (Jump 1 l.start) A.to jump_stands.0 A.does.good;
-          cells_are = subst (λ x. HoldsCells l.width x w0.cells) (sym A.heap) G.cells_are;
-          next = jump_reg 3 (omega arith) (omega arith) (omega arith) ∙ A.low 3 (omega arith) ∙ G.next ∙ ap (λ x. heap_base + 4 * l.width * x) (let x : 0 + length l.globals ≡ length w0.cells = omega arith in x);
-          end = jump_reg 4 (omega arith) (omega arith) (omega arith) ∙ A.low 4 (omega arith) ∙ G.four ∙ keeps.end;
+          cells_are = subst (λ x. HoldsCells l.width x w0.cells) (sym (A.heap ∙ A'.heap)) G.cells_are;
+          next = jump_reg 3 (omega arith) (omega arith) (omega arith) ∙ A.low 3 (omega arith) ∙ A'.low 3 (omega arith) ∙ G.next ∙ ap (λ x. heap_base + 4 * l.width * x) (let x : 0 + length l.globals ≡ length w0.cells = omega arith in x);
+          end = jump_reg 4 (omega arith) (omega arith) (omega arith) ∙ A.low 4 (omega arith) ∙ A'.low 4 (omega arith) ∙ G.four ∙ keeps.end;
           room = omega arith;
           globals = omega arith;
           input = bytes;
-          heap_words = ap length A.heap ∙ G.words ∙ heap_len;
+          heap_words = ap length (A.heap ∙ A'.heap) ∙ G.words ∙ heap_len;
           stack_words = omega arith;
         };
-        sp = jump_reg 2 (omega arith) (omega arith) (omega arith) ∙ A.low 2 (omega arith) ∙ G.two ∙ keeps.frame ∙ (let x : stack_end ≡ (bases stack).stack + 4 * (stack / 4) = omega arith in x);
+        base = base_same (is_lasting a) (stack_end - stack) A.to d4 (jump_reg 27 (omega arith) (omega arith) (omega arith)) B.has;
+        sp = jump_reg 2 (omega arith) (omega arith) (omega arith) ∙ A.low 2 (omega arith) ∙ A'.low 2 (omega arith) ∙ G.two ∙ keeps.frame ∙ (let x : stack_end ≡ (bases stack).stack + 4 * (stack / 4) = omega arith in x);
         link = s.rises.far_keeps pj 1 (set_reg A.to.regs 1 (lay.address (suc pj))) (omega arith) (omega arith) ∙ set_here A.to.regs 1 (lay.address (suc pj));
-        hold = regs_hold (argument_spots 0 (map (place_of a) z.start.params)) (start_words l.argument) A.to d4 (s.fine l.start z.start z.is_start).arguments (λ r lo. jump_reg r (omega arith) (omega arith) (omega arith)) A.hold;
+        hold = regs_hold (argument_spots 0 (map (place_of a) z.start.params)) (start_words l.argument) A'.to d4 (s.fine l.start z.start z.is_start).arguments (λ r lo f. jump_reg r (omega arith) (omega arith) (omega arith) ∙ B.free r lo f) A'.hold;
       }
     where
-      regs_hold : (ss : List Spot) (vs : List Word) (d d' : Data) → AllFree l a l.start ss → ((r : ℕ) → 8 ≤ r → d'.regs r ≡ d.regs r) → AllHold l.width ss vs (regs_of d) → AllHold l.width ss vs (regs_of d')
+      regs_hold : (ss : List Spot) (vs : List Word) (d d' : Data) → AllFree l a l.start ss → ((r : ℕ) → 8 ≤ r → Free l a l.start r → d'.regs r ≡ d.regs r) → AllHold l.width ss vs (regs_of d) → AllHold l.width ss vs (regs_of d')
       regs_hold [] vs d d' o e h = tt
       regs_hold (x ∷ ss) [] d d' o e h = tt
-      regs_hold (Reg r ∷ ss) (v ∷ vs) d d' o e h = (e r o.0.0 ∙ h.0, regs_hold ss vs d d' o.1 e h.1)
+      regs_hold (Reg r ∷ ss) (v ∷ vs) d d' o e h = (e r o.0.0 o.0.1.1 ∙ h.0, regs_hold ss vs d d' o.1 e h.1)
       regs_hold (Slot k ∷ ss) (v ∷ vs) d d' o e h = let none = o.0 in absurd (omega arith)
       regs_hold (Scratch ∷ ss) (v ∷ vs) d d' o e h = absurd o.0
 
@@ -330,5 +356,5 @@ module _ (l : Program) (a : Assignment) (cells stack : ℕ) (lay : Layout) (item
           let four = s.stack_four in
           let pj = 0 + length start_piece + length (plain argument_code) in
           let back_found = comes_back lay items s.rises pj (ap is_instruction jump_stands.0) (behind_call l a cells stack lay items begins s pj 1 l.start jump_stands.0) in
-          let done_by = calls_simulated l a cells stack lay items begins s n l.start z.start C.place (suc pj) [] (start_words l.argument) 0 (stack / 4) w0 C.to z.is_start C.found C.world C.sp (omega arith) C.link back_found C.hold (omega arith) in
+          let done_by = calls_simulated l a cells stack lay items begins s n l.start z.start C.place (suc pj) [] (start_words l.argument) 0 (stack / 4) w0 C.to z.is_start C.found C.world C.base C.sp (omega arith) C.link back_found C.hold (omega arith) in
           outcome_of C.place pj C.to C.to w0 (calls l (words_at a) (room l a cells stack lay items begins) n l.start (start_words l.argument) 0 w0) jump_stands.1 there C.ran done_by

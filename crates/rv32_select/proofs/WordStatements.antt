@@ -190,6 +190,7 @@ module _ (l : Program) (a : Assignment) (cells stack : ℕ) (lay : Layout) (item
             to_differ = b.to_differ;
             in_registers = b.in_registers;
             stood = stood_same l a cells stack lay framed f j pf.slots (slots_of (place_of a) (variables q)) d0 (lay.address m) (Needed c0 env Must) (Needed c env Must) d z.to w w' pf.enough b.stood world (home_kept l a cells stack lay framed j (lay.address m) d z.to (z.others 1 (omega arith)) (ap (λ x. get_or x j 0) z.stack) b.stood.home) (z.others 2 (omega arith)) (ap length z.stack) (λ t. ap (λ x. get_or x t 0) z.stack) z.same needs;
+            base = b.base;
             left = b.left;
             top_is = b.top_is;
             under_is = b.under_is;

@@ -275,6 +275,7 @@ module _ (l : Program) (a : Assignment) (cells stack : ℕ) (s : Selectable l a 
       procedures = procedure_placed;
       few_procedures = s.procedures;
       frames = s.fits.covers.frames;
+      masks = s.fits.covers.masks;
       words = λ f. let h = s.frames f in omega (arith, h);
       start = start_there;
     },

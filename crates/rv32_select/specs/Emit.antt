@@ -1,7 +1,7 @@
 -- The instructions and items of each piece of low code, in their cheapest forms. x1 is a return
 -- address, x2 the address of the frame, x3 that of the next cell, x4 the heap's end and x5 the
 -- scratch spot; x6 and x7 are for one piece at a time, x7 for the address of a far slot.
-use Rattle.std.specs.Prelude.{ℕ, zero, suc, ◌+◌, ◌*◌, ◌/◌, ◌%◌, ℤ, pos, negsuc, Bool, true, false, ◌||◌, nat_eq, nat_lt, if◌then◌else◌, List, [], ◌∷◌, ◌++◌, map, length}
+use Rattle.std.specs.Prelude.{ℕ, zero, suc, ◌+◌, ◌-◌, ◌*◌, ◌/◌, ◌%◌, ℤ, pos, negsuc, Bool, true, false, ◌||◌, nat_eq, nat_lt, if◌then◌else◌, List, [], ◌∷◌, ◌++◌, map, length}
 use Rattle.rv32_isa.specs.Bits.{lower}
 use Rattle.rv32_isa.specs.declared.instr.Instr.{Instr}
 use Rattle.rv32_isa.specs.declared.instr.Instr.TheVariants.{Lui, Load, Store, OpImm, Op, Jalr, Ecall}
@@ -204,17 +204,31 @@ operate_in_order f t (Number n) right =
 abbrev pub prim_code : PrimOp → (to : Spot) → (left right : Source) → List Instr
 prim_code f to left right = operate_in_order f (target 5 to) left right ++ keep 5 to
 
--- the offset of a word in its cell, of which there are no 512
-abbrev pub word_offset : ℕ → ℤ
-word_offset k = pos (4 * (k % 512))
+-- a word of a cell, of which there are no 512: the low bits of an address that is a number are in
+-- the offset, where there is room for them
+abbrev pub low_bits : (index n : ℕ) → ℕ
+low_bits k n = if nat_lt (n % 2048 + 4 * (k % 512)) 2048 then n % 2048 else 0
+
+abbrev pub low_part : (index : ℕ) → Source → ℕ
+low_part k (At s) = 0
+low_part k (Number n) = low_bits k n
+
+abbrev pub high_part : (index : ℕ) → Source → Source
+high_part k (At s) = At s
+high_part k (Number n) = Number (n - low_bits k n)
+
+abbrev pub word_offset : (index : ℕ) → Source → ℤ
+word_offset k cell = pos (low_part k cell + 4 * (k % 512))
 
 abbrev pub load_code : (to : Spot) → (cell : Source) → (index : ℕ) → List Instr
 load_code to cell k =
-    hold 5 cell ++ (Load Lw (target 5 to) (held 5 cell) (word_offset k) ∷ keep 5 to)
+    hold 5 (high_part k cell)
+    ++ (Load Lw (target 5 to) (held 5 (high_part k cell)) (word_offset k cell) ∷ keep 5 to)
 
 abbrev pub save_code : (cell : Source) → (index : ℕ) → Source → List Instr
 save_code cell k word =
-    hold 5 cell ++ (hold 6 word ++ Store Sw (held 6 word) (held 5 cell) (word_offset k) ∷ [])
+    hold 5 (high_part k cell) ++ (hold 6 word
+    ++ Store Sw (held 6 word) (held 5 (high_part k cell)) (word_offset k cell) ∷ [])
 
 -- ---- taking cells
 
@@ -345,12 +359,26 @@ abbrev pub link_taken : (framed : Bool) → List Instr
 link_taken true = take_link
 link_taken false = []
 
+-- the stack's base is in x27 from the start on, or each entry puts it into x5
+abbrev pub base_register : (lasting : Bool) → ℕ
+base_register true = 27
+base_register false = 5
+
+abbrev pub base_at_start : (lasting : Bool) → (stack_base : ℕ) → List Instr
+base_at_start true stack_base = load_constant 27 stack_base
+base_at_start false stack_base = []
+
+abbrev pub base_at_entry : (lasting : Bool) → (stack_base : ℕ) → List Instr
+base_at_entry true stack_base = []
+base_at_entry false stack_base = load_constant 5 stack_base
+
 -- x2 goes down by the frame; where it is then below the stack, the stack is full
-abbrev pub entry_items : (label words : ℕ) → (framed : Bool) → (stack_base stack_full : ℕ)
+abbrev pub entry_items : (label words : ℕ) → (framed lasting : Bool) → (stack_base stack_full : ℕ)
     → (params : List Spot) → List Item
-entry_items label words framed stack_base stack_full params =
-    Label label ∷ (plain (add_to 2 2 (negated (4 * words)) ++ load_constant 5 stack_base)
-    ++ Branch Ltu 2 5 stack_full ∷ plain (link_put framed ++ parameters_code 0 params))
+entry_items label words framed lasting stack_base stack_full params =
+    Label label ∷ (plain (add_to 2 2 (negated (4 * words)) ++ base_at_entry lasting stack_base)
+    ++ Branch Ltu 2 (base_register lasting) stack_full
+    ∷ plain (link_put framed ++ parameters_code 0 params))
 
 -- the return address is in x1 again, and x2 goes up
 abbrev pub leave_code : (framed : Bool) → (words : ℕ) → List Instr

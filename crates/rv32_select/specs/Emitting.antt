@@ -1,11 +1,12 @@
 -- What items that were put behind others stand for.
-use Rattle.std.specs.Prelude.{◌≡◌, ℕ, Bool, true, false, Option, None, List, [], ◌∷◌, ◌++◌, Some, slice_get}
+use Rattle.std.specs.Prelude.{◌≡◌, ℕ, Bool, true, false, Option, None, List, [], ◌∷◌, ◌++◌, Some, slice_get, suc, ◌≤◌, length}
 use Rattle.parallel_move.specs.declared.Spot.{Spot}
 use Rattle.parallel_move.specs.declared.Move.{Move}
 use Rattle.low_code.specs.declared.program.Operand.{Operand}
 use Rattle.low_code.specs.declared.program.LowTest.{LowTest}
 use Rattle.low_code.specs.declared.program.PrimOp.{PrimOp}
-use Rattle.low_code.specs.Tree.{Code, prim, Arms, arm, Procedure, Program}
+use Rattle.low_code.specs.Tree.{Code, prim, Arms, arm, Procedure, Program, code_of}
+use Rattle.low_code.specs.declared.program.LowArm.{LowArm}
 use Rattle.register_alloc.specs.Assignment.{Assignment, saves_at}
 use Rattle.rv32_items.specs.declared.Item.{Item}
 use Rattle.rv32_items.specs.declared.Item.TheVariants.{Jump}
@@ -13,8 +14,9 @@ use Rattle.rv32_select.specs.declared.source.Source.{Source}
 use Rattle.rv32_select.specs.declared.decides.Comparison.{Comparison}
 use Rattle.rv32_select.specs.declared.source.Way.{Way}
 use Rattle.rv32_select.specs.Emit.{put_link, take_link, plain, moves_code, spot_moves, number_moves, leave_code}
-use Rattle.rv32_select.specs.IsSelected.{IsOrder, sources, places, argument_spots_of, result_spots_of, moves_between, call_items, Emits, EmitsArms, EmitsLast, EmitsDecidedFirst, EmitsDecidedLast, EmitsProcedure}
+use Rattle.rv32_select.specs.IsSelected.{IsOrder, sources, places, argument_spots_of, result_spots_of, moves_between, call_items, Emits, EmitsArms, EmitsLast, EmitsDecidedFirst, EmitsDecidedLast, EmitsProcedure, source}
 use Rattle.rv32_select.specs.Decides.{decides_code, decides, decided}
+use Rattle.rv32_select.specs.Halves.{Sought, Below, Halves}
 use Rattle.rv32_select.specs.Writable.{Placed, ArmsPlaced}
 
 -- moves in some order
@@ -54,6 +56,18 @@ abbrev pub link_back : (framed : Bool) → List Item
 link_back true = []
 link_back false = plain take_link
 
+-- each of some arms has one test, of this word against a number, and the numbers rise from `low`
+-- on, below a bound
+abbrev pub Rises : (word : Operand) (low : ℕ) → Option ℕ → List LowArm → Type 0
+Rises word low high [] = Unit {0}
+Rises word low high (t ∷ ts) =
+    (number : ℕ) × (t.tests ≡ record { left = word; right = number } ∷ []) × (low ≤ number)
+    × Below number high × Rises word (suc number) high ts
+
+abbrev pub RisesWhere : Option Operand → List LowArm → Type 0
+RisesWhere None ts = Unit {0}
+RisesWhere (Some word) ts = (1 ≤ length ts) × Rises word 0 None ts
+
 module _ (l : Program) (a : Assignment) where
   pub record Called (saved f site : ℕ) (as' : List Operand) (xs : List ℕ) (old new : List Item)
       : Type 0 where
@@ -90,6 +104,27 @@ module _ (l : Program) (a : Assignment) (cells stack words saved : ℕ) (framed 
     pub items : List Item
     pub is : new ≡ old ++ items
     pub emits : EmitsLast l a cells stack words saved framed to way c n m items
+
+  -- arms with one test each, by the blocks that stand for them
+  abbrev pub AreSought : (word : Operand) (to : List Spot) (way : Way) → List LowArm
+      → List Sought → Type 0
+  AreSought word to way [] [] = Unit {0}
+  AreSought word to way [] (s ∷ ss) = ⊥
+  AreSought word to way (t ∷ ts) [] = ⊥
+  AreSought word to way (t ∷ ts) (s ∷ ss) =
+      (t.tests ≡ record { left = word; right = s.number } ∷ [])
+      × Emits l a cells stack words saved framed to way (code_of t.block) s.first s.next s.block
+      × AreSought word to way ts ss
+
+  -- arms that are looked for by halves
+  pub record Searched (miss : ℕ) (word : Operand) (to : List Spot) (way : Way) (low : ℕ)
+      (high : Option ℕ) (ts : List LowArm) (old : List Item) (n : ℕ) (new : List Item) (m : ℕ)
+      : Type 0 where
+    pub all : List Sought
+    pub items : List Item
+    pub is : new ≡ old ++ items
+    pub arms : AreSought word to way ts all
+    pub halves : Halves miss (source l a word) low high all n m items
 
   pub record EmittedDecidedFirst (f : PrimOp) (left right : Source) (to : List Spot) (way : Way)
       (c : Arms) (old : List Item) (n : ℕ) (new : List Item) (m : ℕ) : Type 0 where

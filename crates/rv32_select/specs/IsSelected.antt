@@ -1,6 +1,6 @@
 -- The items that stand for low code, statement by statement, where moves may be done in any order
 -- that does them at once.
-use Rattle.std.specs.Prelude.{◌≡◌, ℕ, suc, ◌+◌, ◌-◌, ◌*◌, ◌%◌, ◌^◌, ◌≤◌, Bool, true, false, if◌then◌else◌, List, [], ◌∷◌, ◌++◌, map, length, Option, Some, None, slice_get}
+use Rattle.std.specs.Prelude.{◌/◌, nat_eq, ◌≡◌, ℕ, suc, ◌+◌, ◌-◌, ◌*◌, ◌%◌, ◌^◌, ◌≤◌, Bool, true, false, if◌then◌else◌, List, [], ◌∷◌, ◌++◌, map, length, Option, Some, None, slice_get, ◌⊎◌}
 use Rattle.parallel_move.specs.declared.Spot.{Spot}
 use Rattle.parallel_move.specs.declared.Move.{Move}
 use Rattle.parallel_move.specs.Moves.{DoesAtOnce, ends, StaysAmong}
@@ -18,8 +18,9 @@ use Rattle.rv32_select.specs.declared.source.Source.{Source}
 use Rattle.rv32_select.specs.declared.source.Source.TheVariants.{At, Number}
 use Rattle.rv32_select.specs.declared.source.Way.{Way}
 use Rattle.rv32_select.specs.declared.source.Way.TheVariants.{Returns, Follows, Jumps}
-use Rattle.rv32_select.specs.Emit.{put_link, take_link, plain, moves_code, spot_moves, number_moves, set_code, prim_code, load_code, save_code, take_items, put_code, get_code, exit_with, argument_spots, result_spots, entry_items, leave_code, return_items, save_moves, restore_moves, branch_items, test_items, match_items, start_items, stop_items}
+use Rattle.rv32_select.specs.Emit.{put_link, take_link, plain, moves_code, spot_moves, number_moves, set_code, prim_code, load_code, save_code, take_items, put_code, get_code, exit_with, argument_spots, result_spots, entry_items, base_at_start, leave_code, return_items, save_moves, restore_moves, branch_items, test_items, match_items, start_items, stop_items}
 use Rattle.rv32_select.specs.Decides.{decides, tested, condition, other_condition}
+use Rattle.rv32_select.specs.Halves.{Sought, Halves}
 
 -- the heap's first address, and the end of the frames
 abbrev pub heap_base : ℕ
@@ -124,6 +125,14 @@ stack_full l = 2 + length l.procs
 abbrev pub first_label : Program → ℕ
 first_label l = 3 + length l.procs
 
+-- no procedure changes x27, so that what is there from the start on lasts
+abbrev pub all_keep : (masks : List ℕ) → Bool
+all_keep [] = true
+all_keep (m ∷ ms) = if nat_eq (m / 2 ^ 27 % 2) 1 then false else all_keep ms
+
+abbrev pub is_lasting : Assignment → Bool
+is_lasting a = all_keep a.masks
+
 abbrev pub places : Assignment → List ℕ → List Spot
 places a xs = map (place_of a) xs
 
@@ -168,10 +177,20 @@ module _ (l : Program) (a : Assignment) where
       ++ (moves_code arguments ++ number_moves (argument_spots_of f) (sources as')))
       ++ Jump 1 f ∷ plain (moves_code results ++ moves_code (restore_moves saved registers))
 
+  -- a choice by halves, with the items behind the search; n is the label where no number is the
+  -- word
+  abbrev pub ByHalves : (Each : Operand → List Sought → (k : ℕ) → List Item → Type 0) → (n : ℕ)
+      → List Item → Type 0
+  ByHalves Each n items =
+      (word : Operand) × (all : List Sought) × (k : ℕ) × (search rest : List Item)
+      × Halves n (source word) 0 None all (suc n) k search × Each word all k rest
+      × (items ≡ (search ++ Label n ∷ []) ++ rest)
+
   -- the call of the start, and the exit behind it
-  abbrev pub first_call : List Item
-  first_call =
-      plain (number_moves (argument_spots_of l.start) (sources (start_argument l.argument)))
+  abbrev pub first_call : (stack_base : ℕ) → List Item
+  first_call stack_base =
+      plain (number_moves (argument_spots_of l.start) (sources (start_argument l.argument))
+      ++ base_at_start (is_lasting a) stack_base)
       ++ Jump 1 l.start ∷ exit_with 0
 
 module _ (l : Program) (a : Assignment) (cells stack : ℕ) where
@@ -219,10 +238,12 @@ module _ (l : Program) (a : Assignment) (cells stack : ℕ) where
           × (items ≡ plain (moves_code steps
           ++ (number_moves (argument_spots_of l a f) (sources l a as') ++ leave_code framed words))
           ++ Jump 0 f ∷ [])
-      Emits to way (choose as') n m items = elim (stands_last way as') [
-        | true ↦ EmitsLast to way as' n m items
-        | false ↦ EmitsArms to way as' n m items
-      ]
+      Emits to way (choose as') n m items =
+          ByHalves l a (λ word all k rest. EmitsEach word to way as' all k m rest) n items
+          ⊎ elim (stands_last way as') [
+            | true ↦ EmitsLast to way as' n m items
+            | false ↦ EmitsArms to way as' n m items
+          ]
       -- at the stop x5 has the address behind this jump, which tells where no alternative was
       Emits to way fail n m items = (m ≡ n) × (items ≡ Jump 5 (no_alternative l) ∷ [])
 
@@ -231,6 +252,16 @@ module _ (l : Program) (a : Assignment) (cells stack : ℕ) where
       EmitsArms to way (arm ts c as') n m items =
           (k : ℕ) × (block : List Item) × Emits to (further way) c (suc n) k block
           × Then (tests_items l a n ts ++ (block ++ Label n ∷ [])) (EmitsArms to way as' k m) items
+
+      -- arms with one test each, of this word: their numbers with their blocks, and the last block
+      pub EmitsEach : (word : Operand) → (to : List Spot) → Way → Arms → List Sought → (k m : ℕ)
+          → List Item → Type 0
+      EmitsEach word to way (otherwise c) all k m rest = (all ≡ []) × Emits to way c k m rest
+      EmitsEach word to way (arm ts c as') all k m rest =
+          (s : Sought) × (others : List Sought) × (all ≡ s ∷ others)
+          × (ts ≡ record { left = word; right = s.number } ∷ [])
+          × Emits to (further way) c s.first s.next s.block
+          × EmitsEach word to way as' others k m rest
 
       -- the first arm, with its one test, behind the others
       pub EmitsLast : (to : List Spot) → Way → Arms → (n m : ℕ) → List Item → Type 0
@@ -272,8 +303,8 @@ module _ (l : Program) (a : Assignment) (cells stack : ℕ) where
     pub body : Emits (words_at a f) (slots_of (place_of a) (variables q)) framed
         (result_spots 10 q.results) Returns q.body n m block
     pub is : items
-        ≡ entry_items f (words_at a f) framed (stack_end - stack) (stack_full l) (places a q.params)
-        ++ block
+        ≡ entry_items f (words_at a f) framed (is_lasting a) (stack_end - stack) (stack_full l)
+        (places a q.params) ++ block
 
   -- the procedures from number f on
   abbrev pub EmitsProcedures : (f : ℕ) → List Procedure → (n m : ℕ) → List Item → Type 0
@@ -288,4 +319,4 @@ module _ (l : Program) (a : Assignment) (cells stack : ℕ) where
     pub each : EmitsProcedures 0 l.procs (first_label l) last procedures
     pub is : items
         ≡ (start_items stack_end heap_base (heap_end l cells) (step l) (heap_full l) l.globals
-        ++ first_call l a) ++ (procedures ++ stop_items (no_alternative l))
+        ++ first_call l a (stack_end - stack)) ++ (procedures ++ stop_items (no_alternative l))

@@ -1,6 +1,7 @@
 pub mod Ranges
 pub mod Emit
 pub mod Decides
+pub mod Halves
 pub mod IsSelected
 pub mod Writable
 pub mod Emitting

@@ -1,5 +1,6 @@
 -- Items that do what low code does, in frames and on a heap of the given sizes.
 use Rattle.std.specs.Prelude.{◌≡◌, ℕ, ◌+◌, ◌-◌, ◌*◌, ◌≤◌, true, false, List, [], ◌∷◌, length, replicate, Option, Some, None, slice_get}
+use Rattle.std.specs.List.{range_with_len}
 use Rattle.headline.specs.Carries.{IsBytes, Begins}
 use Rattle.low_code.specs.Tree.{Program}
 use Rattle.low_code.specs.Values.{Answer, no_alternative, out_of_units, missing, heap_full, stack_full}
@@ -76,6 +77,8 @@ pub record Arrives (begins input : List ℕ) (a : Answer) (c : Course) : Type 0 
 pub record Selects (l : Program) (a : Assignment) (cells stack : ℕ) (items : List Item)
     : Type 0 where
   pub begins : List ℕ
+  -- the labels 0, 1 and so on
+  pub begins_are : begins ≡ range_with_len 0 (length l.procs)
   pub one_each : length begins ≡ length l.procs
   pub different : AllDifferent begins
   pub stand : (b : ℕ) → is_one_of begins b ≡ true → times b items ≡ 1

@@ -5,7 +5,8 @@ use Rattle.std.specs.Prelude.{◌≡◌, ℕ, ◌*◌, ◌≤◌, ◌<◌, ◌^�
 use Rattle.low_code.specs.declared.program.Operand.{Operand}
 use Rattle.low_code.specs.declared.program.Operand.TheVariants.{Var, Num, Cell}
 use Rattle.low_code.specs.declared.program.LowTest.{LowTest}
-use Rattle.low_code.specs.Tree.{Code, set, prim, load, save, take, put, get, call, join, give, tail, choose, fail, Arms, otherwise, arm, Procedure, Program}
+use Rattle.low_code.specs.declared.program.LowArm.{LowArm}
+use Rattle.low_code.specs.Tree.{Code, code_of, set, prim, load, save, take, put, get, call, join, give, tail, choose, fail, Arms, otherwise, arm, Procedure, Program}
 use Rattle.low_code.specs.Formed.{variables}
 use Rattle.register_alloc.specs.Assignment.{Assignment, place_of, saves_at, words_at}
 use Rattle.register_alloc.specs.Fits.{slots_of}
@@ -67,6 +68,10 @@ module _ (l : Program) (a : Assignment) where
     ArmsPlaced (otherwise c) = Placed c
     ArmsPlaced (arm ts c as') = TestsPlaced ts × Placed c × ArmsPlaced as'
 
+  abbrev pub BlocksPlaced : List LowArm → Type 0
+  BlocksPlaced [] = Unit {0}
+  BlocksPlaced (t ∷ ts) = Placed (code_of t.block) × BlocksPlaced ts
+
   abbrev pub ArmPlaced : List LowTest × Code → Type 0
   ArmPlaced t = TestsPlaced t.0 × Placed t.1
 
@@ -84,6 +89,7 @@ module _ (l : Program) (a : Assignment) where
     pub procedures : (f : ℕ) (q : Procedure) → slice_get l.procs f ≡ Some q → ProcedurePlaced q
     pub few_procedures : length l.procs ≤ 131072
     pub frames : length a.frames ≡ length l.procs
+    pub masks : length a.masks ≡ length l.procs
     pub words : (f : ℕ) → words_at a f < 67108864
     pub start : l.start < length l.procs
 

@@ -4,104 +4,34 @@
 ghost use Rattle.std.specs.Prelude.{◌≡◌, ◌++◌, [], ◌∷◌, ◌<◌, ◌+◌, ◌*◌, ◌≤◌, suc, length, map, slice_get, Some, OnOk, IfOk, true, false, if◌then◌else◌};
 ghost use Rattle.low_code.specs.Tree.{Code as Block, prim, join, choose, all_before, arms_before, before_of, end_of, code_of, arm_of, program_of};
 ghost use Rattle.register_alloc.specs.Assignment.{place_of};
-ghost use Rattle.rv32_select.specs.Emit.{put_link as put_link_code, take_link as take_link_code, link_put as link_put_code, link_taken as link_taken_code, plain, leave_code, take_items};
-ghost use Rattle.rv32_select.specs.IsSelected.{source as source_of, further as further_way, way_out as way_out_items, sources as sources_of, tests_items, is_rare as is_rare_code, waits as waits_there, has_one, argument_spots_of, result_spots_of, moves_between as moves_across, heap_end as end_of_heap, heap_full as heap_full_label, no_alternative as no_alternative_label};
+ghost use Rattle.rv32_select.specs.Emit.{take_items};
+ghost use Rattle.rv32_select.specs.IsSelected.{source as source_of, sources as sources_of, tests_items, argument_spots_of, result_spots_of, moves_between as moves_across, heap_end as end_of_heap, heap_full as heap_full_label, no_alternative as no_alternative_label};
 ghost use Rattle.rv32_select.specs.Decides.{decides as decides_all};
 ghost use Rattle.rv32_select.specs.Ranges.{AreTargets};
-ghost use Rattle.rv32_select.specs.Writable.{Writable, CanWrite, FrameFits, Placed, ArmsPlaced, ArmPlaced, HavePlaces, OperandPlaced, OperandsPlaced, TestsPlaced, TargetsPlaced, CallPlaced};
-ghost use Rattle.rv32_select.specs.Emitting.{link_aside as link_aside_items, link_back as link_back_items, Moved, Sent, Called, TailCalled, Emitted, EmittedArms, EmittedLast, EmittedDecidedFirst, EmittedDecidedLast, Before, ArmsBefore, one_arm};
+ghost use Rattle.rv32_select.specs.Writable.{Writable, CanWrite, FrameFits, Placed, ArmsPlaced, ArmPlaced, HavePlaces, OperandPlaced, OperandsPlaced, TestsPlaced, TargetsPlaced, CallPlaced, BlocksPlaced};
+ghost use Rattle.rv32_select.specs.Emitting.{Moved, Sent, Called, TailCalled, Emitted, EmittedArms, EmittedLast, EmittedDecidedFirst, EmittedDecidedLast, Before, ArmsBefore, one_arm, Rises, Searched};
+ghost use Rattle.rv32_select.specs.Halves.{last_test as last_test_items};
 
 use crate::code::Code;
 use crate::context::{Context, Frame, HEAP_BASE, result_spots};
 use crate::decides::{Comparison, condition, deciding, other_condition, tested};
+use crate::links::further;
+use crate::rare::stands_last;
+use crate::search::{Search, extra_words, number_of, sought};
 use crate::source::Way;
+use crate::statements::spared_by_offset;
 use low_code::{LowArm, LowBlock, LowEnd, LowStmt, LowTest, Operand};
 use parallel_move::Spot;
-use rv32_isa::{Imm12, Instr, LoadKind, Reg, StoreKind};
-use rv32_items::Item;
+use rv32_isa::Reg;
+use rv32_items::{Cond, Item};
 use std::alloc::AllocError;
 
-/// The items so far, the next label, and the words that were spared by return addresses in x1.
+/// The items so far, the next label, and the words that were spared.
 #[derive(Drop)]
 pub(crate) struct Selection {
     pub(crate) code: Code,
     pub(crate) next: u32,
     pub(crate) spared: u32,
-}
-
-/// The way where other items come before the label.
-fn further(way: Way) -> Way
-    ensures { result ≡ further_way way }
-{
-    match way {
-        Way::Returns => Way::Returns,
-        Way::Follows(label) => Way::Jumps(label),
-        Way::Jumps(label) => Way::Jumps(label),
-    }
-}
-
-/// Whether a statement calls a procedure.
-fn calls(stmt: &LowStmt) -> bool
-    ensures { (c : Block) → is_rare_code (before_of stmt.now c)
-        ≡ (if result then true else is_rare_code c) }
-{
-    match stmt {
-        LowStmt::Set(_, _) => false,
-        LowStmt::Prim(_, _, _, _) => false,
-        LowStmt::Load(_, _, _) => false,
-        LowStmt::Save(_, _, _) => false,
-        LowStmt::Take(_) => false,
-        LowStmt::Put(_) => false,
-        LowStmt::Get(_) => false,
-        LowStmt::Call(_, _, _, _) => true,
-        LowStmt::Join(_, _) => false,
-    }
-}
-
-/// Whether an end has no alternative.
-fn fails(end: &LowEnd) -> bool
-    ensures { result ≡ is_rare_code (end_of end.now) }
-{
-    match end {
-        LowEnd::Give(_) => false,
-        LowEnd::Tail(_, _, _) => false,
-        LowEnd::Choose(_, _) => false,
-        LowEnd::Fail => true,
-    }
-}
-
-/// Whether a block likely runs rarely: it calls a procedure, or has no alternative.
-fn is_rare(block: &LowBlock) -> bool
-    ensures { result ≡ is_rare_code (code_of block.now) }
-{
-    for stmt in block.stmts.as_slice() {
-        if calls(stmt) {
-            return true;
-        }
-    }
-    fails(&block.last)
-}
-
-/// Whether the first alternative is to stand behind the others, of which this is the last.
-fn waits(way: Way, first: &LowBlock, last: &LowBlock) -> bool
-    ensures { result ≡ waits_there way (code_of first.now) (code_of last.now) }
-{
-    match way {
-        Way::Returns => false,
-        Way::Follows(_) => { if is_rare(first) { false } else { is_rare(last) } }
-        Way::Jumps(_) => { if is_rare(first) { false } else { is_rare(last) } }
-    }
-}
-
-/// Whether it has one test, too.
-fn stands_last(way: Way, first: &LowArm, last: &LowBlock) -> bool
-    ensures { result ≡ (if has_one first.now.tests
-        then waits_there way (code_of first.now.block) (code_of last.now) else false) }
-{
-    if first.tests.len() == 1 {
-        return waits(way, &first.block, last);
-    }
-    false
 }
 
 impl Selection {
@@ -113,88 +43,6 @@ impl Selection {
         let label = self.next;
         self.next = label.checked_add(1).ok_or(AllocError)?;
         Ok(label)
-    }
-}
-
-impl Code {
-    /// The return address goes to the frame's first word.
-    fn put_link(&mut self) -> Result<(), AllocError>
-        ensures { OnOk result (self.new ≡ self.old ++ plain put_link_code) }
-    {
-        self.instr(Instr::Store(StoreKind::Sw, Reg(1), Reg(2), Imm12(0)))
-    }
-
-    /// It comes back.
-    fn take_link(&mut self) -> Result<(), AllocError>
-        ensures { OnOk result (self.new ≡ self.old ++ plain take_link_code) }
-    {
-        self.instr(Instr::Load(LoadKind::Lw, Reg(1), Reg(2), Imm12(0)))
-    }
-
-    /// In a framed procedure it goes there at the entry.
-    pub(crate) fn link_put(&mut self, framed: bool) -> Result<(), AllocError>
-        ensures { OnOk result (self.new ≡ self.old ++ plain (link_put_code framed)) }
-    {
-        if framed {
-            return self.put_link();
-        }
-        Ok(())
-    }
-
-    /// And comes back at the end.
-    fn link_taken(&mut self, framed: bool) -> Result<(), AllocError>
-        ensures { OnOk result (self.new ≡ self.old ++ plain (link_taken_code framed)) }
-    {
-        if framed {
-            return self.take_link();
-        }
-        Ok(())
-    }
-
-    /// In another one, before a piece that needs x1.
-    fn link_aside(&mut self, framed: bool) -> Result<(), AllocError>
-        ensures { OnOk result (self.new ≡ self.old ++ link_aside_items framed) }
-    {
-        if framed {
-            return Ok(());
-        }
-        self.put_link()
-    }
-
-    /// Behind it.
-    fn link_back(&mut self, framed: bool) -> Result<(), AllocError>
-        ensures { OnOk result (self.new ≡ self.old ++ link_back_items framed) }
-    {
-        if framed {
-            return Ok(());
-        }
-        self.take_link()
-    }
-
-    /// The return address is in x1 again, and x2 goes up.
-    fn leave(&mut self, framed: bool, words: u32) -> Result<(), AllocError>
-        requires { words < 1073741824 }
-        ensures { OnOk result (self.new ≡ self.old ++ plain (leave_code framed words)) }
-    {
-        self.link_taken(framed)?;
-        self.add_to(Reg(2), Reg(2), 4 * words)
-    }
-
-    fn way_out(&mut self, framed: bool, words: u32, way: Way) -> Result<(), AllocError>
-        requires { words < 1073741824 }
-        ensures { OnOk result (self.new ≡ self.old ++ way_out_items framed words way) }
-    {
-        match way {
-            Way::Returns => {
-                self.leave(framed, words)?;
-                self.instr(Instr::Jalr(Reg(0), Reg(1), Imm12(0)))
-            }
-            Way::Follows(_) => Ok(()),
-            Way::Jumps(label) => self.put(Item::Jump {
-                link: Reg(0),
-                label,
-            }),
-        }
     }
 }
 
@@ -373,11 +221,13 @@ impl<'a> Context<'a> {
             }
             LowStmt::Load(x, a, k) => {
                 let cell = self.source(*a);
+                out.spared = spared_by_offset(out.spared, *k, cell);
                 out.code.load(self.places.place(*x), cell, *k)
             }
             LowStmt::Save(a, k, b) => {
                 let cell = self.source(*a);
                 let word = self.source(*b);
+                out.spared = spared_by_offset(out.spared, *k, cell);
                 out.code.save(cell, *k, word)
             }
             LowStmt::Take(xs) => self.take(&mut out.code, xs.as_slice()),
@@ -518,6 +368,110 @@ impl<'a> Context<'a> {
         self.arms(frame, out, to, further(way), arms, otherwise)?;
         out.code.put(Item::Label(label))?;
         self.block(frame, out, to, way, &first.block)?;
+        Ok(())
+    }
+
+    /// A test whether the word is this number, unless it can be nothing else.
+    fn last_test(&self, code: &mut Code, search: Search, number: u32) -> Result<(), AllocError>
+        requires writable { Writable (program_of self.now.low.now) self.now.places.now }
+        requires word { OperandPlaced (program_of self.now.low.now) self.now.places.now
+            search.word }
+        ensures { OnOk result (code.new ≡ code.old ++ last_test_items search.miss
+            (source_of (program_of self.now.low.now) self.now.places.now search.word) search.low
+            search.high number) }
+    {
+        if search.is_alone() {
+            return Ok(());
+        }
+        code.test(search.miss, self.source(search.word), number)
+    }
+
+    /// Arms that are looked for by halves.
+    #[cycle(blocks)]
+    fn halves(
+        &self,
+        frame: Frame,
+        out: &mut Selection,
+        to: &[Spot],
+        way: Way,
+        search: Search,
+        arms: &[LowArm],
+    ) -> Result<(), AllocError>
+        requires writable { CanWrite (program_of self.now.low.now) self.now.places.now
+            self.now.cells }
+        requires frame { FrameFits frame.words frame.saved }
+        requires targets { AreTargets to.now }
+        requires some { 1 ≤ length arms.now }
+        requires word { OperandPlaced (program_of self.now.low.now) self.now.places.now
+            search.word }
+        requires rises { Rises search.word search.low search.high arms.now }
+        requires placed { BlocksPlaced (program_of self.now.low.now) self.now.places.now arms.now }
+        ensures { OnOk result (Searched (program_of self.now.low.now) self.now.places.now
+            self.now.cells self.now.stack frame.words frame.saved frame.framed search.miss search.word to.now
+            way search.low search.high arms.now out.old.code out.old.next out.new.code
+            out.new.next) }
+    {
+        if arms.len() == 1 {
+            let arm = &arms[0];
+            self.last_test(&mut out.code, search, number_of(arm))?;
+            self.block(frame, out, to, way, &arm.block)?;
+            return Ok(());
+        }
+        let (front, back) = arms.split_at(arms.len() / 2);
+        let bound = number_of(&back[0]);
+        let label = out.fresh()?;
+        out.code
+            .compare(Cond::Geu, label, self.source(search.word), bound)?;
+        let below = Search {
+            high: Some(bound),
+            ..search
+        };
+        self.halves(frame, out, to, way, below, front)?;
+        out.code.put(Item::Label(label))?;
+        let above = Search {
+            low: bound,
+            ..search
+        };
+        self.halves(frame, out, to, way, above, back)?;
+        Ok(())
+    }
+
+    /// A choice, by halves where it can be.
+    #[cycle(blocks)]
+    fn choice(
+        &self,
+        frame: Frame,
+        out: &mut Selection,
+        to: &[Spot],
+        way: Way,
+        arms: &[LowArm],
+        otherwise: &LowBlock,
+    ) -> Result<(), AllocError>
+        requires writable { CanWrite (program_of self.now.low.now) self.now.places.now
+            self.now.cells }
+        requires frame { FrameFits frame.words frame.saved }
+        requires targets { AreTargets to.now }
+        requires placed { ArmsPlaced (program_of self.now.low.now) self.now.places.now
+            (arms_before (map arm_of arms.now) (code_of otherwise.now)) }
+        ensures { OnOk result (Emitted (program_of self.now.low.now) self.now.places.now
+            self.now.cells self.now.stack frame.words frame.saved frame.framed to.now way
+            (choose (arms_before (map arm_of arms.now) (code_of otherwise.now))) out.old.code
+            out.old.next out.new.code out.new.next) }
+    {
+        let Some(word) = sought(out.spared, arms, otherwise) else {
+            return self.choose(frame, out, to, way, arms, otherwise);
+        };
+        out.spared = out.spared.saturating_sub(extra_words(arms, word));
+        let miss = out.fresh()?;
+        let search = Search {
+            miss,
+            word,
+            low: 0,
+            high: None,
+        };
+        self.halves(frame, out, to, further(way), search, arms)?;
+        out.code.put(Item::Label(miss))?;
+        self.block(frame, out, to, way, otherwise)?;
         Ok(())
     }
 
@@ -751,7 +705,7 @@ impl<'a> Context<'a> {
                 self.tail(&mut out.code, frame, *f, operands.as_slice())
             }
             LowEnd::Choose(arms, otherwise) => {
-                self.choose(frame, out, to, way, arms.as_slice(), otherwise)
+                self.choice(frame, out, to, way, arms.as_slice(), otherwise)
             }
             // x5, since a jump that links x1 is a call
             LowEnd::Fail => {

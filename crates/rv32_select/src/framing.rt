@@ -139,6 +139,11 @@ fn of_block(proc: u32, block: &LowBlock) -> Tally {
     before.then(of_end(proc, &block.last))
 }
 
+/// The words that a stack's base that lasts spares: one for each entry, but for two of the start.
+pub(crate) fn spared_by_base(lasting: bool, procs: u32) -> u32 {
+    if lasting { procs.saturating_sub(2) } else { 0 }
+}
+
 /// Whether the return address is to be in the frame from the entry to the end. It stays in x1 where
 /// a way through the procedure has no piece that needs x1 and none more than two, and its loads and
 /// stores are no more then. A recursive procedure may have more, and others one, where earlier ones

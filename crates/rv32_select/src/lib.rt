@@ -11,6 +11,7 @@ ghost use Rattle.rv32_select.specs.Selects.{Selects};
 use crate::blocks::Selection;
 use crate::code::Code;
 use crate::context::Context;
+use crate::framing::spared_by_base;
 use low_code::Low;
 use register_alloc::Places;
 use rv32_items::Asm;
@@ -22,7 +23,10 @@ mod context;
 mod decides;
 mod framing;
 mod laws;
+mod links;
 mod procedures;
+mod rare;
+mod search;
 mod slots;
 mod source;
 mod statements;
@@ -52,15 +56,16 @@ pub fn select(
         cells,
         stack,
     };
+    let lasting = context.is_lasting();
     let mut out = Selection {
         code: Code::new(alloc),
         next: 3 + low.procs.len() as u32,
-        spared: 0,
+        spared: spared_by_base(lasting, low.procs.len() as u32),
     };
     context.start_up(&mut out.code)?;
-    context.first_call(&mut out.code)?;
+    context.first_call(&mut out.code, lasting)?;
     for proc in 0..low.procs.len() {
-        context.procedure(&mut out, proc as u32)?;
+        context.procedure(&mut out, lasting, proc as u32)?;
     }
     context.stops(&mut out.code)?;
     Ok(Asm {

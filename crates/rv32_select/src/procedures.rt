@@ -1,10 +1,10 @@
 // Procedures, the start-up and the stops.
 #![tactic(auto, using(crate::proofs::Plain::plain_append, crate::proofs::Entered::entered), unfolding(crate::specs::Emit::plain))]
 
-ghost use Rattle.std.specs.Prelude.{◌≡◌, ◌++◌, [], ◌∷◌, ◌<◌, ◌*◌, ◌+◌, ◌-◌, ◌≤◌, length, map, OnOk, IfOk};
+ghost use Rattle.std.specs.Prelude.{◌≡◌, ◌++◌, [], ◌∷◌, ◌<◌, ◌*◌, ◌+◌, ◌-◌, ◌≤◌, length, map, OnOk, IfOk, ◌/◌, ◌%◌, ◌^◌, nat_eq};
 ghost use Rattle.low_code.specs.Tree.{program_of, procedure_of};
-ghost use Rattle.rv32_select.specs.Emit.{plain, entry_items, globals_code, start_items, stop_items};
-ghost use Rattle.rv32_select.specs.IsSelected.{sources as sources_of, start_argument as argument_of_start, first_call as first_call_items, heap_end as end_of_heap, heap_full as heap_full_label, no_alternative as no_alternative_label, step as bytes_of_cell};
+ghost use Rattle.rv32_select.specs.Emit.{plain, base_register as register_of_base, base_at_entry as base_at_entry_code, base_at_start as base_at_start_code, entry_items, globals_code, start_items, stop_items};
+ghost use Rattle.rv32_select.specs.IsSelected.{sources as sources_of, start_argument as argument_of_start, first_call as first_call_items, is_lasting as is_lasting_base, heap_end as end_of_heap, heap_full as heap_full_label, no_alternative as no_alternative_label, step as bytes_of_cell};
 ghost use Rattle.rv32_select.specs.Ranges.{AreSources};
 ghost use Rattle.rv32_select.specs.Writable.{Writable, CanWrite};
 ghost use Rattle.rv32_select.specs.Emitting.{EmittedProcedure};
@@ -23,28 +23,61 @@ use std::alloc::AllocError;
 /// The end of the frames.
 const STACK_END: u32 = 0x78000000;
 
+/// The register that the stack's base is in.
+fn base_register(lasting: bool) -> Reg
+    ensures { result ≡ register_of_base lasting }
+{
+    if lasting { Reg(27) } else { Reg(5) }
+}
+
+/// Whether a procedure with this mask changes x27.
+fn changes_base(mask: u32) -> bool
+    ensures { result ≡ nat_eq (mask / 2 ^ 27 % 2) 1 }
+{
+    mask / 134217728 % 2 == 1
+}
+
 impl Code {
+    fn base_at_entry(&mut self, lasting: bool, stack_base: u32) -> Result<(), AllocError>
+        ensures { OnOk result (self.new ≡ self.old ++ plain (base_at_entry_code lasting stack_base)) }
+    {
+        if lasting {
+            return Ok(());
+        }
+        self.load_constant(Reg(5), stack_base)
+    }
+
+    fn base_at_start(&mut self, lasting: bool, stack_base: u32) -> Result<(), AllocError>
+        ensures { OnOk result (self.new ≡ self.old ++ plain (base_at_start_code lasting stack_base)) }
+    {
+        if lasting {
+            return self.load_constant(Reg(27), stack_base);
+        }
+        Ok(())
+    }
+
     /// A procedure's label, the test of the stack, and its parameters.
     fn enter(
         &mut self,
         label: u32,
         words: u32,
         framed: bool,
+        lasting: bool,
         stack_base: u32,
         stack_full: u32,
         params: &[Spot],
     ) -> Result<(), AllocError>
         requires { (words < 67108864) × (length params.now ≤ 16) }
         ensures { OnOk result (self.new ≡ self.old
-            ++ entry_items label words framed stack_base stack_full params.now) }
+            ++ entry_items label words framed lasting stack_base stack_full params.now) }
     {
         self.put(Item::Label(label))?;
         self.add_to(Reg(2), Reg(2), negated(4 * words))?;
-        self.load_constant(Reg(5), stack_base)?;
+        self.base_at_entry(lasting, stack_base)?;
         self.put(Item::Branch {
             cond: Cond::Ltu,
             left: Reg(2),
-            right: Reg(5),
+            right: base_register(lasting),
             label: stack_full,
         })?;
         self.link_put(framed)?;
@@ -80,6 +113,19 @@ impl Code {
 }
 
 impl<'a> Context<'a> {
+    /// Whether no procedure changes x27.
+    pub(crate) fn is_lasting(&self) -> bool
+        requires { Writable (program_of self.now.low.now) self.now.places.now }
+        ensures { result ≡ is_lasting_base self.now.places.now }
+    {
+        for proc in 0..self.low.procs.len() {
+            if changes_base(self.places.written(proc as u32)) {
+                return false;
+            }
+        }
+        true
+    }
+
     /// What the start is called with.
     fn start_sources(&self) -> Result<Vec<Source>, AllocError>
         requires { Writable (program_of self.now.low.now) self.now.places.now }
@@ -114,14 +160,18 @@ impl<'a> Context<'a> {
     }
 
     /// The call of the start, and the exit after it.
-    pub(crate) fn first_call(&self, code: &mut Code) -> Result<(), AllocError>
-        requires { Writable (program_of self.now.low.now) self.now.places.now }
+    pub(crate) fn first_call(&self, code: &mut Code, lasting: bool) -> Result<(), AllocError>
+        requires writable { Writable (program_of self.now.low.now) self.now.places.now }
+        requires stack { self.now.stack ≤ 67108864 }
+        requires lasting { lasting ≡ is_lasting_base self.now.places.now }
         ensures { OnOk result (code.new ≡ code.old
-            ++ first_call_items (program_of self.now.low.now) self.now.places.now) }
+            ++ first_call_items (program_of self.now.low.now) self.now.places.now
+            (2013265920 - self.now.stack)) }
     {
         let to = self.argument_spots(self.low.start)?;
         let from = self.start_sources()?;
         code.numbers(to.as_slice(), from.as_slice())?;
+        code.base_at_start(lasting, STACK_END - self.stack)?;
         code.put(Item::Jump {
             link: Reg(1),
             label: self.low.start,
@@ -130,10 +180,16 @@ impl<'a> Context<'a> {
     }
 
     /// A procedure: its entry and its block.
-    pub(crate) fn procedure(&self, out: &mut Selection, proc: u32) -> Result<(), AllocError>
+    pub(crate) fn procedure(
+        &self,
+        out: &mut Selection,
+        lasting: bool,
+        proc: u32,
+    ) -> Result<(), AllocError>
         requires writable { CanWrite (program_of self.now.low.now) self.now.places.now
             self.now.cells }
         requires stack { self.now.stack ≤ 67108864 }
+        requires lasting { lasting ≡ is_lasting_base self.now.places.now }
         requires proc { proc < length self.now.low.now.procs }
         ensures { OnOk result (EmittedProcedure (program_of self.now.low.now) self.now.places.now
             self.now.cells self.now.stack proc out.old.code out.old.next out.new.code
@@ -149,6 +205,7 @@ impl<'a> Context<'a> {
             proc,
             words,
             framed,
+            lasting,
             STACK_END - self.stack,
             stack_full,
             params.as_slice(),

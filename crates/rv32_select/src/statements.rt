@@ -1,8 +1,8 @@
 // The code of statements.
 #![tactic(auto, using(crate::proofs::Plain::plain_append), unfolding(crate::specs::Emit::plain))]
 
-ghost use Rattle.std.specs.Prelude.{◌≡◌, ◌++◌, [], ◌∷◌, ◌<◌, ◌*◌, ◌≤◌, length, OnOk, IfOk, true};
-ghost use Rattle.rv32_select.specs.Emit.{plain, set_code, operation as operation_code, is_immediate as immediate_number, immediate as immediate_code, operands_held as held_code, operate_on as on_code, is_free as is_free_order, operate_in_order as in_order_code, prim_code, load_code, save_code, word_offset as offset_of_word, room_items, next_offset as offset_behind, go_on as go_on_code, cells_code, far_cells as far_cells_items, raise_items, cells_below as below_code, take_items, aside as aside_code, back as back_code, call_code, byte_given as byte_given_code, put_code, get_code, exit_with as exit_items, branch_items, compare_items, test_items, match_items};
+ghost use Rattle.std.specs.Prelude.{◌≡◌, ◌++◌, [], ◌∷◌, ◌<◌, ◌*◌, ◌%◌, ◌+◌, ◌≤◌, length, OnOk, IfOk, true};
+ghost use Rattle.rv32_select.specs.Emit.{plain, set_code, operation as operation_code, is_immediate as immediate_number, immediate as immediate_code, operands_held as held_code, operate_on as on_code, is_free as is_free_order, operate_in_order as in_order_code, prim_code, load_code, save_code, low_bits as low_bits_of, low_part as low_part_of, high_part as high_part_of, word_offset as offset_of_word, room_items, next_offset as offset_behind, go_on as go_on_code, cells_code, far_cells as far_cells_items, raise_items, cells_below as below_code, take_items, aside as aside_code, back as back_code, call_code, byte_given as byte_given_code, put_code, get_code, exit_with as exit_items, branch_items, compare_items, test_items, match_items};
 ghost use Rattle.rv32_select.specs.Ranges.{in_range, AllInRange, IsSource};
 
 use crate::code::{Code, add_immediate, held, is_short, lower, negated, target};
@@ -43,11 +43,62 @@ fn is_free(f: PrimOp) -> bool
     }
 }
 
-/// The offset of a word in its cell, of which there are no 512.
-fn word_offset(k: u32) -> Imm12
-    ensures { result ≡ offset_of_word k }
+/// The low bits of a cell's address that are in the offset of a word of it.
+fn low_bits(k: u32, n: u32) -> u32
+    ensures is { result ≡ low_bits_of k n }
+    ensures below { result ≤ n }
+    ensures fits { result + 4 * (k % 512) < 2048 }
 {
-    Imm12((4 * (k % 512)) as i32)
+    if n % 2048 + 4 * (k % 512) < 2048 {
+        n % 2048
+    } else {
+        0
+    }
+}
+
+/// Those of an operand.
+fn low_part(k: u32, cell: Source) -> u32
+    ensures is { result ≡ low_part_of k cell }
+    ensures fits { result + 4 * (k % 512) < 2048 }
+{
+    match cell {
+        Source::At(_) => 0,
+        Source::Number(n) => low_bits(k, n),
+    }
+}
+
+/// The address without them.
+fn high_part(k: u32, cell: Source) -> Source
+    requires { IsSource cell }
+    ensures { (result ≡ high_part_of k cell) × IsSource result }
+{
+    match cell {
+        Source::At(spot) => Source::At(spot),
+        Source::Number(n) => Source::Number(n - low_bits(k, n)),
+    }
+}
+
+/// The words that are spared, with one more where the rest of the address is made by one instruction.
+pub(crate) fn spared_by_offset(spared: u32, k: u32, cell: Source) -> u32 {
+    match cell {
+        Source::At(_) => spared,
+        Source::Number(n) => {
+            if low_bits(k, n) == 0 {
+                spared
+            } else if n % 4096 < 2048 {
+                spared.saturating_add(1)
+            } else {
+                spared
+            }
+        }
+    }
+}
+
+/// The offset of a word in its cell, of which there are no 512.
+fn word_offset(k: u32, cell: Source) -> Imm12
+    ensures { result ≡ offset_of_word k cell }
+{
+    Imm12((low_part(k, cell) + 4 * (k % 512)) as i32)
 }
 
 /// The offset of the next cell: 0 where x3 goes on to it.
@@ -189,10 +240,11 @@ impl Code {
         requires { (in_range to ≡ true) × IsSource cell }
         ensures { OnOk result (self.new ≡ self.old ++ plain (load_code to cell k)) }
     {
-        self.hold(Reg(5), cell)?;
+        let high = high_part(k, cell);
+        self.hold(Reg(5), high)?;
         let t = target(Reg(5), to);
-        let base = held(Reg(5), cell);
-        self.instr(Instr::Load(LoadKind::Lw, t, base, word_offset(k)))?;
+        let base = held(Reg(5), high);
+        self.instr(Instr::Load(LoadKind::Lw, t, base, word_offset(k, cell)))?;
         self.keep(Reg(5), to)
     }
 
@@ -200,11 +252,12 @@ impl Code {
         requires { IsSource cell × IsSource word }
         ensures { OnOk result (self.new ≡ self.old ++ plain (save_code cell k word)) }
     {
-        self.hold(Reg(5), cell)?;
+        let high = high_part(k, cell);
+        self.hold(Reg(5), high)?;
         self.hold(Reg(6), word)?;
         let r = held(Reg(6), word);
-        let base = held(Reg(5), cell);
-        self.instr(Instr::Store(StoreKind::Sw, r, base, word_offset(k)))
+        let base = held(Reg(5), high);
+        self.instr(Instr::Store(StoreKind::Sw, r, base, word_offset(k, cell)))
     }
 
     /// x5 gets the end of so many bytes of cells, and where the heap ends before it the heap is
@@ -408,7 +461,13 @@ impl Code {
     }
 
     /// A word that compares so with this number goes on to the label.
-    fn compare(&mut self, cond: Cond, next: u32, word: Source, n: u32) -> Result<(), AllocError>
+    pub(crate) fn compare(
+        &mut self,
+        cond: Cond,
+        next: u32,
+        word: Source,
+        n: u32,
+    ) -> Result<(), AllocError>
         requires { IsSource word }
         ensures { OnOk result (self.new ≡ self.old ++ compare_items cond next word n) }
     {

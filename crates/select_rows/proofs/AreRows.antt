@@ -1,7 +1,7 @@
 -- The programs are formed and small.
 use Rattle.std.proofs.Common.{◌≡◌, [], ◌∷◌, refl, arith, sym, subst}
 use Rattle.low_code.specs.Tree.{Program}
-use Rattle.select_rows.specs.Rows.{IsRow, program, echo, stuck, takes, nests, mark, other, less, sums}
+use Rattle.select_rows.specs.Rows.{IsRow, program, echo, stuck, takes, nests, mark, other, less, sums, letters}
 
 pub echo_row : IsRow (program (echo ∷ []))
 echo_row = record {
@@ -111,6 +111,25 @@ less_row = record {
   few = ((omega arith, omega arith, omega arith), tt);
   width = refl;
   tests = ((omega arith, tt, tt), tt);
+  size = omega arith;
+  calls = omega arith;
+  procedures = omega arith;
+  globals = omega arith;
+}
+
+pub letters_row : IsRow (program (letters ∷ []))
+letters_row = record {
+  formed = record {
+    variables_once = (refl, (refl, tt));
+    sites_once = (refl, tt);
+    scoped = (((refl, tt), tt, (((refl, tt), (tt, tt), ((refl, tt), (tt, tt), ((refl, tt), (tt, tt), ((refl, tt), (tt, tt), ((refl, tt), (tt, tt), ((refl, tt), (tt, tt), ((refl, tt), (tt, tt), ((refl, tt), (tt, tt), ((refl, tt), (tt, tt), (tt, tt)))))))))), (refl, tt))), tt);
+    calls_in_range = ((omega arith, tt), tt);
+    starts = refl;
+    literals = record { procedures = ((((tt, omega arith), tt), tt, ((((tt, omega arith), tt), (omega arith, tt), (((tt, omega arith), tt), (omega arith, tt), (((tt, omega arith), tt), (omega arith, tt), (((tt, omega arith), tt), (omega arith, tt), (((tt, omega arith), tt), (omega arith, tt), (((tt, omega arith), tt), (omega arith, tt), (((tt, omega arith), tt), (omega arith, tt), (((tt, omega arith), tt), (omega arith, tt), (((tt, omega arith), tt), (omega arith, tt), (omega arith, tt)))))))))), (tt, tt))), tt); tags = tt };
+  };
+  few = ((omega arith, omega arith, omega arith), tt);
+  width = refl;
+  tests = ((omega arith, tt, ((omega arith, tt, (omega arith, tt, (omega arith, tt, (omega arith, tt, (omega arith, tt, (omega arith, tt, (omega arith, tt, (omega arith, tt, (omega arith, tt, tt))))))))), tt)), tt);
   size = omega arith;
   calls = omega arith;
   procedures = omega arith;

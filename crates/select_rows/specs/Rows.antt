@@ -2,7 +2,8 @@
 use Rattle.std.specs.Prelude.{◌≡◌, ℕ, ◌≤◌, List, [], ◌∷◌, length, Some, None}
 use Rattle.low_code.specs.declared.program.PrimOp.TheVariants.{Add, Sub, Quot, Rem, Lt}
 use Rattle.low_code.specs.declared.program.Operand.TheVariants.{Var, Num}
-use Rattle.low_code.specs.Tree.{Code, prim, load, save, take, put, get, call, join, give, tail, choose, fail, otherwise, arm, Procedure, Program}
+use Rattle.low_code.specs.declared.program.LowTest.{LowTest}
+use Rattle.low_code.specs.Tree.{Code, prim, load, save, take, put, get, call, join, give, tail, choose, fail, otherwise, arm, arms_before, Procedure, Program}
 use Rattle.low_code.specs.Formed.{Formed, variables}
 use Rattle.low_code.specs.Size.{AtMostTwoTests, low_all, calls_of}
 
@@ -67,6 +68,22 @@ abbrev pub less : Procedure
 less = procedure [] 0
     (get 0 (prim Lt 1 (Var 0) (Num 97)
     (where_is 1 1 (put (Num 60) (give [])) (put (Num 62) (give [])))))
+
+-- an arm that gives a letter where the first variable is a number
+abbrev pub letter : (k c : ℕ) → List LowTest × Code
+letter k c = (record { left = Var 0; right = k } ∷ [], give (Num c ∷ []))
+
+-- gives A to I for the numbers from 0 to 8, and a question mark for each other one
+abbrev pub which : Code
+which = choose (arms_before (letter 0 65 ∷ letter 1 66 ∷ letter 2 67 ∷ letter 3 68
+    ∷ letter 4 69 ∷ letter 5 70 ∷ letter 6 71 ∷ letter 7 72 ∷ letter 8 73 ∷ [])
+    (give (Num 63 ∷ [])))
+
+-- writes a letter for each byte of its input
+abbrev pub letters : Procedure
+letters = procedure [] 0
+    (get 0 (where_is 0 4294967295 (give [])
+    (join (1 ∷ []) which (put (Var 1) (tail 0 0 [])))))
 
 -- makes a list of the numbers from 10 to 1 behind a list, adds them up, writes the sum, and a mark
 -- where it is 55

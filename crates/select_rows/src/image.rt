@@ -21,7 +21,8 @@ pub fn words(alloc: Global, low: &Low, cells: u32, stack: u32) -> Result<Vec<u32
 {
     let places = allocate(alloc, low)?;
     let asm = select(alloc, low, &places, cells, stack)?;
-    place(alloc, &asm)
+    let placement = place(alloc, &asm, 0)?;
+    Ok(placement.words)
 }
 
 /// A machine at the start of a low program, whose cells have three words.

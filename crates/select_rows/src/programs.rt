@@ -2,11 +2,11 @@
 #![tactic(auto, using(low_code::proofs::TreeOf::tree_of))]
 
 ghost use Rattle.std.specs.Prelude.{◌≡◌, ◌∷◌, [], IfOk};
-ghost use Rattle.low_code.specs.Tree.{procedure_of, program_of};
-ghost use Rattle.select_rows.specs.Rows.{echo as echo_tree, stuck as stuck_tree, takes as takes_tree, nests as nests_tree, mark as mark_tree, other as other_tree, less as less_tree, program as program_tree};
+ghost use Rattle.low_code.specs.Tree.{procedure_of, program_of, end_of, arm_of};
+ghost use Rattle.select_rows.specs.Rows.{echo as echo_tree, stuck as stuck_tree, takes as takes_tree, nests as nests_tree, mark as mark_tree, other as other_tree, less as less_tree, program as program_tree, letter as letter_arm, which as which_tree, letters as letters_tree};
 
 use crate::build::{block, call, give, join, procedure, program, tail, take, where_is};
-use low_code::{Low, LowEnd, LowProc, LowStmt, Operand, PrimOp};
+use low_code::{Low, LowArm, LowEnd, LowProc, LowStmt, LowTest, Operand, PrimOp};
 use seq::Seq;
 use std::alloc::{AllocError, Global};
 
@@ -114,5 +114,52 @@ pub fn less(alloc: Global) -> Result<Low, AllocError>
         LowStmt::Prim(PrimOp::Lt, 1, Operand::Var(0), Operand::Num(97)),
     ]?;
     let body = block(stmts, where_is(alloc, 1, 1, yes, no)?);
+    program(alloc, procedure(alloc, &[], 0, body)?)
+}
+
+/// An arm that gives a letter where the first variable is a number.
+fn letter(alloc: Global, k: u32, c: u32) -> Result<LowArm, AllocError>
+    ensures { IfOk result (λ t. arm_of t ≡ letter_arm k c) }
+{
+    let mut tests = Seq::new(alloc);
+    tests.push(LowTest {
+        left: Operand::Var(0),
+        right: k,
+    })?;
+    let block = block(Vec::new(alloc), give(alloc, &[Operand::Num(c)])?);
+    Ok(LowArm { tests, block })
+}
+
+/// Gives A to I for the numbers from 0 to 8, and a question mark for each other one.
+fn which_letter(alloc: Global) -> Result<LowEnd, AllocError>
+    ensures { IfOk result (λ e. end_of e ≡ which_tree) }
+{
+    let arms = vec![in alloc;
+        letter(alloc, 0, 65)?,
+        letter(alloc, 1, 66)?,
+        letter(alloc, 2, 67)?,
+        letter(alloc, 3, 68)?,
+        letter(alloc, 4, 69)?,
+        letter(alloc, 5, 70)?,
+        letter(alloc, 6, 71)?,
+        letter(alloc, 7, 72)?,
+        letter(alloc, 8, 73)?,
+    ]?;
+    let other = block(Vec::new(alloc), give(alloc, &[Operand::Num(63)])?);
+    Ok(LowEnd::Choose(Seq::from_vec(arms), Box::new(alloc, other)?))
+}
+
+/// Writes a letter for each byte of its input.
+pub fn letters(alloc: Global) -> Result<Low, AllocError>
+    ensures { IfOk result (λ low. program_of low ≡ program_tree (letters_tree ∷ [])) }
+{
+    let which = block(Vec::new(alloc), which_letter(alloc)?);
+    let more = block(
+        vec![in alloc; join(alloc, &[1], which)?, LowStmt::Put(Operand::Var(1))]?,
+        tail(alloc, 0, 0, &[])?,
+    );
+    let ends = block(Vec::new(alloc), give(alloc, &[])?);
+    let last = where_is(alloc, 0, 4294967295, ends, more)?;
+    let body = block(vec![in alloc; LowStmt::Get(0)]?, last);
     program(alloc, procedure(alloc, &[], 0, body)?)
 }

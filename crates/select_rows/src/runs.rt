@@ -5,7 +5,7 @@ ghost use Rattle.low_code.specs.Tree.{program_of};
 ghost use Rattle.select_rows.specs.Rows.{IsRow};
 
 use crate::image::{start, words};
-use crate::programs::{echo, less, marks, nests, stuck, takes};
+use crate::programs::{echo, less, letters, marks, nests, stuck, takes};
 use crate::sums::sums;
 use grin_io::{MemSink, MemSource};
 use low_code::Low;
@@ -104,6 +104,15 @@ fn a_comparison_is_one_branch(rt: HostRuntime) -> Result<(), Fail> {
     assert_eq!(rt; word_at(&words, 38) & 0xfff07fff, 0x04605e63);
     exits(&rt, rt.alloc(), &low, SMALL, b"Z", 0, b"<")?;
     exits(&rt, rt.alloc(), &low, SMALL, b"a", 0, b">")
+}
+
+// By hand, by halves: a byte goes on to the upper half where it isn't below 4, then 2 or 6, then 1, 3,
+// 5 or 7, and then 8. What is left is one number, which isn't tested, or 8 and more, tested for 8.
+#[test]
+fn bytes_are_looked_for(rt: HostRuntime) -> Result<(), Fail> {
+    let low = letters(rt.alloc())?;
+    let input = b"\0\x01\x02\x03\x04\x05\x06\x07\x08\t0A\xff";
+    exits(&rt, rt.alloc(), &low, SMALL, input, 0, b"ABCDEFGHI????")
 }
 
 #[test]

@@ -14,3 +14,6 @@ place-requires-clause-size c =
     let all = size_all c.args.count in
     let few = c.requires in
     subst (λ is. size_of is ≤ 268435456) (sym c.in_ok-asm.ensures) (omega arith)
+
+pub place-requires-clause-asked : goal.place-requires-clause-asked
+place-requires-clause-asked c l lt = absurd (omega arith)

@@ -1,6 +1,8 @@
-use Rattle.grin_syntax.specs.Tree.{program_of}
+use Rattle.std.proofs.Common.{◌≡◌, map, length, subst, arith}
+use Rattle.grin_syntax.specs.SameOutside.{names_of}
+use Rattle.grin_syntax.specs.Tree.{program_of, procedure_of}
 use Rattle.low_code.specs.Tree as low
-use Rattle.grin_compile.proofs.Below.{few_parameters, few_results, selectable, selects, items_fit, has_layers}
+use Rattle.grin_compile.proofs.Below.{few_parameters, few_results, selectable, selects, begins_stand, items_fit, starts_by, has_layers}
 use Rattle.grin_compile.proofs.layers.layers_below.Goals as goal
 
 pub select-requires : goal.select-requires
@@ -39,6 +41,25 @@ place-requires-clause-size c =
     items_fit g l c.in_ok-places.places c.args.cells c.args.stack given.lowerable made.formed made.lowers (made.small given.lowerable.narrow)
     (c.in_ok-places.ensures.fits made.formed (few_parameters g l made.lowers) (few_results g l made.lowers)) given.sizes c.in_ok-asm.asm.items c.selected_items_do.ensures c.in_ok-asm.ensures.selected
 
+pub procedures-requires : goal.procedures-requires
+procedures-requires c =
+    let g = program_of c.args.g.now in
+    let l = low.program_of c.in_ok-low.low in
+    let made = c.in_ok-low.ensures in
+    let given = c.requires in
+    (selectable g l c.in_ok-places.places c.args.cells c.args.stack given.lowerable made.formed made.lowers (made.small given.lowerable.narrow)
+    (c.in_ok-places.ensures.fits made.formed (few_parameters g l made.lowers) (few_results g l made.lowers)) given.sizes).procedures
+
+pub place-requires-clause-asked : goal.place-requires-clause-asked
+place-requires-clause-asked c k lt =
+    let g = program_of c.args.g.now in
+    let l = low.program_of c.in_ok-low.low in
+    let made = c.in_ok-low.ensures in
+    let given = c.requires in
+    begins_stand g l c.in_ok-places.places c.args.cells c.args.stack given.lowerable made.formed made.lowers (made.small given.lowerable.narrow)
+    (c.in_ok-places.ensures.fits made.formed (few_parameters g l made.lowers) (few_results g l made.lowers)) given.sizes c.in_ok-asm.asm.items c.selected_items_do.ensures c.in_ok-asm.ensures.selected
+    k (omega (arith, c.procedures.ensures))
+
 pub returns : goal.returns
 returns c =
     let g = program_of c.args.g.now in
@@ -50,8 +71,12 @@ returns c =
     let fits = c.in_ok-places.ensures.fits made.formed (few_parameters g l made.lowers) (few_results g l made.lowers) in
     let items = c.in_ok-asm.asm.items in
     let law = c.selected_items_do.ensures in
-    has_layers g c.args.cells c.args.stack (record { low = c.in_ok-low.low; places = a; code = c.in_ok-code.code }) items made.formed made.lowers small fits
-    (selects g l a c.args.cells c.args.stack given.lowerable made.formed made.lowers small fits given.sizes items law c.in_ok-asm.ensures.selected)
-    c.in_ok-code.ensures.placed c.in_ok-code.ensures.decode
+    let placement = c.in_ok-placement.placement in
+    let placed = c.in_ok-placement.ensures.placed in
+    let named = subst (λ ps. c.in_ok-names.names.items ≡ names_of (map procedure_of ps)) c.as_slice.ensures c.in_ok-names.ensures in
+    let chosen = selects g l a c.args.cells c.args.stack given.lowerable made.formed made.lowers small fits given.sizes items law c.in_ok-asm.ensures.selected in
+    has_layers g c.args.cells c.args.stack (record { low = c.in_ok-low.low; places = a; code = placement.words; starts = placement.addresses; names = c.in_ok-names.names }) items made.formed made.lowers small fits
+    chosen placed.placed (starts_by placed.placed.lay items chosen.begins placement.addresses.items c.procedures.result (length l.procs) chosen.begins_are c.procedures.ensures placed.addresses) named
+    c.in_ok-placement.ensures.decode
     (items_fit g l a c.args.cells c.args.stack given.lowerable made.formed made.lowers small fits given.sizes items law c.in_ok-asm.ensures.selected)
     (c.in_ok-places.ensures.uses made.formed (few_parameters g l made.lowers) (few_results g l made.lowers))

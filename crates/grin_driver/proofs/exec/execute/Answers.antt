@@ -18,11 +18,11 @@ returns-clause-executes g c =
 pub returns-in-Ok-run_counted-clause-executes : goal.returns-in-Ok-run_counted-clause-executes
 returns-in-Ok-run_counted-clause-executes g c =
     let ran = c.in-Ok-run_counted.ran in
-    let h = counted (of_source g.I.Source.read_gives g.I.Source.left g.I.Source.is_over g.I.Source.faults c.args.input.now c.run_counted.new.input) (of_sink g.K.Sink.put_gives g.K.Sink.taken g.K.Sink.faults c.args.out.now c.run_counted.new.out) c.args.program.now c.in-Ok.machine c.run_counted.new.self c.args.steps ran.stop ran.done c.register.result c.in-Ok.ensures c.in-Ok-run_counted.ensures.counted c.register.ensures in
+    let h = counted (of_source g.I.Source.read_gives g.I.Source.left g.I.Source.is_over g.I.Source.faults c.args.input.now c.run_counted.new.input) (of_sink g.K.Sink.put_gives g.K.Sink.taken g.K.Sink.faults c.args.out.now c.run_counted.new.out) c.args.program.now c.in-Ok.machine c.run_counted.new.self c.args.steps ran.stop (record { instructions = ran.done; next_cell = c.register.result; link = c.register-in-Ok-run_counted.result }) c.in-Ok.ensures c.in-Ok-run_counted.ensures.counted c.register.ensures c.register-in-Ok-run_counted.ensures in
     rw c.ended.ensures (executes (of_source g.I.Source.read_gives g.I.Source.left g.I.Source.is_over g.I.Source.faults c.args.input.now c.run_counted.new.input) (of_sink g.K.Sink.put_gives g.K.Sink.taken g.K.Sink.faults c.args.out.now c.run_counted.new.out) c.args.program.now c.args.steps ran.stop (h.0, (h.1.0, h.1.1.0)))
 
 pub returns-in-Ok-run_counted-clause-counts : goal.returns-in-Ok-run_counted-clause-counts
 returns-in-Ok-run_counted-clause-counts g c =
     let ran = c.in-Ok-run_counted.ran in
-    let h = counted (of_source g.I.Source.read_gives g.I.Source.left g.I.Source.is_over g.I.Source.faults c.args.input.now c.run_counted.new.input) (of_sink g.K.Sink.put_gives g.K.Sink.taken g.K.Sink.faults c.args.out.now c.run_counted.new.out) c.args.program.now c.in-Ok.machine c.run_counted.new.self c.args.steps ran.stop ran.done c.register.result c.in-Ok.ensures c.in-Ok-run_counted.ensures.counted c.register.ensures in
+    let h = counted (of_source g.I.Source.read_gives g.I.Source.left g.I.Source.is_over g.I.Source.faults c.args.input.now c.run_counted.new.input) (of_sink g.K.Sink.put_gives g.K.Sink.taken g.K.Sink.faults c.args.out.now c.run_counted.new.out) c.args.program.now c.in-Ok.machine c.run_counted.new.self c.args.steps ran.stop (record { instructions = ran.done; next_cell = c.register.result; link = c.register-in-Ok-run_counted.result }) c.in-Ok.ensures c.in-Ok-run_counted.ensures.counted c.register.ensures c.register-in-Ok-run_counted.ensures in
     rw c.ended.ensures (ran.stop, refl, h)

@@ -1,11 +1,10 @@
-use Rattle.std.proofs.Common.{◌≡◌, ℕ, ◌≤◌, ◌*◌, List, length, sym, subst}
+use Rattle.std.proofs.Common.{◌≡◌, ℕ, ◌≤◌, List, length, sym, subst}
 use Rattle.arity_check.specs.Program.{program}
 use Rattle.text_commands.proofs.Texts.{accepted_is_valid}
 use Rattle.grin_driver.specs.CodeListing.{IsCodeOf}
 use Rattle.grin_driver.specs.Outcome.{IsImageOf}
 use Rattle.grin_driver.proofs.Outcomes.{too_large, unlisted_is_unmade}
-use Rattle.grin_compile.specs.Limits.{heap_bytes}
-use Rattle.grin_driver.proofs.Codes.{code_of, image_of}
+use Rattle.grin_driver.proofs.Codes.{code_of, is_kept}
 use Rattle.grin_opt.specs.declared.pass.PassName.TheVariants.{Eval}
 use Rattle.grin_driver.proofs.image.compiled.Goals as goal
 
@@ -24,13 +23,12 @@ returns-in-Ok-clause-image c =
     } in
     subst (IsImageOf c.args.text.now c.args.options.cells c.args.options.stack) (sym c.kept.ensures.image) image
 
-pub returns-in-Ok-clause-cell : goal.returns-in-Ok-clause-cell
-returns-in-Ok-clause-cell c =
+pub returns-in-Ok-clause-kept : goal.returns-in-Ok-clause-kept
+returns-in-Ok-clause-kept c =
     let a = c.in_ok-accepted.ensures.accepted in
-    let compiled = c.in-Ok.compiled in
-    let width = c.kept.result.width in
-    let cell = image_of c.args.text.now c.args.options.cells c.args.options.stack a.source (program c.in_ok-accepted.accepted.program) a.accepted c.in-Ok.ensures.fits compiled c.in-Ok.ensures.parts width c.kept.ensures.width in
-    subst (λ (file : List ℕ). (from : IsImageOf c.args.text.now c.args.options.cells c.args.options.stack file) × (1 ≤ width) × (heap_bytes from.made.g 1 ≡ 4 * width)) (sym c.kept.ensures.image) cell
+    let kept = c.kept.ensures in
+    is_kept c.args.text.now c.args.options.cells c.args.options.stack a.source (program c.in_ok-accepted.accepted.program) a.accepted c.in-Ok.ensures.fits c.in-Ok.compiled c.in-Ok.ensures.parts
+    c.kept.result kept.image kept.width kept.starts kept.names
 
 pub returns-in-Ok-clause-code : goal.returns-in-Ok-clause-code
 returns-in-Ok-clause-code c =

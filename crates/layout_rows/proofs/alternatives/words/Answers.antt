@@ -14,3 +14,6 @@ place-requires-clause-size c =
     let small = size_chosen c.args.count c.args.value in
     let few = c.requires.0 in
     subst (λ is. size_of is ≤ 268435456) (sym c.in_ok-asm.ensures) (omega arith)
+
+pub place-requires-clause-asked : goal.place-requires-clause-asked
+place-requires-clause-asked c l lt = absurd (omega arith)

@@ -1,16 +1,18 @@
-use Rattle.std.proofs.Common.{◌≡◌, ◌∷◌, ◌++◌, ◌∙◌, map, length, refl, true, sym, ap, subst, arith}
+use Rattle.std.proofs.Common.{◌≡◌, ◌∷◌, ◌++◌, ◌∙◌, map, length, refl, true, sym, ap, subst, arith, ℕ, ◌/◌, ◌<◌, ◌≤◌, None, drop, take-append-drop}
 use Rattle.std.specs.Prelude.{◌-◌}
 use Rattle.std.proofs.lemmas.Bool.Decides.{nat_tests}
-use Rattle.low_code.specs.Tree.{prim, program_of, code_of, end_of, arm_of, arms_before}
+use Rattle.low_code.specs.Tree.{choose, prim, program_of, code_of, end_of, arm_of, arms_before}
 use Rattle.low_code.proofs.TreeOf.{end_of-Give, end_of-Tail, end_of-Fail}
-use Rattle.rv32_select.specs.Emit.{branch_items, match_items}
+use Rattle.rv32_select.specs.Emit.{branch_items, match_items, compare_items}
 use Rattle.rv32_select.specs.IsSelected.{source}
-use Rattle.rv32_select.specs.Emitting.{Emitted}
+use Rattle.rv32_select.specs.Emitting.{Emitted, Rises, RisesWhere}
 use Rattle.rv32_select.specs.Decides.{decides, tested}
-use Rattle.rv32_select.specs.Writable.{ArmsPlaced}
+use Rattle.rv32_select.specs.Writable.{ArmsPlaced, BlocksPlaced}
 use Rattle.seq.specs.Lists.{sum_of}
 use Rattle.rv32_select.proofs.Sending.{targets_of}
-use Rattle.rv32_select.proofs.Emitted.{arm_placed, arm_at_placed, first_last_placed, first_last_made, arm_added, single, both_true, last_chosen, order_chosen, stmt_placed, last_placed, otherwise_placed, called_there, chosen_placed, joined_placed, on_ok, arms_made, put_done, get_done, first_placed, choice_is, within_none, within_more, decided_placed, decided_made, decided_first_made, decided_last_made, decided_first_chosen, decided_last_chosen, not_decided, choice_none, block_made, join_done}
+use Rattle.rv32_select.proofs.Emitted.{arm_placed, arm_at_placed, first_last_placed, first_last_made, arm_added, single, both_true, last_chosen, order_chosen, stmt_placed, last_placed, otherwise_placed, called_there, chosen_placed, joined_placed, on_ok, arms_made, put_done, first_placed, choice_is, within_none, within_more, decided_placed, decided_made, decided_first_made, decided_last_made, decided_first_chosen, decided_last_chosen, not_decided, choice_none, block_made, join_done, get_done}
+use Rattle.rv32_items.specs.declared.Cond.TheVariants.{Geu}
+use Rattle.rv32_select.proofs.EmittedHalves.{first_test, first_counts, first_light, first_sought, back_counts, only_arm, InTwo, in_two, all_placed, word_placed, blocks_apart, searched_one, searched_two, choice_made}
 use Rattle.rv32_select.proofs.Weight.{stmt_lighter, last_lighter, join_lighter, choice_lighter, arm_lighter, arm_block_lighter, first_lighter, arm_weight, block_weight}
 use Rattle.rv32_select.proofs.context.Context.+blocks.Goals as goal
 
@@ -56,8 +58,8 @@ join-block-requires t c = (omega arith, (c.requires.writable, (c.requires.frame,
 pub end-tail-requires-clause-proc : goal.end-tail-requires-clause-proc
 end-tail-requires-clause-proc t c = called_there c.args.self.now.low.now c.args.self.now.places.now c.args.end.now _ _ _ c.in-Tail.is c.requires.placed
 
-pub end-choose-requires : goal.end-choose-requires
-end-choose-requires t c =
+pub end-choice-requires : goal.end-choice-requires
+end-choice-requires t c =
     let w = choice_lighter c.args.end.now _ _ _ _ c.in-Choose.is c.as_slice-in-Choose.ensures c.deref.ensures in
     (omega (arith, w), (c.requires.writable, (c.requires.frame, (c.requires.targets, chosen_placed (program_of c.args.self.now.low.now) c.args.self.now.places.now c.args.end.now _ _ _ _ c.in-Choose.is c.as_slice-in-Choose.ensures c.deref.ensures c.requires.placed))))
 
@@ -190,6 +192,73 @@ decided-returns-in_ok-decided_arms-in-Some t c =
 
 pub arms-returns : goal.arms-returns
 arms-returns t c = on_ok c.block.result _ _ (λ e. arms_made _ _ _ _ _ _ _ c.args.to.now c.args.way _ (code_of c.args.otherwise.now) c.args.arms.now c.loop-arm.arm-index _ _ _ _ _ _ c.loop-arm-test.false c.loop-arm.invariant e) c.block.ensures
+
+pub halves-number_of-requires : goal.halves-number_of-requires
+halves-number_of-requires t c = first_counts c.args.search.word c.args.search.low c.args.search.high c.args.arms.now _ c.requires.some c.index-arms-0.is c.requires.rises
+
+pub halves-block-requires : goal.halves-block-requires
+halves-block-requires t c =
+    let w = first_light c.args.arms.now _ c.requires.some c.index-arms-0.is in
+    (omega (arith, w), (c.requires.writable, (c.requires.frame, (c.requires.targets, first_sought (program_of c.args.self.now.low.now) c.args.self.now.places.now c.args.arms.now _ c.requires.some c.index-arms-0.is c.requires.placed))))
+
+pub halves-returns-then-arms-eq1 : goal.halves-returns-then-arms-eq1
+halves-returns-then-arms-eq1 t c =
+    let e : length c.args.arms.now ≡ 1 = c.if-arms-eq1.true in
+    searched_one (program_of c.args.self.now.low.now) c.args.self.now.places.now c.args.self.now.cells c.args.self.now.stack c.args.frame.words c.args.frame.saved c.args.frame.framed c.args.search.miss c.args.search.word c.args.to.now c.args.way c.args.search.low c.args.search.high c.args.arms.now _ c.number_of.result _ _ _ _ _
+    (only_arm c.args.arms.now _ e c.index-arms-0.is) (first_test c.args.search.word c.args.search.low c.args.search.high c.args.arms.now _ c.requires.some c.index-arms-0.is c.requires.rises) c.number_of.ensures c.in_ok-last_test.ensures c.in_ok-block.ensures
+
+pub halves-number_of-bound-requires : goal.halves-number_of-bound-requires
+halves-number_of-bound-requires t c =
+    let more = c.if-arms-eq1.false in
+    let some = c.requires.some in
+    let lt : length c.args.arms.now / 2 < length c.args.arms.now = omega (arith, more, some) in
+    back_counts c.args.search.word c.args.search.low c.args.search.high c.args.arms.now c.split_at.result.1.now (length c.args.arms.now / 2) _ c.split_at.ensures.back
+    c.index-back-0.is lt c.requires.rises
+
+pub halves-halves-requires : goal.halves-halves-requires
+halves-halves-requires t c =
+    let more = c.if-arms-eq1.false in
+    let some = c.requires.some in
+    let lt : length c.args.arms.now / 2 < length c.args.arms.now = omega (arith, more, some) in
+    let parts = in_two c.args.search.word c.args.search.low c.args.search.high c.args.arms.now c.split_at.result.0.now c.split_at.result.1.now (length c.args.arms.now / 2) c.number_of-bound.result _ c.split_at.ensures.front c.split_at.ensures.back
+    c.index-back-0.is (omega (arith, more, some)) lt c.number_of-bound.ensures c.requires.rises in
+    let placed = blocks_apart (program_of c.args.self.now.low.now) c.args.self.now.places.now c.split_at.result.0.now c.split_at.result.1.now (subst (BlocksPlaced (program_of c.args.self.now.low.now) c.args.self.now.places.now) parts.whole c.requires.placed) in
+    let w = parts.lighter.0 in
+    (omega (arith, w), (c.requires.writable, (c.requires.frame, (c.requires.targets, (parts.some.0, (c.requires.word, (parts.below, placed.0)))))))
+
+pub halves-halves-requires-2 : goal.halves-halves-requires-2
+halves-halves-requires-2 t c =
+    let more = c.if-arms-eq1.false in
+    let some = c.requires.some in
+    let lt : length c.args.arms.now / 2 < length c.args.arms.now = omega (arith, more, some) in
+    let parts = in_two c.args.search.word c.args.search.low c.args.search.high c.args.arms.now c.split_at.result.0.now c.split_at.result.1.now (length c.args.arms.now / 2) c.number_of-bound.result _ c.split_at.ensures.front c.split_at.ensures.back
+    c.index-back-0.is (omega (arith, more, some)) lt c.number_of-bound.ensures c.requires.rises in
+    let placed = blocks_apart (program_of c.args.self.now.low.now) c.args.self.now.places.now c.split_at.result.0.now c.split_at.result.1.now (subst (BlocksPlaced (program_of c.args.self.now.low.now) c.args.self.now.places.now) parts.whole c.requires.placed) in
+    let w = parts.lighter.1 in
+    (omega (arith, w), (c.requires.writable, (c.requires.frame, (c.requires.targets, (parts.some.1, (c.requires.word, (parts.above, placed.1)))))))
+
+pub halves-returns : goal.halves-returns
+halves-returns t c =
+    let whole : c.args.arms.now ≡ c.split_at.result.0.now ++ c.split_at.result.1.now = sym (take-append-drop (length c.args.arms.now / 2) c.args.arms.now) ∙ ap (λ zs. zs ++ drop (length c.args.arms.now / 2) c.args.arms.now) (sym c.split_at.ensures.front) ∙ ap (λ zs. c.split_at.result.0.now ++ zs) (sym c.split_at.ensures.back) in
+    searched_two (program_of c.args.self.now.low.now) c.args.self.now.places.now c.args.self.now.cells c.args.self.now.stack c.args.frame.words c.args.frame.saved c.args.frame.framed c.args.search.miss c.args.search.word c.args.to.now c.args.way c.args.search.low c.number_of-bound.result c.args.search.high c.args.arms.now c.split_at.result.0.now c.split_at.result.1.now _ _ _ _ _ _ _ _ _ _ whole c.in_ok-label.ensures.0 c.in_ok-label.ensures.1
+    (c.in_ok-compare.ensures ∙ (λ i. c.in_ok-label.ensures.2 i ++ compare_items Geu c.in_ok-label.label (c.source.ensures.0 i) c.number_of-bound.result)) c.in_ok-halves.ensures c.in_ok-put.ensures c.in_ok-halves-2.ensures
+
+pub choice-halves-requires : goal.choice-halves-requires
+choice-halves-requires t c =
+    let p = all_placed (program_of c.args.self.now.low.now) c.args.self.now.places.now c.args.arms.now (code_of c.args.otherwise.now) c.requires.placed in
+    let found : (1 ≤ length c.args.arms.now) × Rises c.in-Some.word 0 None c.args.arms.now = subst (λ r. RisesWhere r c.args.arms.now) c.in-Some.is c.sought.ensures in
+    (omega arith, (c.requires.writable, (c.requires.frame, (c.requires.targets, (found.0, (word_placed (program_of c.args.self.now.low.now) c.args.self.now.places.now c.in-Some.word 0 None c.args.arms.now (code_of c.args.otherwise.now) found.0 found.1 c.requires.placed, (found.1, p.0)))))))
+
+pub choice-block-requires : goal.choice-block-requires
+choice-block-requires t c =
+    let p = all_placed (program_of c.args.self.now.low.now) c.args.self.now.places.now c.args.arms.now (code_of c.args.otherwise.now) c.requires.placed in
+    (omega arith, (c.requires.writable, (c.requires.frame, (c.requires.targets, p.1))))
+
+pub choice-returns : goal.choice-returns
+choice-returns t c =
+    subst (λ old. Emitted (program_of c.args.self.now.low.now) c.args.self.now.places.now c.args.self.now.cells c.args.self.now.stack c.args.frame.words c.args.frame.saved c.args.frame.framed c.args.to.now c.args.way (choose (arms_before (map arm_of c.args.arms.now) (code_of c.args.otherwise.now))) old c.args.out.now.next c.block.new.out.code c.block.new.out.next) c.in_ok-miss.ensures.2
+    (choice_made (program_of c.args.self.now.low.now) c.args.self.now.places.now c.args.self.now.cells c.args.self.now.stack c.args.frame.words c.args.frame.saved c.args.frame.framed c.in-Some.word c.args.to.now c.args.way c.further.result c.args.arms.now (code_of c.args.otherwise.now) _ _ _ _ _ _ _ _ _
+    c.in_ok-miss.ensures.0 c.in_ok-miss.ensures.1 c.further.ensures c.in_ok-halves.ensures c.in_ok-put.ensures c.in_ok-block.ensures)
 
 pub stmt-returns-in_ok-put_byte-in-Put : goal.stmt-returns-in_ok-put_byte-in-Put
 stmt-returns-in_ok-put_byte-in-Put t c =

@@ -23,6 +23,12 @@ decreases-join l = block_weight l.block.now + 1
 abbrev pub decreases-end : goal.decreases-end
 decreases-end l = end_weight l.end.now
 
+abbrev pub decreases-halves : goal.decreases-halves
+decreases-halves l = 1 + sum_of (map arm_weight l.arms.now)
+
+abbrev pub decreases-choice : goal.decreases-choice
+decreases-choice l = 3 + (sum_of (map arm_weight l.arms.now) + block_weight l.otherwise.now)
+
 abbrev pub decreases-choose : goal.decreases-choose
 decreases-choose l = 2 + (sum_of (map arm_weight l.arms.now) + block_weight l.otherwise.now)
 

@@ -35,6 +35,6 @@ block-requires-clause-targets c =
 
 pub returns : goal.returns
 returns c =
-    procedure_made c.args.self.now.low.now c.args.self.now.places.now c.args.self.now.cells c.args.self.now.stack _ c.args.proc c.index-as_slice-proc.result _ _ _ _ _ _ _ _ _ _ _ _
+    procedure_made c.args.self.now.low.now c.args.self.now.places.now c.args.self.now.cells c.args.self.now.stack _ c.args.proc c.index-as_slice-proc.result _ _ _ _ _ _ _ _ _ _ _ _ _
     c.requires.proc c.as_slice.ensures c.index-as_slice-proc.is c.frame_words-words.ensures c.in_ok-saved.ensures (params_are c.args.self.now.places.now c.index-as_slice-proc.result _ _ _ c.as_slice-2.ensures c.as_slice-3.ensures.value c.in_ok-params.ensures)
-    (full_label c.args.self.now.low.now _ c.len.ensures) refl c.in_ok-enter.ensures (search rules) c.in_ok-block.ensures
+    (full_label c.args.self.now.low.now _ c.len.ensures) refl c.requires.lasting c.in_ok-enter.ensures (search rules) c.in_ok-block.ensures

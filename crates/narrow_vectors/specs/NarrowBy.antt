@@ -1,5 +1,5 @@
 -- The shape of a program without words that nobody reads.
-use Rattle.std.specs.Prelude.{ℕ, ◌≡◌, ◌≤◌, true, false, length}
+use Rattle.std.specs.Prelude.{ℕ, ◌≡◌, true, length}
 use Rattle.grin_syntax.specs.declared.program.VarId.{VarId}
 use Rattle.grin_syntax.specs.declared.program.Target.{Target}
 use Rattle.grin_syntax.specs.declared.program.Target.TheVariants as to
@@ -8,7 +8,7 @@ use Rattle.grin_syntax.specs.Formed.{AllOf}
 use Rattle.grin_meaning.specs.Slim.{Slim}
 use Rattle.flow_system.specs.Tables.{tables}
 use Rattle.flow_system.specs.System.{system}
-use Rattle.flow_system.specs.Solution.{Solution, IsLeast}
+use Rattle.flow_system.specs.Solution.{Solution, Solves}
 use Rattle.pass_ground.specs.OpenUpdates.{open_updates}
 use Rattle.pass_ground.specs.Vectors.{StaysOfVectors}
 use Rattle.copy_prop.specs.Lean.{used_in_code}
@@ -18,27 +18,21 @@ use Rattle.narrow_vectors.specs.Picked.{stay}
 use Rattle.narrow_vectors.specs.Narrow.{act_fits, narrow}
 
 module _ (count : ℕ) (A : Solution) where
-  -- the block uses each word of the target's vector, or some end of the operation is none of which a
-  -- word may go
+  -- the block uses each word of the target's vector, or some end of the operation is none of which
+  -- a word may go
   abbrev pub IsRead : Target → Act → Code → Type 0
   IsRead (to.Vector xs) o b =
       act_fits count A (stay (used_in_code b) xs) o ≡ true
       → AllOf (λ (x : VarId). is_among x.0 (used_in_code b) ≡ true) xs
   IsRead _ o b = Unit {0}
 
--- h is what the pass makes of g, whatever program this is, by the least solution of the flow system
--- of g
-pub record ByLeast (g h : Program) : Type 0 where
-  pub solution : Solution
-  pub least : IsLeast (tables g) (system g) solution
-  pub made : h ≡ narrow solution g
-
--- In h each word of a vector that is bound is read, where the least solution of g allows it to go.
--- h is as good an input for a pass as g, with as many updates without a literal tag, and no larger.
-pub record NarrowVectors (g h : Program) : Type 0 where
+-- h is what is made of g by its solution A. In h each word of a vector that is bound is read, where
+-- A allows it to go. A solves the flow system of h too. h is as good an input for a pass as g, with
+-- as many updates without a literal tag, and no larger.
+pub record NarrowBy (A : Solution) (g h : Program) : Type 0 where
   pub stays : StaysOfVectors g h
-  pub solution : Solution
-  pub least : IsLeast (tables g) (system g) solution
-  pub read : AllOf (λ q. BoundCode (IsRead (length g.tags) solution) q.body) h.procs
+  pub made : h ≡ narrow A g
+  pub read : AllOf (λ q. BoundCode (IsRead (length g.tags) A) q.body) h.procs
+  pub still_solves : Solves (tables h) (system h) A
   pub same_open : open_updates h ≡ open_updates g
   pub slim : (size most : ℕ) → Slim size most g → Slim size most h

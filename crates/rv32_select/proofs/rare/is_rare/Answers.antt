@@ -1,7 +1,7 @@
 use Rattle.std.proofs.Common.{◌∙◌, sym}
 use Rattle.low_code.specs.Tree.{end_of}
 use Rattle.rv32_select.proofs.Emitted.{rare_block, rare_call, rare_on, rare_end}
-use Rattle.rv32_select.proofs.blocks.is_rare.Goals as goal
+use Rattle.rv32_select.proofs.rare.is_rare.Goals as goal
 
 pub loop-stmt-init : goal.loop-stmt-init
 loop-stmt-init c = rare_block c.args.block.now c.as_slice-stmt-items.result.now c.as_slice-stmt-items.ensures
