@@ -8,12 +8,12 @@ use Rattle.grin_syntax.specs.Tree.{Procedure, Program, code_of, procedure_of, pr
 use Rattle.grin_syntax.specs.Fresh.{past_procs}
 use Rattle.grin_meaning.specs.Keeps.{Keeps}
 use Rattle.flow_system.specs.Solution.{Solution}
-use Rattle.apply_inline.specs.Inlining.{apply_act, apply_act_room, apply_code, apply_code_room, apply_procs, apply_inlined}
+use Rattle.inlining.specs.Applications.{apply_act, apply_act_room, apply_code, apply_code_room, apply_procs, apply_inlined}
 use Rattle.flow_system.proofs.Starting.{formed_is_started}
-use Rattle.eval_inline.proofs.Bounds.{uses_bound}
-use Rattle.apply_inline.specs.Before.{IsEvalInlined}
-use Rattle.apply_inline.proofs.Binding.{procs_room}
-use Rattle.apply_inline.proofs.InlinedTogether.{apply_inlining_law}
+use Rattle.inlining.proofs.Bounds.{uses_bound}
+use Rattle.inlining.specs.Before.{IsEvalInlined}
+use Rattle.inlining.proofs.ApplicationsBind.{procs_room}
+use Rattle.inlining.proofs.InlinedTogether.{apply_inlining_law}
 use Rattle.apply_inline.proofs.Loops.{procs_push, procs_room_push}
 
 -- procedures that were made of others, with fresh variables from x to y

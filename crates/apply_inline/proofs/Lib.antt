@@ -1,16 +1,6 @@
-pub mod Applied
-pub mod Binding
 pub mod Candidate
-pub mod Done
-pub mod EvaluationsStay
 pub mod Filtered
-pub mod InlinedTogether
 pub mod Loops
-pub mod Measured
-pub mod OneArgumentMore
 pub mod Placed
 pub mod Sums
-pub mod ValueTags
-pub mod Weighed
-pub mod Well
 pub mod InlinedProgram

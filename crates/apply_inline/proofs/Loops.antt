@@ -28,10 +28,10 @@ use Rattle.grin_syntax.specs.Tree.{Code, Act, end, bind, apply, case, nested, fa
 use Rattle.grin_syntax.proofs.TreeOf.{code_of-parts, arm_of-parts, act_of-Case, before_of-Store, before_of-Bind}
 use Rattle.grin_syntax.proofs.Pieces.{all_before_push}
 use Rattle.flow_system.specs.Solution.{Solution}
-use Rattle.eval_inline.specs.Inlining.{fields_at}
-use Rattle.apply_inline.specs.Inlining.{apply_arm, apply_arms, part_tags_of, others_of, else_fail, parts_room, apply_act, apply_code, apply_all, apply_procs, apply_act_room, apply_code_room, apply_arms_room}
+use Rattle.inlining.specs.Evaluations.{fields_at}
+use Rattle.inlining.specs.Applications.{apply_arm, apply_arms, part_tags_of, others_of, else_fail, parts_room, apply_act, apply_code, apply_all, apply_procs, apply_act_room, apply_code_room, apply_arms_room}
 use Rattle.apply_inline.specs.Applied.{has_some, arms_before}
-use Rattle.apply_inline.proofs.Binding.{procs_room}
+use Rattle.inlining.proofs.ApplicationsBind.{procs_room}
 
 pub arms_before-push : (as' : List (Shape × Code)) (a : Shape × Code) (last : Arms) → arms_before (as' ++ a ∷ []) last ≡ arms_before as' (arm a.0 a.1 last)
 arms_before-push [] a last = refl

@@ -17,14 +17,14 @@ use Rattle.grin_syntax.specs.Tree.{Code, end, Arms, no_arm, arm, act_of, before_
 use Rattle.grin_syntax.proofs.TreeOf.{act_of-Apply, code_of-parts, arm_of-parts, before_of-Store, before_of-Bind}
 use Rattle.grin_syntax.proofs.Pieces.{all_before_push}
 use Rattle.flow_system.specs.Solution.{Solution, among}
-use Rattle.apply_inline.specs.Size.{val_size, target_size, shape_size, cells_size, total}
+use Rattle.inlining.specs.Size.{val_size, target_size, shape_size, cells_size, total}
 use Rattle.flow_system.specs.declared.fact.Element.TheVariants.{Tag as tag}
 use Rattle.flow_system.specs.declared.fact.Place.TheVariants.{Site as site}
 use Rattle.flow_system.specs.declared.fact.Part.TheVariants.{Tags as tags}
-use Rattle.eval_inline.specs.Inlining.{some_of, sites_of}
+use Rattle.inlining.specs.Evaluations.{some_of, sites_of}
 use Rattle.eval_inline.specs.Met.{tags_from}
 use Rattle.apply_inline.specs.Applied.{arms_before}
-use Rattle.apply_inline.specs.Expanded.{capped, eval_tag_size, eval_tags_size, evaluation_size, part_tag_size, parts_size, application_size, expanded_act, expanded_code, expanded_arms}
+use Rattle.inlining.specs.Expanded.{capped, eval_tag_size, eval_tags_size, evaluation_size, part_tag_size, parts_size, application_size, expanded_act, expanded_code, expanded_arms}
 use Rattle.apply_inline.proofs.Loops.{arms_before-push, arms_of_before}
 use Rattle.seq.specs.Lists.{those}
 

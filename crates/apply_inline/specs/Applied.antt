@@ -9,8 +9,8 @@ use Rattle.grin_syntax.specs.declared.program.Val.TheVariants.{NodeVar, Node, Ve
 use Rattle.grin_syntax.specs.Tree.{Code, Arms, arm, Program}
 use Rattle.grin_meaning.specs.Run.{is_part_kind, is_some_and}
 use Rattle.flow_system.specs.Solution.{Solution}
-use Rattle.apply_inline.specs.Inlining.{word_has, value_has}
-use Rattle.points_to.specs.Held.{In}
+use Rattle.inlining.specs.Applications.{word_has, value_has}
+use Rattle.seq.specs.Lists.{In}
 
 -- whether a list has an item
 abbrev pub has_some : List ℕ → Bool

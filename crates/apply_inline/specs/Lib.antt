@@ -1,9 +1,2 @@
 pub mod Applied
-pub mod Before
-pub mod Expanded
-pub mod Inlining
-pub mod Law
-pub mod Parts
-pub mod Small
-pub mod Size
 pub mod Known

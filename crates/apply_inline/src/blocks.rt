@@ -1,12 +1,12 @@
 // Blocks in which each application is a case.
-#![tactic(auto, using(grin_syntax::proofs::TreeOf::tree_of), unfolding(crate::specs::Inlining::apply_act, crate::specs::Inlining::apply_act_room))]
+#![tactic(auto, using(grin_syntax::proofs::TreeOf::tree_of), unfolding(inlining::specs::Applications::apply_act, inlining::specs::Applications::apply_act_room))]
 
 ghost use Rattle.std.specs.Prelude.{◌≡◌, ℕ, ◌+◌, [], ◌∷◌, ◌++◌, map, drop, Some, slice_get, IfOk, OnOk};
 ghost use Rattle.grin_syntax.specs.declared.program.Word.TheVariants.{Var};
 ghost use Rattle.grin_syntax.specs.Tree.{Code, Arms, arm, end, case, act_of, before_of, arm_of, arms_of, code_of, procedure_of};
 ghost use Rattle.grin_syntax.specs.Tags.{part_from};
 ghost use Rattle.grin_syntax.specs.Fresh.{variables};
-ghost use Rattle.apply_inline.specs.Inlining.{part_body, apply_body, apply_arm, apply_arms, part_tags_of, others_of, else_fail, parts_room, apply_act, apply_code, apply_all, apply_procs, apply_act_room, apply_code_room, apply_arms_room};
+ghost use Rattle.inlining.specs.Applications.{part_body, apply_body, apply_arm, apply_arms, part_tags_of, others_of, else_fail, parts_room, apply_act, apply_code, apply_all, apply_procs, apply_act_room, apply_code_room, apply_arms_room};
 ghost use Rattle.apply_inline.specs.Known.{program, solution};
 ghost use Rattle.apply_inline.specs.Applied.{arms_before};
 ghost use Rattle.flow_system.specs.Starts.{SearchStarts};

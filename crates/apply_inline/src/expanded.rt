@@ -1,13 +1,13 @@
 // The size of a program once its evaluations and applications are inlined, from its text.
 // A sum that passes the largest number stays there.
-#![tactic(auto, using(grin_syntax::proofs::TreeOf::tree_of), unfolding(crate::specs::Expanded::expanded_act, crate::specs::Size::act_size))]
+#![tactic(auto, using(grin_syntax::proofs::TreeOf::tree_of), unfolding(inlining::specs::Expanded::expanded_act, inlining::specs::Size::act_size))]
 
 ghost use Rattle.std.specs.Prelude.{◌≡◌, ◌+◌, map, slice_get};
 ghost use Rattle.grin_syntax.specs.Tree.{Code, act_of, before_of, arm_of, arms_of, code_of, procedure_of};
-ghost use Rattle.apply_inline.specs.Inlining.{part_tags_of};
-ghost use Rattle.apply_inline.specs.Size.{val_size, target_size, shape_size, cells_size, total};
+ghost use Rattle.inlining.specs.Applications.{part_tags_of};
+ghost use Rattle.inlining.specs.Size.{val_size, target_size, shape_size, cells_size, total};
 ghost use Rattle.apply_inline.specs.Known.{program, solution};
-ghost use Rattle.apply_inline.specs.Expanded.{capped, eval_body_size, eval_tag_size, evaluation_size, part_body_size, parts_size, application_size, expanded_act, expanded_code, expanded_arms, expanded_procedure};
+ghost use Rattle.inlining.specs.Expanded.{capped, eval_body_size, eval_tag_size, evaluation_size, part_body_size, parts_size, application_size, expanded_act, expanded_code, expanded_arms, expanded_procedure};
 
 use crate::known::Known;
 use eval_inline::met::next_tag;

@@ -7,15 +7,14 @@ ghost use Rattle.grin_syntax.specs.Tree.{program_of};
 ghost use Rattle.grin_syntax.specs.Formed.{Formed};
 ghost use Rattle.grin_meaning.specs.Keeps.{Keeps};
 ghost use Rattle.grin_meaning.specs.Ready.{IsInlined};
-ghost use Rattle.apply_inline.specs.Inlining.{apply_inlined, inlined_size};
+ghost use Rattle.inlining.specs.Applications.{apply_inlined, inlined_size};
 ghost use Rattle.points_to.specs.Found.{found};
-ghost use Rattle.eval_inline.specs.Without.{HasNoEval};
-ghost use Rattle.apply_inline.specs.Before.{IsEvalInlined};
+ghost use Rattle.inlining.specs.Without.{HasNoEval};
+ghost use Rattle.inlining.specs.Before.{IsEvalInlined};
 
 mod blocks;
 mod expanded;
 mod known;
-pub mod laws;
 
 use blocks::Inlining;
 use flow_system::starts::part_starts;

@@ -7,7 +7,7 @@ use Rattle.grin_meaning.specs.Slim.{Slim}
 use Rattle.pass_ground.specs.Vectors.{OfVectors, NarrowTargets, StaysOfVectors}
 use Rattle.vectorised_form.specs.Laws.{VectoriseTakesInlined}
 use Rattle.flow_system.specs.Solution.{Solution}
-use Rattle.apply_inline.specs.Inlining.{inlined}
+use Rattle.inlining.specs.Applications.{inlined}
 use Rattle.grin_translate.specs.Translation.{tr}
 use Rattle.grin_opt.specs.declared.pass.PassName.TheVariants.{Vectorise, Simplify, Fetch, Copy, Update, Unbox, Raise, Flat, Known, Cells, Dead}
 use Rattle.grin_stages.specs.Stage.{Analyses, IsStage}

@@ -15,7 +15,7 @@ use Rattle.grin_syntax.specs.Tags.{tag_id}
 use Rattle.grin_syntax.specs.Fresh.{variable, variables}
 use Rattle.grin_meaning.specs.Run.{is_fun_kind}
 use Rattle.flow_system.specs.Solution.{Solution}
-use Rattle.eval_inline.specs.Inlining.{call_body, eval_body, eval_arm, fields_at}
+use Rattle.inlining.specs.Evaluations.{call_body, eval_body, eval_arm, fields_at}
 
 -- what is read at a place below the length
 pub known_tag : (ts items : List Tag) (t : ℕ) (i : Tag) → items ≡ ts → i ≡ get_or items t i → t < length ts → slice_get ts t ≡ Some i

@@ -7,16 +7,16 @@ use Rattle.grin_syntax.specs.Formed.{Formed}
 use Rattle.grin_syntax.specs.Fresh.{past_procs}
 use Rattle.grin_meaning.specs.Keeps.{Keeps}
 use Rattle.flow_system.specs.Solution.{Solution}
-use Rattle.eval_inline.specs.Inlining.{eval_procs, eval_inlined}
+use Rattle.inlining.specs.Evaluations.{eval_procs, eval_inlined}
 use Rattle.flow_system.proofs.Starting.{formed_is_started}
-use Rattle.eval_inline.specs.Analysed.{IsAnalysed}
-use Rattle.eval_inline.specs.Without.{HasNoEval}
-use Rattle.eval_inline.proofs.Apart.{procs_apart}
-use Rattle.eval_inline.proofs.Bounds.{uses_bound}
-use Rattle.eval_inline.proofs.Inlining.{inlining_law}
+use Rattle.inlining.specs.Analysed.{IsAnalysed}
+use Rattle.inlining.specs.Without.{HasNoEval}
+use Rattle.inlining.proofs.EvaluationsApart.{procs_apart}
+use Rattle.inlining.proofs.Bounds.{uses_bound}
+use Rattle.inlining.proofs.EvaluationsKeep.{inlining_law}
 use Rattle.eval_inline.proofs.Statements.{ProcsSoFar, procs_done}
-use Rattle.eval_inline.proofs.Well.{inlining_formed}
-use Rattle.eval_inline.proofs.Without.{none_left}
+use Rattle.inlining.proofs.EvaluationsFormed.{inlining_formed}
+use Rattle.inlining.proofs.NoEvaluations.{none_left}
 
 -- the walk has the program with other procedures at hand
 pub inlined_is : (g : Grin) (A : Solution) (others : List Procedure) (start next : ℕ) (made from : List Proc) → start ≡ past_procs (map procedure_of g.procs) → from ≡ g.procs → ProcsSoFar (record (program_of g) { procs = others }) A start next made from

@@ -1,10 +1,3 @@
-pub mod Known
-pub mod Inlining
-pub mod Bounds
-pub mod FreshOnce
-pub mod Well
-pub mod Without
-pub mod Apart
 pub mod First
 pub mod Sites
 pub mod Pieces

@@ -12,13 +12,13 @@ use Rattle.flow_system.specs.declared.fact.Element.TheVariants.{Cell, Tag as tag
 use Rattle.flow_system.specs.declared.fact.Place.TheVariants.{Site as site, Var as var}
 use Rattle.flow_system.specs.declared.fact.Part.TheVariants.{Tags as tags, Word as word}
 use Rattle.flow_system.specs.Solution.{Solution, among, At}
-use Rattle.eval_inline.specs.Inlining.{some_of, cells_in, site_of, sites_of}
-use Rattle.points_to.specs.Held.{In, there}
+use Rattle.inlining.specs.Evaluations.{some_of, cells_in, site_of, sites_of}
+use Rattle.seq.specs.Lists.{In, there}
 use Rattle.points_to.specs.Wanted.{is_in}
 use Rattle.seq.proofs.Truth.{both_ways, or_cases, or_false, or_from}
 use Rattle.seq.proofs.Order.{eq_self}
 use Rattle.eval_inline.specs.Met.{IsFirst, none}
-use Rattle.eval_inline.proofs.Known.{some_cell}
+use Rattle.inlining.proofs.CellTags.{some_cell}
 use Rattle.eval_inline.proofs.First.{same_first}
 use Rattle.points_to.proofs.Read.{in-is_in, is_in-in}
 

@@ -25,8 +25,8 @@ use Rattle.grin_syntax.proofs.TreeOf.{before_of-Store, before_of-Bind, code_of-p
 use Rattle.grin_syntax.specs.Fresh.{variable}
 use Rattle.grin_syntax.proofs.Pieces.{all_arms, all_arms_none, all_arms_push, all_before_push}
 use Rattle.flow_system.specs.Solution.{Solution}
-use Rattle.eval_inline.specs.Inlining.{tags_of, eval_arms, arms_room, eval_bound, eval_act, eval_code, eval_all, eval_procs, act_room, code_room, all_room}
-use Rattle.eval_inline.specs.Inlined.{Follows}
+use Rattle.inlining.specs.Evaluations.{tags_of, eval_arms, arms_room, eval_bound, eval_act, eval_code, eval_all, eval_procs, act_room, code_room, all_room}
+use Rattle.inlining.specs.InPlace.{Follows}
 
 -- no block in it, and no evaluation
 abbrev pub IsPlain : Act → Type 0

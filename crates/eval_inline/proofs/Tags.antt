@@ -8,7 +8,7 @@ use Rattle.flow_system.specs.declared.fact.Element.TheVariants.{Tag as tag}
 use Rattle.flow_system.specs.declared.fact.Place.TheVariants.{Site as site}
 use Rattle.flow_system.specs.declared.fact.Part.TheVariants.{Tags as tags}
 use Rattle.flow_system.specs.Solution.{Solution, among}
-use Rattle.eval_inline.specs.Inlining.{some_of, sites_of, tags_of, eval_arm, eval_arms, arms_room, fields_at}
+use Rattle.inlining.specs.Evaluations.{some_of, sites_of, tags_of, eval_arm, eval_arms, arms_room, fields_at}
 use Rattle.eval_inline.specs.Met.{tags_from}
 use Rattle.seq.specs.Lists.{those}
 

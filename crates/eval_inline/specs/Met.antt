@@ -7,7 +7,7 @@ use Rattle.flow_system.specs.declared.fact.Element.TheVariants.{Tag as tag}
 use Rattle.flow_system.specs.declared.fact.Place.TheVariants.{Site as site}
 use Rattle.flow_system.specs.declared.fact.Part.TheVariants.{Tags as tags}
 use Rattle.flow_system.specs.Solution.{Solution, among}
-use Rattle.eval_inline.specs.Inlining.{some_of, sites_of}
+use Rattle.inlining.specs.Evaluations.{some_of, sites_of}
 use Rattle.seq.specs.Lists.{those}
 
 -- the tags, from one on, that a solution has at the cells that a word may stand for; from 0 on they

@@ -6,9 +6,9 @@ ghost use Rattle.grin_syntax.specs.declared.program.Word.TheVariants.{Var};
 ghost use Rattle.grin_syntax.specs.declared.program.Val.TheVariants.{NodeVar};
 ghost use Rattle.grin_syntax.specs.declared.program.Target.TheVariants.{Nothing, Node as NodeTarget};
 ghost use Rattle.grin_syntax.specs.Tree.{Code, Arms, arm, end, bind, case, call, update, unit, act_of, before_of, arm_of, arms_of, code_of, all_before};
-ghost use Rattle.eval_inline.specs.Inlining.{tags_of, eval_arm, eval_arms, arms_room, fields_at, eval_code, eval_all, code_room, act_room, all_room};
+ghost use Rattle.inlining.specs.Evaluations.{tags_of, eval_arm, eval_arms, arms_room, fields_at, eval_code, eval_all, code_room, act_room, all_room};
 ghost use Rattle.eval_inline.specs.Known.{program, solution};
-ghost use Rattle.eval_inline.specs.Inlined.{Follows};
+ghost use Rattle.inlining.specs.InPlace.{Follows};
 
 use crate::met::next_tag;
 use grin_syntax::fresh::Fresh;

@@ -5,11 +5,10 @@ ghost use Rattle.std.specs.Prelude.{◌≡◌, IfOk};
 ghost use Rattle.grin_syntax.specs.Tree.{program_of};
 ghost use Rattle.grin_syntax.specs.Formed.{Formed};
 ghost use Rattle.grin_meaning.specs.Keeps.{Keeps};
-ghost use Rattle.eval_inline.specs.Inlining.{eval_inlined};
+ghost use Rattle.inlining.specs.Evaluations.{eval_inlined};
 ghost use Rattle.points_to.specs.Found.{found};
-ghost use Rattle.eval_inline.specs.Analysed.{IsAnalysed};
-ghost use Rattle.eval_inline.specs.Law.{EvalInliningKeeps};
-ghost use Rattle.eval_inline.specs.Without.{HasNoEval};
+ghost use Rattle.inlining.specs.Analysed.{IsAnalysed};
+ghost use Rattle.inlining.specs.Without.{HasNoEval};
 
 mod blocks;
 pub mod met;
@@ -21,11 +20,6 @@ use points_to::Flow;
 use seq::Seq;
 use std::alloc::{AllocError, Global};
 use std::mem;
-
-/// Inlining by a solution of the program's flow system keeps what the program does.
-pub fn inlining_keeps()
-    ensures { EvalInliningKeeps }
-{}
 
 /// The program with each evaluation as a fetch and a case over the tags that the solution has where
 /// it looks. More variables than can be numbered are want of memory.

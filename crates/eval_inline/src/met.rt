@@ -7,7 +7,7 @@ ghost use Rattle.flow_system.specs.Solution.{among};
 ghost use Rattle.flow_system.specs.declared.fact.Element.TheVariants.{Tag as tag};
 ghost use Rattle.flow_system.specs.declared.fact.Place.TheVariants.{Site as site};
 ghost use Rattle.flow_system.specs.declared.fact.Part.TheVariants.{Tags as tags};
-ghost use Rattle.eval_inline.specs.Inlining.{some_of, sites_of};
+ghost use Rattle.inlining.specs.Evaluations.{some_of, sites_of};
 ghost use Rattle.points_to.specs.Found.{found};
 ghost use Rattle.points_to.specs.Wanted.{is_in};
 ghost use Rattle.eval_inline.specs.Met.{tags_from, IsFirst, FirstInRange};

@@ -10,8 +10,8 @@ use Rattle.grin_syntax.specs.Tree as grin
 use Rattle.grin_meaning.specs.Keeps.{Keeps}
 use Rattle.grin_meaning.specs.Told.{of_grin, entered_by_grin}
 use Rattle.flow_system.specs.Solution.{Solution}
-use Rattle.apply_inline.specs.Inlining.{inlined, inlined_size}
-use Rattle.apply_inline.specs.Size.{largest_procedure}
+use Rattle.inlining.specs.Applications.{inlined, inlined_size}
+use Rattle.inlining.specs.Size.{largest_procedure}
 use Rattle.grin_translate.specs.Same.{ValidTranslationDoesAs}
 use Rattle.grin_translate.specs.Translation.{tr}
 use Rattle.low_code.specs.Tree.{Program}

@@ -49,7 +49,7 @@ module _ (items : List Item) (words : List ℕ) (placed : Placed items words) wh
 
   -- ---- addresses
 
-  code_ends : end_of lay.code ≡ 65536 + 4 * length words
+  pub code_ends : end_of lay.code ≡ 65536 + 4 * length words
   code_ends =
       let l : length lay.code.bytes ≡ 4 * length words = ap length placed.code ∙ words_length words in
       let f = placed.at_first in

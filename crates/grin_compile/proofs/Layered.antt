@@ -21,14 +21,15 @@ use Rattle.rv32_items.specs.Laws.{addresses_of, Meets}
 use Rattle.rv32_items.proofs.Enters.{items_enter}
 use Rattle.rv32_items.proofs.Reached.{items_are_reached}
 use Rattle.rv32_items.proofs.Forward.{items_go_forward}
+use Rattle.rv32_items.proofs.LastStep.{items_leave, stops_are_behind, stops_are_last}
 use Rattle.rv32_select.specs.Selects as select
 use Rattle.rv32_select.specs.Selects.{Selects, BelowHeap, start_at}
 use Rattle.grin_compile.specs.Limits.{HeapOver, FramesOver, StackOver}
-use Rattle.grin_compile.specs.Code.{Runs, IsCodeFor}
+use Rattle.grin_compile.specs.Code.{TellsLastStep, Runs, IsCodeFor}
 use Rattle.grin_compile.specs.Layers.{LowCodeIsCarried, LayersCompose}
 use Rattle.grin_compile.proofs.Composed.{reaches_kept, comes_kept}
 use Rattle.grin_compile.proofs.Selected.{comes, reaches}
-use Rattle.grin_compile.proofs.Images.{starts, below_heap, different, in_code}
+use Rattle.grin_compile.proofs.Images.{starts, code_ends, below_heap, different, in_code}
 
 -- a front that is as long as the whole
 whole : (xs ys : List ℕ) → Begins xs ys → length ys ≤ length xs → ys ≡ xs
@@ -119,6 +120,11 @@ module _ (told : Meaning) (entered : List ℕ → ℕ → List ℕ) (StackFull :
     one_each = length_map _ s.begins ∙ s.one_each;
     different = different items words placed s.begins s.stand s.flows.instruction_behind s.different;
     in_code = in_code items words placed s.begins s.stand s.flows.instruction_behind;
+    stops = lay.address s.flows.stops;
+    nine_stop = let last = stops_are_last items words placed s.begins s.flows in omega (arith, s.nine_stop, code_ends items words placed);
+    before_stops = stops_are_behind items words placed s.begins s.stand s.flows;
+    tells_last = λ i bytes m. subst (λ t. TellsLastStep (lay.address s.flows.stops) t i m) begun
+        (items_leave items words placed start i s.flows.stops 5 3 (_, refl) (never_traps i bytes) (s.leaves lay placed.rises below i bytes) m);
     carries = subst (λ t. Carries (HeapOver cells) StackFull told (of_machine t)) begun (record {
       reaches = reached;
       comes = λ i bytes m. (length (procedures_at addresses (trace m i (state_at lay items start))), shown i bytes m);

@@ -13,7 +13,7 @@ use Rattle.grin_meaning.specs.Ready.{EachAct, EachCode, EachArms, most_fields, v
 use Rattle.vectorise.specs.Whole.{NoVectorTarget, IsWhole, whole_kind}
 use Rattle.vectorise.specs.Widened.{Width, ActWidths, CodeWidths, ArmsWidths, Widths, Widened}
 use Rattle.low_translate.specs.Lowers.{IsNarrow}
-use Rattle.eval_inline.proofs.Without.{any_cells}
+use Rattle.inlining.proofs.NoEvaluations.{any_cells}
 use Rattle.low_translate.proofs.Sizes.{IsFew}
 
 module _ (most most_value : ℕ) (few : most ≤ 13) (few_value : most_value ≤ 13) where

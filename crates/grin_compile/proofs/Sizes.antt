@@ -8,9 +8,9 @@ use Rattle.grin_syntax.specs.SameOutside.{names_of, SameOutside}
 use Rattle.grin_meaning.specs.Slim.{Slim}
 use Rattle.grin_syntax.specs.Fresh.{past_procs}
 use Rattle.flow_system.specs.Solution.{Solution}
-use Rattle.eval_inline.specs.Inlining.{eval_procs, code_room, eval_inlined}
-use Rattle.apply_inline.specs.Inlining.{apply_procs, apply_code_room, inlined}
-use Rattle.apply_inline.specs.Size.{act_size, code_size, procedure_size, total, largest, size, largest_procedure}
+use Rattle.inlining.specs.Evaluations.{eval_procs, code_room, eval_inlined}
+use Rattle.inlining.specs.Applications.{apply_procs, apply_code_room, inlined}
+use Rattle.inlining.specs.Size.{act_size, code_size, procedure_size, total, largest, size, largest_procedure}
 use Rattle.grin_opt.specs.declared.pass.PassName.{PassName}
 use Rattle.grin_opt.specs.declared.pass.PassName.TheVariants.{Translate, Eval, Apply, Vectorise, Simplify, Fetch, Copy, Update, Unbox, Raise, Flat, Known, Cells, Dead}
 use Rattle.grin_opt.specs.Schedule.{shape_of}

@@ -10,8 +10,8 @@ use Rattle.grin_meaning.specs.Keeps.{Keeps}
 use Rattle.grin_meaning.specs.Slim.{Slim}
 use Rattle.grin_meaning.proofs.Kept.{keeps_again}
 use Rattle.flow_system.specs.Solution.{Solution}
-use Rattle.apply_inline.specs.Inlining.{inlined, inlined_size}
-use Rattle.apply_inline.specs.Size.{size, largest_procedure}
+use Rattle.inlining.specs.Applications.{inlined, inlined_size}
+use Rattle.inlining.specs.Size.{size, largest_procedure}
 use Rattle.vectorised_form.specs.Laws.{VectoriseTakesInlined}
 use Rattle.grin_measure.specs.declared.measure.Sizes.{Sizes}
 use Rattle.grin_measure.specs.Within.{HasSizes}

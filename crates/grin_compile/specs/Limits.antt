@@ -5,8 +5,8 @@ use Rattle.arity_check.specs.Program as core
 use Rattle.grin_syntax.specs.Tree.{Program}
 use Rattle.grin_meaning.specs.Ready.{most_fields}
 use Rattle.flow_system.specs.Solution.{Solution}
-use Rattle.apply_inline.specs.Inlining.{inlined, inlined_size}
-use Rattle.apply_inline.specs.Size.{largest_procedure}
+use Rattle.inlining.specs.Applications.{inlined, inlined_size}
+use Rattle.inlining.specs.Size.{largest_procedure}
 use Rattle.grin_translate.specs.Translation.{tr}
 
 -- more cells are told of than were given

@@ -6,7 +6,7 @@ use Rattle.grin_syntax.specs.Tree.{program_of}
 use Rattle.grin_syntax.specs.Formed.{AllOf, Formed}
 use Rattle.grin_syntax.specs.SameOutside.{names_of}
 use Rattle.flow_system.specs.Solution.{Solution}
-use Rattle.apply_inline.specs.Inlining.{inlined, inlined_size}
+use Rattle.inlining.specs.Applications.{inlined, inlined_size}
 use Rattle.grin_translate.specs.Translation.{tr}
 use Rattle.grin_opt.specs.declared.pass.PassName.TheVariants.{Translate, Eval}
 use Rattle.grin_stages.specs.Stage.{Analyses, IsStage}

@@ -5,8 +5,8 @@ use Rattle.grin_syntax.specs.Tree.{Program}
 use Rattle.grin_meaning.specs.Keeps.{Keeps}
 use Rattle.grin_meaning.specs.Slim.{Slim}
 use Rattle.flow_system.specs.Solution.{Solution}
-use Rattle.apply_inline.specs.Inlining.{inlined, inlined_size}
-use Rattle.apply_inline.specs.Size.{largest_procedure}
+use Rattle.inlining.specs.Applications.{inlined, inlined_size}
+use Rattle.inlining.specs.Size.{largest_procedure}
 use Rattle.grin_translate.specs.Translation.{tr}
 use Rattle.grin_opt.specs.declared.pass.PassName.{PassName}
 use Rattle.grin_opt.specs.declared.pass.PassName.TheVariants.{Vectorise, Simplify, Fetch, Copy, Update, Unbox, Raise, Flat, Known, Cells, Dead}

@@ -1,5 +1,5 @@
 -- What the end of a run says of the program.
-use Rattle.std.proofs.Common.{◌≡◌, ℕ, zero, suc, ◌+◌, ◌*◌, ◌<◌, ◌≤◌, Bool, true, false, List, [], ◌∷◌, ◌++◌, length, Option, Some, None, refl, sym, ap, ◌∙◌, subst, arith, length-append}
+use Rattle.std.proofs.Common.{◌≡◌, ℕ, zero, suc, ◌+◌, ◌-◌, ◌*◌, ◌<◌, ◌≤◌, Bool, true, false, List, [], ◌∷◌, ◌++◌, length, Option, Some, None, refl, sym, ap, ◌∙◌, subst, arith, length-append}
 use mathlib.Core.Logic.{inl, inr}
 use Rattle.arity_check.specs.Program.{Program}
 use Rattle.core_meaning.specs.Evaluation.{params}
@@ -18,21 +18,23 @@ use Rattle.grin_stages.specs.declared.refusal.CompileRefusal.{CompileRefusal}
 use Rattle.grin_stages.specs.declared.refusal.CompileRefusal.TheVariants.{ExpandedTooLarge, Memory}
 use Rattle.headline.specs.Carries as carries
 use Rattle.headline.specs.Carries.{Told as Telling, going, done, no_alternative, missing, Seen, Finish, runs, exits, traps, IsBytes, Begins, Matches, Reaches, After, Finishes, Comes, Carries, KeepsPace}
-use Rattle.rv32_machine.specs.Steps.{start_of}
+use Rattle.rv32_machine.specs.Steps.{State, reg, start_of}
 use Rattle.rv32_machine.specs.Runs.{End, Going, Exited as exited, Stopped, run, pieces, used, AsksForMore}
 use Rattle.rv32_machine.specs.declared.machine.Stop.{Stop}
 use Rattle.rv32_machine.specs.declared.machine.Stop.TheVariants.{Steps, Exit, Trap}
 use Rattle.rv32_steps.specs.Seen.{seen, finish_of}
+use Rattle.rv32_steps.specs.Trace.{trace, IsLastBefore}
+use Rattle.grin_compile.specs.Code.{TellsLastStep}
 use Rattle.grin_compile.specs.Limits.{heap_bytes, HeapOver, StackOver, frame_bound, steps_each, whole_words}
 use Rattle.text_commands.specs.declared.status.Status.{Status}
-use Rattle.text_commands.specs.declared.status.Status.TheVariants.{Refused, Exited, OutOfMemory, ReadFault, WriteFault}
+use Rattle.text_commands.specs.declared.status.Status.TheVariants.{Refused, NoAlternative, Exited, OutOfMemory, ReadFault, WriteFault}
 use Rattle.grin_driver.specs.Listing.{IsUnlisted}
 use Rattle.rv32_machine.proofs.Sources.{itself}
 use Rattle.grin_driver.specs.Execution.{OfGiven, Stops, Fails, Execution, IsUnloadable, stop_at, status_of}
 use Rattle.grin_driver.specs.Outcome.{IsNotRun, IsImageOf, IsUnmade, named, RunsTo, Breaks, Says, Runs, Outcome}
 use Rattle.grin_syntax.specs.SameOutside.{names_of}
 use Rattle.grin_driver.specs.declared.cost.Cost.{Cost}
-use Rattle.grin_driver.specs.Costs.{has_stopped, AreCounts, IsRunCost, IsCostOf, Counted, CountsExecution, CostsRun, CostsText}
+use Rattle.grin_driver.specs.Costs.{has_stopped, state_at, AreCounts, IsRunCost, IsCostOf, Counted, CountsExecution, CostsRun, CostsText}
 use Rattle.grin_driver.specs.declared.cost.Counts.{Counts}
 use Rattle.grin_driver.proofs.Costs.{counted_stops}
 use Rattle.text_commands.proofs.Texts.{refused_long, accepted_short}
@@ -91,6 +93,32 @@ pub carried : (text : List ℕ) (cells stack : ℕ) (file : List ℕ) (from : Is
 carried text cells stack file from image loads =
     subst (λ b. Carries (HeapOver cells) (StackOver (frame_bound from.program from.made.solution) (whole_words stack)) (of_core from.program) (seen b))
     (from.made.image.loads.program ∙ sym loads.program) from.made.image.code_for.carries
+
+-- and where it exits with 3, x5 tells its last step in the code of the procedures
+tells_last : (text : List ℕ) (cells stack : ℕ) (file : List ℕ) (from : IsImageOf text cells stack file) (image : Image) → Loads file image
+    → (bytes : List ℕ) → IsBytes bytes → (m : ℕ) → TellsLastStep from.made.image.code_for.stops (start_of image) bytes m
+tells_last text cells stack file from image loads bytes are m =
+    subst (λ b. TellsLastStep from.made.image.code_for.stops (start_of b) bytes m)
+    (from.made.image.loads.program ∙ sym loads.program) (from.made.image.code_for.tells_last bytes are m)
+
+told_by : (e : End) (stops : ℕ) (way : List ℕ) (x5 : ℕ) → ((s : State) → e ≡ exited 3 s → IsLastBefore stops way (s.regs 5 - 4)) → stop_at e ≡ Exit 3 → reg (state_at e) 5 ≡ x5
+    → IsLastBefore stops way (x5 - 4)
+told_by (Going s) stops way x5 tells h x = cc
+told_by (exited code s) stops way x5 tells h x =
+    let same : code ≡ 3 = cc in
+    subst (λ r. IsLastBefore stops way (r - 4)) x (tells s (ap (λ c. exited c s) same))
+told_by (Stopped kind s) stops way x5 tells h x = cc
+
+exits_with_3 : (stop : Stop) → named (status_of stop) ≡ NoAlternative → stop ≡ Exit 3
+exits_with_3 Steps e = cc
+exits_with_3 (Exit zero) e = cc
+exits_with_3 (Exit (suc zero)) e = cc
+exits_with_3 (Exit (suc (suc zero))) e = cc
+exits_with_3 (Exit (suc (suc (suc zero)))) e = refl
+exits_with_3 (Exit (suc (suc (suc (suc zero))))) e = cc
+exits_with_3 (Exit (suc (suc (suc (suc (suc zero)))))) e = cc
+exits_with_3 (Exit (suc (suc (suc (suc (suc (suc k))))))) e = cc
+exits_with_3 (Trap kind pc) e = cc
 
 -- and keeps pace with it
 pub paced : (text : List ℕ) (cells stack : ℕ) (file : List ℕ) (from : IsImageOf text cells stack file) (image : Image) → Loads file image
@@ -290,26 +318,33 @@ module _ {I K : Type 0} (i : SourceChange I) (o : SinkChange K) (text : List ℕ
     runs_to (Exit (suc (suc (suc (suc (suc (suc k))))))) ran says = absurd (never (named (status_of (Exit (suc (suc (suc (suc (suc (suc k))))))))) ran.gave says)
     runs_to (Trap kind pc) ran says = absurd (never (named (status_of (Trap kind pc))) ran.gave says)
 
+    -- where its last step in the code of the procedures stood
+    stood : (stop : Stop) → Stops i o image steps stop given ended → (c : Counts) → AreCounts image steps given ended c → named (status_of stop) ≡ NoAlternative
+        → (bytes : List ℕ) → BeginsWith given ended bytes → IsBytes bytes → IsLastBefore from.made.image.code_for.stops (trace steps bytes (start_of image)) (c.link - 4)
+    stood stop ran c are is bytes begins all =
+        told_by (run steps bytes (start_of image)).end from.made.image.code_for.stops (trace steps bytes (start_of image)) c.link
+        (tells_last text cells stack file from image loads bytes all steps) ((ran.stands bytes begins).0 ∙ exits_with_3 stop is) (are.x5 bytes begins)
+
     -- what it cost
     costs_to : (stop : Stop) → Stops i o image steps stop given ended → Said given ended (named (status_of stop))
-        → (c : Counts) → AreCounts image steps given ended c → (cost : Cost) → IsRunCost (heap_bytes from.made.g 1) cells from.made.addresses (names_of from.made.g.procs) (named (status_of stop)) c cost
+        → (c : Counts) → AreCounts image steps given ended c → (cost : Cost) → IsRunCost (heap_bytes from.made.g 1) cells from.made.addresses (names_of from.made.g.procs) (named (status_of stop)) (c.link - 4) c cost
         → CostsRun i o text cells stack steps (named (status_of stop)) cost
     unfolding runs_from
-    costs_to Steps ran says c are cost is = record { runs = runs_from (named (status_of Steps)) Steps ran ran says; counts = c; are = are; cost_is = is }
-    costs_to (Exit zero) ran says c are cost is = record { runs = runs_from (named (status_of (Exit 0))) (Exit 0) ran ran says; counts = c; are = are; cost_is = is }
+    costs_to Steps ran says c are cost is = record { runs = runs_from (named (status_of Steps)) Steps ran ran says; counts = c; are = are; at = c.link - 4; stood = stood Steps ran c are; cost_is = is }
+    costs_to (Exit zero) ran says c are cost is = record { runs = runs_from (named (status_of (Exit 0))) (Exit 0) ran ran says; counts = c; are = are; at = c.link - 4; stood = stood (Exit zero) ran c are; cost_is = is }
     costs_to (Exit (suc zero)) ran says c are cost is = absurd (never (named (status_of (Exit 1))) ran.gave says)
     costs_to (Exit (suc (suc zero))) ran says c are cost is = absurd (never (named (status_of (Exit 2))) ran.gave says)
-    costs_to (Exit (suc (suc (suc zero)))) ran says c are cost is = record { runs = runs_from (named (status_of (Exit 3))) (Exit 3) ran ran says; counts = c; are = are; cost_is = is }
-    costs_to (Exit (suc (suc (suc (suc zero))))) ran says c are cost is = record { runs = runs_from (named (status_of (Exit 4))) (Exit 4) ran ran says; counts = c; are = are; cost_is = is }
-    costs_to (Exit (suc (suc (suc (suc (suc zero)))))) ran says c are cost is = record { runs = runs_from (named (status_of (Exit 5))) (Exit 5) ran ran says; counts = c; are = are; cost_is = is }
+    costs_to (Exit (suc (suc (suc zero)))) ran says c are cost is = record { runs = runs_from (named (status_of (Exit 3))) (Exit 3) ran ran says; counts = c; are = are; at = c.link - 4; stood = stood (Exit (suc (suc (suc zero)))) ran c are; cost_is = is }
+    costs_to (Exit (suc (suc (suc (suc zero))))) ran says c are cost is = record { runs = runs_from (named (status_of (Exit 4))) (Exit 4) ran ran says; counts = c; are = are; at = c.link - 4; stood = stood (Exit (suc (suc (suc (suc zero))))) ran c are; cost_is = is }
+    costs_to (Exit (suc (suc (suc (suc (suc zero)))))) ran says c are cost is = record { runs = runs_from (named (status_of (Exit 5))) (Exit 5) ran ran says; counts = c; are = are; at = c.link - 4; stood = stood (Exit (suc (suc (suc (suc (suc zero)))))) ran c are; cost_is = is }
     costs_to (Exit (suc (suc (suc (suc (suc (suc k))))))) ran says c are cost is = absurd (never (named (status_of (Exit (suc (suc (suc (suc (suc (suc k))))))))) ran.gave says)
     costs_to (Trap kind pc) ran says c are cost is = absurd (never (named (status_of (Trap kind pc))) ran.gave says)
 
-  costs : (status : Status) (c : Counts) → Counted i o file steps status c → (cost : Cost) → IsRunCost (heap_bytes from.made.g 1) cells from.made.addresses (names_of from.made.g.procs) (named status) c cost
+  costs : (status : Status) (c : Counts) → Counted i o file steps status c → (cost : Cost) → IsRunCost (heap_bytes from.made.g 1) cells from.made.addresses (names_of from.made.g.procs) (named status) (c.link - 4) c cost
       → CostsRun i o text cells stack steps (named status) cost
   costs status c h cost is =
       let g = h.2.2 in
-      let is' = subst (λ s. IsRunCost (heap_bytes from.made.g 1) cells from.made.addresses (names_of from.made.g.procs) (named s) c cost) (sym h.2.1) is in
+      let is' = subst (λ s. IsRunCost (heap_bytes from.made.g 1) cells from.made.addresses (names_of from.made.g.procs) (named s) (c.link - 4) c cost) (sym h.2.1) is in
       subst (λ s. CostsRun i o text cells stack steps (named s) cost) h.2.1
       (costs_to h.0 h.1 g.0 g.1.0 h.2.0 g.1.1.0 (said h.0 h.1 g.0 g.1.0 h.2.0 g.1.1.0) c g.1.1.1 cost is')
 
@@ -322,9 +357,9 @@ module _ {I K : Type 0} (i : SourceChange I) (o : SinkChange K) (text : List ℕ
   costs_text cell_bytes starts names bytes are named' status (Some c) h None is = absurd is
   costs_text cell_bytes starts names bytes are named' status (Some c) h (Some cost) is = (
     named_stops status ∙ counted_stops i o file steps status c h,
-    costs status c h cost (subst (λ n. IsRunCost n cells from.made.addresses (names_of from.made.g.procs) (named status) c cost) (sym bytes)
-        (subst (λ as'. IsRunCost cell_bytes cells as' (names_of from.made.g.procs) (named status) c cost) are
-        (subst (λ ns. IsRunCost cell_bytes cells starts ns (named status) c cost) named' is))),
+    costs status c h cost (subst (λ n. IsRunCost n cells from.made.addresses (names_of from.made.g.procs) (named status) (c.link - 4) c cost) (sym bytes)
+        (subst (λ as'. IsRunCost cell_bytes cells as' (names_of from.made.g.procs) (named status) (c.link - 4) c cost) are
+        (subst (λ ns. IsRunCost cell_bytes cells starts ns (named status) (c.link - 4) c cost) named' is))),
   )
 
   stopped : (status : Status) → (image : Image) × Loads file image × ((stop : Stop) × (status_of stop ≡ status) × OfGiven i o (Stops i o image steps stop))

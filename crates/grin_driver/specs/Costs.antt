@@ -4,12 +4,14 @@ use Rattle.std.specs.Prelude.{◌≡◌, ℕ, ◌-◌, ◌/◌, min, ◌⊎◌, 
 use Rattle.elf32.specs.Image.{Image}
 use Rattle.elf32.specs.Rules.{Loads}
 use Rattle.command_line.specs.Commands.{CommandLine, RunFile, ExecImage}
+use Rattle.headline.specs.Carries.{IsBytes}
 use Rattle.grin_io.specs.Causes.{Rose}
 use Rattle.grin_io.specs.Changes.{Told, ShelfChange, SourceChange, SinkChange, of_sink, BeginsWith}
 use Rattle.grin_syntax.specs.SameOutside.{names_of}
 use Rattle.rv32_machine.specs.Steps.{State, reg, start_of}
 use Rattle.rv32_machine.specs.Runs.{End, Going, Exited as exited, Stopped, run, IsCount}
 use Rattle.rv32_machine.specs.declared.machine.Stop.{Stop}
+use Rattle.rv32_steps.specs.Trace.{trace, IsLastBefore}
 use Rattle.text_commands.specs.declared.status.Status.{Status}
 use Rattle.text_commands.specs.declared.status.Status.TheVariants.{Done, NoAlternative, HeapFull, StackFull, StepLimit, Exited, Trapped}
 use Rattle.text_commands.specs.Operands.{OfFile, most_of_text}
@@ -52,24 +54,33 @@ pub record AreCounts (program : Image) (steps : ℕ) (given : List ℕ) (ended :
   pub x5 : (bytes : List ℕ) → BeginsWith given ended bytes
       → reg (state_at (run steps bytes (start_of program)).end) 5 ≡ c.link
 
+-- On whatever input of bytes begins with those that were given, the last step of the program's run
+-- that stood before `stops` stood at `at`.
+abbrev pub StoodLast : (program : Image) → (steps : ℕ) → (given : List ℕ) → (ended : Bool)
+    → (stops at : ℕ) → Type 0
+StoodLast program steps given ended stops at =
+    (bytes : List ℕ) → BeginsWith given ended bytes → IsBytes bytes
+    → IsLastBefore stops (trace steps bytes (start_of program)) at
+
 -- the cells that stand before an address; where the heap is full, x3 may be past its end
 abbrev pub cells_before : (cell_bytes cells next_cell : ℕ) → ℕ
 cells_before cell_bytes cells next_cell = min ((next_cell - 0x50000000) / cell_bytes) cells
 
--- the cost of a run that ended so, by its counts. The image has so many bytes in a cell, and so
--- many cells, and its procedures start at these addresses and have these names
+-- the cost of a run that ended so, by its counts, whose last step in the code of procedures stood
+-- at `at`. The image has so many bytes in a cell, and so many cells, and its procedures start at
+-- these addresses and have these names
 pub record IsRunCost (cell_bytes cells : ℕ) (starts : List ℕ) (names : List (List ℕ))
-    (status : Status) (c : Counts) (cost : Cost) : Type 0 where
+    (status : Status) (at : ℕ) (c : Counts) (cost : Cost) : Type 0 where
   pub instructions : cost.instructions ≡ c.instructions
   pub cells_bound : cost.cells ≡ Some (cells_before cell_bytes cells c.next_cell)
-  pub place : IsPlace starts names status c.link cost.place
+  pub place : IsPlace starts names status at cost.place
 
--- there is a cost just where there are counts
+-- there is a cost just where there are counts, of which x5 tells the last step: it stood 4 before
 abbrev pub IsCostOf : (cell_bytes cells : ℕ) → (starts : List ℕ) → (names : List (List ℕ))
     → Status → Option Counts → Option Cost → Type 0
 IsCostOf cell_bytes cells starts names status None None = Unit {0}
 IsCostOf cell_bytes cells starts names status (Some c) (Some cost) =
-    IsRunCost cell_bytes cells starts names status c cost
+    IsRunCost cell_bytes cells starts names status (c.link - 4) c cost
 IsCostOf cell_bytes cells starts names status _ _ = ⊥
 
 -- the cost of an executable, of whose cells and procedures nothing is known
@@ -105,15 +116,19 @@ module _ {I K : Type 0} (i : SourceChange I) (o : SinkChange K) where
   CostsExecution bytes steps status cost =
       (c : Counts) × (cost ≡ exec_cost c) × Counted bytes steps status c
 
-  -- what the run of a text cost, which is the one that the status speaks of
+  -- What the run of a text cost, which is the one that the status speaks of. Where it found no
+  -- alternative, its last step in the code of procedures, which ends at `stops`, stood at `at`.
   pub record CostsRun (text : List ℕ) (cells stack steps : ℕ) (status : Status) (cost : Cost)
       : Type 0 where
     pub runs : Runs i o text cells stack steps status
     pub counts : Counts
     pub are : AreCounts runs.image steps runs.given runs.ended counts
+    pub at : ℕ
+    pub stood : status ≡ NoAlternative → StoodLast runs.image steps runs.given runs.ended
+        runs.from.made.image.code_for.stops at
     pub cost_is :
         IsRunCost (heap_bytes runs.from.made.g 1) cells runs.from.made.addresses
-        (names_of runs.from.made.g.procs) status counts cost
+        (names_of runs.from.made.g.procs) status at counts cost
 
   -- there is a cost just where the run of a text stopped
   abbrev pub CostsText : (text : List ℕ) → (cells stack steps : ℕ) → Status → Option Cost → Type 0

@@ -1,5 +1,5 @@
 -- In which procedure an image stood where its run found no alternative.
-use Rattle.std.specs.Prelude.{◌≡◌, ℕ, ◌-◌, ◌≤◌, ◌<◌, List, ◌++◌, length, min, take, codes, Option, Some, None, slice_get}
+use Rattle.std.specs.Prelude.{◌≡◌, ℕ, ◌≤◌, ◌<◌, List, ◌++◌, length, min, take, codes, Option, Some, None, slice_get}
 use Rattle.text_commands.specs.declared.status.Status.{Status}
 use Rattle.text_commands.specs.declared.status.Status.TheVariants.{NoAlternative}
 
@@ -28,9 +28,8 @@ Names starts names at (Some line) =
     (f : ℕ) × LiesIn starts at (Some f)
     × ((name : List ℕ) × (slice_get names f ≡ Some name) × (line ≡ place_line name))
 
--- the line for a run that ended so, with this in x5, which is the address behind the jump to where
--- an image stops that found no alternative
+-- the line for a run that ended so, whose last step in the code of procedures stood here
 abbrev pub IsPlace :
-    (starts : List ℕ) → (names : List (List ℕ)) → Status → (x5 : ℕ) → Option (List ℕ) → Type 0
-IsPlace starts names NoAlternative x5 line = Names starts names (x5 - 4) line
-IsPlace starts names _ x5 line = line ≡ None
+    (starts : List ℕ) → (names : List (List ℕ)) → Status → (at : ℕ) → Option (List ℕ) → Type 0
+IsPlace starts names NoAlternative at line = Names starts names at line
+IsPlace starts names _ at line = line ≡ None

@@ -1,6 +1,6 @@
 //! In which procedure an image stood where its run found no alternative.
 
-ghost use Rattle.std.specs.Prelude.{◌≡◌, ◌≤◌, length, slice_get, Some, ◌&&◌, nat_le};
+ghost use Rattle.std.specs.Prelude.{◌≡◌, ◌-◌, ◌≤◌, length, slice_get, Some, ◌&&◌, nat_le};
 ghost use Rattle.grin_driver.specs.Standing.{LiesIn, Names, IsPlace, place_line};
 
 use seq::Text;
@@ -53,10 +53,11 @@ fn named_at(starts: &[u32], names: &[Text], at: u32) -> Option<Note>
     Some(line(name.as_slice()))
 }
 
-/// The line for a run that ended so, with this in x5.
+/// The line for a run that ended so, with this in x5, which is 4 behind its last step in the code of
+/// procedures where it found no alternative.
 pub(crate) fn place(starts: &[u32], names: &[Text], status: Status, x5: u32) -> Option<Note>
     requires { length starts.now ≡ length names.now }
-    ensures { IsPlace starts.now names.now status x5 result }
+    ensures { IsPlace starts.now names.now status (x5 - 4) result }
 {
     match status {
         Status::NoAlternative => named_at(starts, names, x5.saturating_sub(4)),

@@ -1,10 +1,10 @@
 -- How the counts of a program stand to the bounds of a slim one.
 use Rattle.std.specs.Prelude.{◌≡◌, ◌*◌, ◌≤◌}
 use Rattle.grin_syntax.specs.Tree.{Program}
-use Rattle.apply_inline.specs.Size.{size, largest_procedure}
+use Rattle.inlining.specs.Size.{size, largest_procedure}
 use Rattle.grin_measure.specs.declared.counts.Counts.{Counts}
 use Rattle.grin_measure.specs.declared.measure.Sizes.{Sizes}
-use Rattle.apply_inline.specs.Expanded.{capped}
+use Rattle.inlining.specs.Expanded.{capped}
 
 pub record HasSizes (g : Program) (s : Sizes) : Type 0 where
   pub program : s.program ≡ capped (size g)

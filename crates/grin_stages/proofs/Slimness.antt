@@ -3,9 +3,9 @@ use Rattle.std.proofs.Common.{◌≡◌, ℕ, ◌≤◌, ◌*◌, List, [], ◌�
 use Rattle.grin_syntax.specs.Tree.{Procedure, Program}
 use Rattle.grin_syntax.specs.Formed.{AllOf}
 use Rattle.grin_meaning.specs.Slim.{Slim, procedure_words}
-use Rattle.apply_inline.specs.Inlining.{inlined}
-use Rattle.apply_inline.specs.Size.{size, largest_procedure}
-use Rattle.apply_inline.specs.Small.{IsLinearInSize}
+use Rattle.inlining.specs.Applications.{inlined}
+use Rattle.inlining.specs.Size.{size, largest_procedure}
+use Rattle.inlining.specs.Small.{IsLinearInSize}
 use Rattle.vectorise.specs.Widened.{FewWords, Widened}
 use Rattle.grin_translate.specs.Translation.{tr}
 use Rattle.grin_opt.specs.declared.pass.PassName.TheVariants.{Vectorise}

@@ -6,7 +6,7 @@ use Rattle.grin_syntax.specs.Tree.{program_of}
 use Rattle.grin_syntax.specs.Formed.{Formed}
 use Rattle.grin_meaning.specs.Keeps.{Keeps}
 use Rattle.points_to.specs.Found.{found}
-use Rattle.eval_inline.specs.Analysed.{IsAnalysed}
+use Rattle.inlining.specs.Analysed.{IsAnalysed}
 use Rattle.grin_translate.specs.Translation.{tr}
 use Rattle.grin_opt.specs.declared.pass.PassName.{PassName}
 use Rattle.grin_opt.specs.declared.pass.PassName.TheVariants.{Translate}

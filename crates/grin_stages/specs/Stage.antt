@@ -7,9 +7,9 @@ use Rattle.grin_meaning.specs.Slim.{Slim}
 use Rattle.flow_system.specs.Tables.{tables}
 use Rattle.flow_system.specs.System.{system}
 use Rattle.flow_system.specs.Solution.{Solution, IsLeast}
-use Rattle.eval_inline.specs.Inlining.{eval_inlined}
-use Rattle.apply_inline.specs.Inlining.{inlined, inlined_size}
-use Rattle.apply_inline.specs.Size.{largest_procedure}
+use Rattle.inlining.specs.Evaluations.{eval_inlined}
+use Rattle.inlining.specs.Applications.{inlined, inlined_size}
+use Rattle.inlining.specs.Size.{largest_procedure}
 use Rattle.grin_translate.specs.Translation.{tr}
 use Rattle.grin_opt.specs.declared.pass.PassName.{PassName}
 use Rattle.grin_opt.specs.declared.pass.PassName.TheVariants.{Translate, Eval, Apply, Vectorise}

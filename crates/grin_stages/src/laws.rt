@@ -2,7 +2,7 @@
 
 ghost use Rattle.grin_stages.specs.Stage.{OneExpandedSize, OneStage, VectorisedIsSlim};
 
-use apply_inline::laws::programs_are_slim;
+use inlining::programs_are_slim;
 
 /// A program has one expanded size, so rule 36 is broken or it isn't.
 pub fn one_expanded_size()

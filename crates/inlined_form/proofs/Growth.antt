@@ -14,10 +14,10 @@ use Rattle.grin_syntax.specs.Fresh.{variable, variables, past_procs}
 use Rattle.grin_meaning.specs.Run.{is_fun_kind, part_from}
 use Rattle.grin_meaning.specs.Ready.{most_fields}
 use Rattle.flow_system.specs.Solution.{Solution}
-use Rattle.apply_inline.specs.Size.{val_size, target_size, cells_size, shape_size, act_size, code_size, arms_size, procedure_size, total, size}
-use Rattle.eval_inline.specs.Inlining.{call_body, eval_body, eval_arms, evaluation, eval_bound, eval_ended, eval_act, eval_code, eval_all, eval_procs, eval_inlined, act_room, code_room, tags_of}
-use Rattle.apply_inline.specs.Inlining.{with_one_more, apply_body, part_body, apply_arms, part_tags_of, others_of, else_fail, apply_act, apply_code, apply_all, apply_procs, apply_act_room, apply_code_room, inlined}
-use Rattle.apply_inline.proofs.Measured.{words_many}
+use Rattle.inlining.specs.Size.{val_size, target_size, cells_size, shape_size, act_size, code_size, arms_size, procedure_size, total, size}
+use Rattle.inlining.specs.Evaluations.{call_body, eval_body, eval_arms, evaluation, eval_bound, eval_ended, eval_act, eval_code, eval_all, eval_procs, eval_inlined, act_room, code_room, tags_of}
+use Rattle.inlining.specs.Applications.{with_one_more, apply_body, part_body, apply_arms, part_tags_of, others_of, else_fail, apply_act, apply_code, apply_all, apply_procs, apply_act_room, apply_code_room, inlined}
+use Rattle.inlining.proofs.Measured.{words_many}
 use Rattle.seq.specs.Lists.{those}
 use Rattle.grin_syntax.proofs.Counted.{length_variables}
 use Rattle.grin_meaning.proofs.Fields.{field_bound}

@@ -9,8 +9,8 @@ use Rattle.grin_meaning.specs.Run.{run}
 use Rattle.grin_meaning.specs.Keeps.{Keeps, ended, end_of}
 use Rattle.grin_meaning.specs.Ready.{most_value_fields, Ready}
 use Rattle.flow_system.specs.Solution.{Solution}
-use Rattle.eval_inline.specs.Inlining.{code_room, eval_procs, eval_inlined}
-use Rattle.apply_inline.specs.Inlining.{apply_code_room, apply_procs, inlined}
+use Rattle.inlining.specs.Evaluations.{code_room, eval_procs, eval_inlined}
+use Rattle.inlining.specs.Applications.{apply_code_room, apply_procs, inlined}
 use Rattle.grin_translate.specs.Translation.{tr}
 use Rattle.core_meaning.specs.Printing.{printed, End, Done, Unaccepted, Going}
 use Rattle.core_meaning.specs.WellFormed.{WellFormed}
@@ -20,10 +20,10 @@ use Rattle.grin_translate.proofs.Printing.{translation_does_as}
 use Rattle.translated_form.proofs.Bounds.{valid_few_words}
 use Rattle.translated_form.proofs.Limits.{valid_is_well_formed}
 use Rattle.translated_form.specs.Laws.{ValidTranslationsAreFormed}
-use Rattle.apply_inline.proofs.InlinedTogether.{inlining_law}
-use Rattle.apply_inline.proofs.Well as applications
-use Rattle.eval_inline.proofs.Well as evaluations
-use Rattle.eval_inline.proofs.Bounds.{uses_bound}
+use Rattle.inlining.proofs.InlinedTogether.{inlining_law}
+use Rattle.inlining.proofs.ApplicationsFormed as applications
+use Rattle.inlining.proofs.EvaluationsFormed as evaluations
+use Rattle.inlining.proofs.Bounds.{uses_bound}
 use Rattle.flow_system.proofs.Starting.{formed_is_started}
 use Rattle.inlined_form.specs.Laws.{InlinedProgramsAreReady}
 use Rattle.inlined_form.proofs.Sorts.{ProgramFits}

@@ -7,7 +7,7 @@ use Rattle.grin_syntax.specs.Tree.{Code, end, store, bind, Act, unit, fetch, fet
 use Rattle.grin_syntax.specs.Formed.{AllOf}
 use Rattle.grin_meaning.specs.Ready.{EachAct, EachCode, EachArms, val_width, NarrowAct, NarrowCode, NarrowArms, EachBody, inlined_kind}
 use Rattle.inlined_form.proofs.Sorts.{Sorts, nothing_known, vars_sorted, cells_sorted, target_sorted, sort_of, GivenFits, alternative_sorted, ActFits, CodeFits, ArmsFit, ProcedureFits}
-use Rattle.eval_inline.proofs.Without.{any_cells}
+use Rattle.inlining.proofs.NoEvaluations.{any_cells}
 
 module _ (ts : List Tag) where
   mutual

@@ -6,7 +6,7 @@ use Rattle.grin_syntax.specs.Formed.{Formed}
 use Rattle.grin_meaning.specs.Ready.{Ready}
 use Rattle.flow_system.specs.Covers.{Started}
 use Rattle.flow_system.specs.Solution.{Solution, Solves}
-use Rattle.apply_inline.specs.Inlining.{inlined, inlined_size}
+use Rattle.inlining.specs.Applications.{inlined, inlined_size}
 use Rattle.flow_system.specs.System.{system}
 use Rattle.flow_system.specs.Tables.{tables}
 use Rattle.grin_translate.specs.Translation.{tr}

@@ -47,11 +47,11 @@ has_words bs b k lt e within u h =
     let n = has_in bs b w (subst (λ q. In (q, w) bs) e (in_place bs k (0, 0) lt)) within r.0 r.1 in
     subst (In u) (sym (words_are bs)) (subst (λ v. In v (map word_of (flat_map block_numbers bs))) (sym r.2) (in_map word_of (flat_map block_numbers bs) n))
 
--- one block more whose words are among others
-pub words_within : (us : List Element) (bs : List (ℕ × ℕ)) (i : ℕ) (b : ℕ × ℕ) → i < length bs → ((u : Element) → In u (flat_map block_words (take i bs)) → In u us)
-    → ((u : Element) → In u (block_words (get_or bs i b)) → In u us) → (u : Element) → In u (flat_map block_words (take (i + 1) bs)) → In u us
-words_within us bs i b lt old more u h =
-    ⊎_elim (old u) (more u) (in_split (flat_map block_words (take i bs)) (block_words (get_or bs i b)) (subst (In u) (sym (flat_taken block_words bs i b lt)) h))
+-- one more whose members are among others
+pub within_more : {X Y : Type 0} (f : X → List Y) (ys : List Y) (xs : List X) (i : ℕ) (x : X) → i < length xs → ((y : Y) → In y (flat_map f (take i xs)) → In y ys)
+    → ((y : Y) → In y (f (get_or xs i x)) → In y ys) → (y : Y) → In y (flat_map f (take (i + 1) xs)) → In y ys
+within_more f ys xs i x lt old more y h =
+    ⊎_elim (old y) (more y) (in_split (flat_map f (take i xs)) (f (get_or xs i x)) (subst (In y) (sym (flat_taken f xs i x lt)) h))
 
 -- images of the same members
 pub same_map : {X Y : Type 0} (f : X → Y) (xs ys : List X) → SameMembers xs ys → SameMembers (map f xs) (map f ys)

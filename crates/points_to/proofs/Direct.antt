@@ -51,7 +51,7 @@ module _ (p : Tables) (H : Place → List Item) where
       ∙ ap (λ l. l ++ picked (word j) (numbered p H word (suc i) ws)) (picked_other j i (elements p H w) (apart j i lt))
       ∙ before ws (suc i) j (omega (arith, lt))
 
-  picked_numbered : (ws : List W.Word) (i n j : ℕ) → j ≡ i + n → picked (word j) (numbered p H word i ws) ≡ elements_if (slice_get ws n)
+  pub picked_numbered : (ws : List W.Word) (i n j : ℕ) → j ≡ i + n → picked (word j) (numbered p H word i ws) ≡ elements_if (slice_get ws n)
   picked_numbered [] i n j e = refl
   picked_numbered (w ∷ ws) i zero j e =
       let same : j ≡ i = omega (arith, e) in
@@ -79,8 +79,10 @@ module _ (p : Tables) (H : Place → List Item) where
   none_fetched zero X e = e
   none_fetched (suc i) X e = ap (flat_map (field_of_tag p i X)) e
 
+  -- word j of items without nodes
+  pub word_of_words : (j : ℕ) (X : List Item) → picked tags X ≡ [] → as_word p j X ≡ picked (word j) X
+  word_of_words j X e = ap (λ l. picked (word j) X ++ l) (none_fetched j X e) ∙ append_nil (picked (word j) X)
+
   -- word j of a vector is what its word j stands for
   pub word_of_vector : (j : ℕ) (ws : List W.Word) → as_word p j (numbered p H word 0 ws) ≡ elements_if (slice_get ws j)
-  word_of_vector j ws =
-      ap (λ l. picked (word j) (numbered p H word 0 ws) ++ l) (none_fetched j (numbered p H word 0 ws) (no_tags ws 0))
-      ∙ append_nil (picked (word j) (numbered p H word 0 ws)) ∙ picked_numbered ws 0 j j (omega arith)
+  word_of_vector j ws = word_of_words j (numbered p H word 0 ws) (no_tags ws 0) ∙ picked_numbered ws 0 j j (omega arith)

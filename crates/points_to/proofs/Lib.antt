@@ -1,4 +1,6 @@
 pub mod GivenItems
+pub mod HeldFacts
+pub mod FieldWords
 pub mod Exact
 pub mod Gets
 pub mod Blocks

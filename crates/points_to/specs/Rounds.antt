@@ -11,6 +11,10 @@ use Rattle.points_to.specs.Held.{In}
 use Rattle.points_to.specs.Asked.{demands}
 use Rattle.points_to.specs.Known.{Within}
 
+-- facts that are known
+abbrev pub AllHeld : (Place → List Item) → List Fact → Type 0
+AllHeld H fs = (f : Fact) → In f fs → In f.item (H f.place)
+
 module _ (p : Tables) (cs : List Inclusion) where
   -- every solution has what is known
   pub record InEvery (H : Place → List Item) : Type 0 where
@@ -18,7 +22,7 @@ module _ (p : Tables) (cs : List Inclusion) where
 
   -- all that the inclusion asks for is known
   abbrev pub Satisfied : (Place → List Item) → Inclusion → Type 0
-  Satisfied H c = (f : Fact) → In f (demands p H c) → In f.item (H f.place)
+  Satisfied H c = AllHeld H (demands p H c)
 
   pub record AllSatisfied (H : Place → List Item) : Type 0 where
     pub by : (i : ℕ) (c : Inclusion) → slice_get cs i ≡ Some c → Satisfied H c

@@ -51,6 +51,8 @@ pub struct Hints {
     met: SetTable,
     linked: SetTable,
     unmet: SetTable,
+    // What an inclusion reads that is noted: one list for all of them.
+    places: Seq<Place>,
 }
 
 impl Hints {
@@ -84,6 +86,7 @@ impl Hints {
             met: SetTable::new(alloc),
             linked: SetTable::new(alloc),
             unmet: SetTable::new(alloc),
+            places: Seq::new(alloc),
         })
     }
 
@@ -127,13 +130,13 @@ impl Hints {
         n: u32,
         inclusion: &Inclusion,
     ) -> Result<(), AllocError> {
-        let mut places = Seq::new(alloc);
-        reads(alloc, system, facts, inclusion, &mut places)?;
-        for place in places.as_slice() {
-            match place {
-                Place::Var(x) => self.woken.put(alloc, *x, n)?,
-                Place::Result(f) => self.woken_by_results.put(alloc, *f, n)?,
-                Place::Site(_) => {}
+        reads(alloc, system, facts, inclusion, &mut self.places)?;
+        for _ in 0..self.places.len() {
+            match self.places.pop() {
+                Some(Place::Var(x)) => self.woken.put(alloc, x, n)?,
+                Some(Place::Result(f)) => self.woken_by_results.put(alloc, f, n)?,
+                Some(Place::Site(_)) => {}
+                None => {}
             }
         }
         Ok(())

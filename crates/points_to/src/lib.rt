@@ -32,6 +32,7 @@ mod reads;
 mod rounds;
 mod row_table;
 mod runs;
+mod satisfied;
 mod span;
 mod state;
 mod stored;

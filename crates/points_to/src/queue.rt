@@ -55,6 +55,9 @@ impl Queue {
     /// Takes the next one.
     pub fn take(&mut self) -> Option<u32> {
         if self.at >= self.turn.len() {
+            if self.next.is_empty() {
+                return None;
+            }
             self.turn = mem::replace(&mut self.next, Vec::new(self.alloc));
             self.at = 0;
         }

@@ -10,6 +10,7 @@ ghost use Rattle.points_to.specs.Rounds.{InEvery, AllSatisfied, Counted};
 use crate::ask::demands;
 use crate::facts::Facts;
 use crate::runs::FactRuns;
+use crate::satisfied::is_satisfied;
 use flow_system::inclusion::{FlowSystem, Inclusion};
 use std::alloc::{AllocError, Global};
 
@@ -46,6 +47,9 @@ pub fn satisfy(
     ensures still { IfOk result (λ added. added ≡ false → facts.new ≡ facts.old) }
     ensures counted { IfOk result (λ added. Counted facts.old facts.new added) }
 {
+    if is_satisfied(system, facts, inclusion) {
+        return Ok(false);
+    }
     let mut asked = FactRuns::new(alloc);
     demands(alloc, system, facts, inclusion, &mut asked)?;
     add_all(alloc, facts, &asked)

@@ -179,9 +179,10 @@ pub struct NotedWords {
     last: Vec<usize>,
 }
 
-// The number of the chain that has word i of the values with these numbers.
+// The number of the chain that has word i of the values with these numbers. Small systems have low
+// ones.
 fn chain_of(numbers: &Bits, i: u32) -> usize {
-    i as usize % 16 * 64 + numbers.blocks.len() % 64
+    numbers.blocks.len() % 64 * 16 + i as usize % 16
 }
 
 fn same_blocks(a: &[(u32, u64)], b: &[(u32, u64)]) -> bool

@@ -6,9 +6,13 @@ ghost use Rattle.register_alloc.specs.Holders.{Held, AreStillUsed, AreEntering, 
 ghost use Rattle.register_alloc.specs.declared.holders.Holder.{Holder};
 
 use crate::either::either;
+use crate::wish::Among;
 use seq::Seq;
 use std::alloc::{AllocError, Global};
 use variable_uses::Uses;
+
+/// The stack's base lasts in x27 where no variable stands there; its number from x8 on.
+const STACK_BASE: usize = 19;
 
 /// A variable that holds a register, and whether it is used after the joins around the block.
 #[derive(Clone, Copy, Debug, PartialEq, Eq)]
@@ -87,32 +91,85 @@ impl Holders {
         Ok(Holders { of })
     }
 
-    /// A free register, the wanted one where it is free, else the first, or the last where the
-    /// variable stays across a call. They are numbered from x8 on.
-    pub fn free(&self, wanted: Option<usize>, stays: bool) -> Option<usize>
+    /// A free register: the first of these wishes that is free, else the last where the variable stays
+    /// across a call, else the first from its place on that isn't one of the other words' among which
+    /// it stands, else the first. They are numbered from x8 on.
+    pub fn free(&self, wishes: &[Option<usize>], stays: bool, among: Among) -> Option<usize>
         ensures { MatchOption result ((r : ℕ) → r < length self.now.of.items → (d : Holder)
             × Held self.now.of.items r d) (λ r. slice_get self.now.of.items r ≡ Some None) }
     {
-        match wanted {
-            Some(register) => {
-                if self.is_free(register) {
-                    Some(register)
-                } else {
-                    self.any_free(stays)
-                }
-            }
-            None => self.any_free(stays),
+        match self.wished(wishes) {
+            Some(register) => Some(register),
+            None => self.any_free(stays, among),
         }
     }
 
-    fn any_free(&self, stays: bool) -> Option<usize>
+    /// The first of these registers that is free.
+    fn wished(&self, wishes: &[Option<usize>]) -> Option<usize>
+        ensures { IfSome result (λ r. slice_get self.now.of.items r ≡ Some None) }
+    {
+        let mut found = None;
+        for wish in wishes {
+            found = self.earlier(found, *wish);
+        }
+        found
+    }
+
+    /// The register that was found before, else the wished one where it is free.
+    fn earlier(&self, found: Option<usize>, wish: Option<usize>) -> Option<usize>
+        ensures { IfSome found (λ r. slice_get self.now.of.items r ≡ Some None)
+            → IfSome result (λ r. slice_get self.now.of.items r ≡ Some None) }
+    {
+        match found {
+            Some(register) => Some(register),
+            None => self.wanted(wish),
+        }
+    }
+
+    /// A wished register, where it is free.
+    fn wanted(&self, wish: Option<usize>) -> Option<usize>
+        ensures { IfSome result (λ r. slice_get self.now.of.items r ≡ Some None) }
+    {
+        match wish {
+            Some(register) => self.if_free(register),
+            None => None,
+        }
+    }
+
+    fn if_free(&self, register: usize) -> Option<usize>
+        ensures { IfSome result (λ r. slice_get self.now.of.items r ≡ Some None) }
+    {
+        if self.is_free(register) {
+            Some(register)
+        } else {
+            None
+        }
+    }
+
+    fn any_free(&self, stays: bool, among: Among) -> Option<usize>
         ensures { MatchOption result ((r : ℕ) → r < length self.now.of.items → (d : Holder)
             × Held self.now.of.items r d) (λ r. slice_get self.now.of.items r ≡ Some None) }
     {
         match self.last_free(stays) {
             Some(register) => Some(register),
-            None => self.first_free(),
+            None => match self.free_from(among) {
+                Some(register) => Some(register),
+                None => self.first_free(),
+            },
         }
+    }
+
+    /// The first free register from a place on that isn't one of the words' themselves.
+    fn free_from(&self, among: Among) -> Option<usize>
+        ensures { IfSome result (λ r. slice_get self.now.of.items r ≡ Some None) }
+    {
+        for place in among.place..self.of.len() {
+            let register = among.beside(place);
+            if self.is_free(register) {
+                return Some(register);
+            }
+        }
+        None
     }
 
     /// The last free register, where it is asked for.
@@ -129,12 +186,14 @@ impl Holders {
         last
     }
 
-    /// This register where it is free, else the one before.
+    /// This register where it is free and isn't the stack base's, else the one before.
     fn later(&self, last: Option<usize>, register: usize) -> Option<usize>
         ensures { IfSome last (λ r. slice_get self.now.of.items r ≡ Some None)
             → IfSome result (λ r. slice_get self.now.of.items r ≡ Some None) }
     {
-        if self.is_free(register) {
+        if register == STACK_BASE {
+            last
+        } else if self.is_free(register) {
             Some(register)
         } else {
             last

@@ -14,7 +14,7 @@ ghost use Rattle.register_alloc.specs.declared.registers.CallSite.{CallSite};
 use crate::hints::Hints;
 use crate::holders::Holders;
 use crate::scan::Scan;
-use crate::wish::{GivenFirst, Wish, where_held};
+use crate::wish::{GivenFirst, Wish, else_where_held, where_held};
 use low_code::{LowArm, LowBlock, LowEnd, LowProc, LowStmt, LowTest, Operand, PrimOp};
 use parallel_move::Spot;
 use seq::Seq;
@@ -159,13 +159,16 @@ impl Registers {
         text: &Text,
         holders: &mut Holders,
         variable: u32,
-        wanted: Option<usize>,
+        wish: Wish,
+        index: usize,
     ) -> Result<(), AllocError>
         ensures { OnOk result (Gives variable self.old holders.old.of.items self.new
             holders.new.of.items) }
     {
-        let hint = text.hints.of(variable, self.at);
-        match holders.free(first_of(wanted, hint.register), hint.stays) {
+        let hint = text.hints.of(variable);
+        let wanted = first_of(wish.at(index), hint.register);
+        let among = hint.among.unwrap_or(wish.among(index));
+        match holders.free(&[wanted, wish.otherwise()], hint.stays, among) {
             Some(register) => {
                 holders.hold(register, variable);
                 self.given.push(Given {
@@ -206,7 +209,7 @@ impl Registers {
         ensures calls { OnOk result (self.new.calls.items ≡ self.old.calls.items) }
     {
         for i in 0..variables.len() {
-            self.give(text, holders, variables[i], wish.at(i))?;
+            self.give(text, holders, variables[i], wish, i)?;
         }
         Ok(())
     }
@@ -300,7 +303,13 @@ impl Registers {
     {
         self.pass(uses_of(left))?;
         self.pass(uses_of(right))?;
-        let next = self.bind(text, holders, end, &[variable], where_held(holders, left))?;
+        let next = self.bind(
+            text,
+            holders,
+            end,
+            &[variable],
+            else_where_held(holders, left),
+        )?;
         Ok(next)
     }
 

@@ -9,6 +9,37 @@ use std::alloc::{AllocError, Global};
 /// Arguments and results stand in x10 and up: its number from x8 on.
 const FIRST_ARGUMENT: usize = 2;
 
+/// A place among so many words that go to registers at once.
+#[derive(Clone, Copy, Debug, PartialEq, Eq)]
+pub struct Among {
+    pub place: usize,
+    pub many: usize,
+}
+
+impl Among {
+    /// Where a variable stands alone.
+    pub fn none() -> Among {
+        Among { place: 0, many: 0 }
+    }
+
+    /// A place behind those of all these words, and of two more.
+    pub fn apart(&self) -> Among {
+        Among {
+            place: self.place.max(FIRST_ARGUMENT),
+            many: self.many.saturating_add(2),
+        }
+    }
+
+    /// A register past those in which the words would stand, where this one isn't before them.
+    pub fn beside(&self, register: usize) -> usize {
+        if register < FIRST_ARGUMENT {
+            register
+        } else {
+            register.saturating_add(self.many)
+        }
+    }
+}
+
 /// The registers, numbered from x8 on, in which variables that are bound at one point would best
 /// stand.
 #[derive(Clone, Copy)]
@@ -17,6 +48,8 @@ pub enum Wish<'a> {
     Any,
     /// The first variable in this register, and each other one in the register that follows.
     From(usize),
+    /// As its later uses wish, and where they wish none or one that is held, in this register.
+    Otherwise(usize),
     /// Each in its own, and where there is none as an argument.
     Each(&'a [Option<usize>]),
 }
@@ -31,8 +64,32 @@ impl<'a> Wish<'a> {
     pub fn at(&self, index: usize) -> Option<usize> {
         match self {
             Wish::Any => None,
+            Wish::Otherwise(_) => None,
             Wish::From(first) => first.checked_add(index),
             Wish::Each(registers) => each_at(registers, index),
+        }
+    }
+
+    /// The register that is wished where later uses have none.
+    pub fn otherwise(&self) -> Option<usize> {
+        match self {
+            Wish::Any => None,
+            Wish::Otherwise(register) => Some(*register),
+            Wish::From(_) => None,
+            Wish::Each(_) => None,
+        }
+    }
+
+    /// The place in a list of which each word has a register of its own.
+    pub fn among(&self, index: usize) -> Among {
+        match self {
+            Wish::Any => Among::none(),
+            Wish::Otherwise(_) => Among::none(),
+            Wish::From(_) => Among::none(),
+            Wish::Each(registers) => Among {
+                place: index,
+                many: registers.len(),
+            },
         }
     }
 
@@ -57,6 +114,14 @@ fn each_at(registers: &[Option<usize>], index: usize) -> Option<usize> {
 pub fn where_held(holders: &Holders, operand: &Operand) -> Wish<'static> {
     match held_by(holders, operand) {
         Some(register) => Wish::From(register),
+        None => Wish::Any,
+    }
+}
+
+/// The same, behind what later uses wish.
+pub fn else_where_held(holders: &Holders, operand: &Operand) -> Wish<'static> {
+    match held_by(holders, operand) {
+        Some(register) => Wish::Otherwise(register),
         None => Wish::Any,
     }
 }

@@ -11,7 +11,7 @@ use Rattle.rv32_steps.specs.Trace.{procedures_at, procedure_from, is_one_of, is_
 use Rattle.rv32_items.specs.declared.Item.{Item}
 use Rattle.rv32_items.specs.declared.Item.TheVariants.{Label, Plain, Branch, Jump}
 use Rattle.rv32_items.specs.Course.{Layout, Point, Turn, Next, Written, Asked, Ended, Trapped, turn, turn_of, to_item, behind, behind_plain, state_at, kind_of, label_from, label_of, address_from, Stopped, onward, course, NeverTrapsOn}
-use Rattle.rv32_items.specs.Placed.{is_instruction, times, target_of, Closes, Climbs, Does, Placed}
+use Rattle.rv32_items.specs.Placed.{is_instruction, is_jump, times, target_of, Closes, Climbs, Does, Placed}
 use Rattle.rv32_items.specs.Told.{is_call, returns, home_by, home_to, ReturnsHome}
 use Rattle.rv32_items.specs.Flows.{is_begin, GoesOn, IsStop, Flows}
 use Rattle.rv32_items.specs.Laws.{HasCode, address_of, addresses_of, ItemsGoForward}
@@ -28,6 +28,12 @@ one_mapped f (x ∷ bs) b h = go (nat_eq b x) refl h (λ r. one_mapped f bs b r)
     go : (t : Bool) → nat_eq b x ≡ t → t || is_one_of bs b ≡ true → (is_one_of bs b ≡ true → is_one_of (map f bs) (f b) ≡ true) → nat_eq (f b) (f x) || is_one_of (map f bs) (f b) ≡ true
     go true e h rest = ap (λ t. t || is_one_of (map f bs) (f b)) (eq-eqb (f b) (f x) (ap f (eqb-true b x e)))
     go false e h rest = or_right (nat_eq (f b) (f x)) (is_one_of (map f bs) (f b)) (rest h)
+
+call_jumps : (i : Item) → is_call (Some i) ≡ true → is_jump i ≡ true
+call_jumps (Label l) h = absurd (true≢false (sym h))
+call_jumps (Plain i) h = absurd (true≢false (sym h))
+call_jumps (Branch c a b l) h = absurd (true≢false (sym h))
+call_jumps (Jump k l) h = refl
 
 -- ---- a step, and what is asked of it
 
@@ -264,7 +270,7 @@ module _ (items : List Item) (words : List ℕ) (placed : Placed items words) (b
             let begin = begin_item (slice_get items q.item) ((way r).1 c) in
             let there = begin_address q.item begin.0 begin.1.0 begin.1.1 in
             let top = below_top items lay placed.rises (suc p.item) (let lt = slice_get_within items p.item i e in omega arith) in
-            let link : plus v.pc 4 ≡ lay.address (suc p.item) = let a = closed.at_end c in omega arith in
+            let link : plus v.pc 4 ≡ lay.address (suc p.item) = let a = closed.at_end (call_jumps i c) in omega arith in
             let rest = forwarded m le input q (suc p.item ∷ calls) g h in
             subst (λ x. forward_by addresses (Then m) input v (map lay.address calls) (state_at lay items q) false x) (sym there)
             (subst (λ a. Forward addresses m input (state_at lay items q) (a ∷ map lay.address calls)) (sym link) rest)

@@ -8,3 +8,4 @@ pub mod Reached
 pub mod Forward
 pub mod Pace
 pub mod Counted
+pub mod LastStep

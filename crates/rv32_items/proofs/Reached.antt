@@ -35,7 +35,7 @@ module _ (items : List Item) (words : List ℕ) (placed : Placed items words) wh
   pub none_behind : (n : ℕ) → is_begin [] (slice_get items n) ≡ true → is_instruction (slice_get items (suc n)) ≡ true
   none_behind n h = absurd (true≢false (sym h ∙ none_begins (slice_get items n)))
 
-  none_fresh : (n : ℕ) → Fresh [] items n
+  pub none_fresh : (n : ℕ) → Fresh [] items n
   none_fresh n q h = none_begins (slice_get items q)
 
   record ReachedAt (n : ℕ) (input : List ℕ) (p : Point) : Type 0 where

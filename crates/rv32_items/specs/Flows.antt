@@ -32,9 +32,10 @@ IsStop _ = ⊥
 -- how items go from one to the next, whatever their layout; `begins` has the label of each
 -- procedure
 pub record Flows (begins : List ℕ) (items : List Item) : Type 0 where
-  -- the first of the items behind all procedures
+  -- the first of the items behind all procedures, which is a label
   pub stops : ℕ
   pub procedures_before : (n : ℕ) → is_begin begins (slice_get items n) ≡ true → n < stops
+  pub first_stop : (l : ℕ) × (slice_get items stops ≡ Some (Label l))
   pub all_stop : (n : ℕ) (i : Item) → stops ≤ n → slice_get items n ≡ Some i → IsStop i
   -- an instruction stands right behind the label of a procedure
   pub instruction_behind : (n : ℕ) → is_begin begins (slice_get items n) ≡ true

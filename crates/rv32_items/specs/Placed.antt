@@ -30,6 +30,10 @@ is_instruction None = false
 is_instruction (Some (Label l)) = false
 is_instruction (Some _) = true
 
+abbrev pub is_jump : Item → Bool
+is_jump (Jump link l) = true
+is_jump _ = false
+
 -- a plain item is neither AUIPC nor a branch nor a jump, but for a return
 abbrev pub IsPlain : Item → Type 0
 IsPlain (Plain (Auipc rd imm)) = ⊥
@@ -84,12 +88,12 @@ pub record Rises (items : List Item) (lay : Layout) : Type 0 where
 
 -- ---- what the words do
 
--- the last instruction of an item: it is a return just where the item is one, and links x1 just
--- where the item is a call, at the item's end
+-- the last instruction of an item: it is a return just where the item is one, links x1 just where
+-- the item is a call, and stands at the item's end where that is a jump
 pub record Closes (i : Item) (end : ℕ) (s : State) : Type 0 where
   pub returning : returns' (instruction_at s) ≡ returns (Some i)
   pub linking : writes_link (instruction_at s) ≡ is_call (Some i)
-  pub at_end : is_call (Some i) ≡ true → s.pc + 4 ≡ end
+  pub at_end : is_jump i ≡ true → s.pc + 4 ≡ end
 
 -- in so many steps that only go on, at rising addresses of which the last is below `end`, from s to
 -- t: none for a label, and at least one for an instruction

@@ -3,7 +3,7 @@
 
 mod laws;
 
-pub use laws::{items_enter, items_go_forward, items_keep_pace, items_show};
+pub use laws::{items_enter, items_go_forward, items_keep_pace, items_leave, items_show};
 use rv32_isa::{Instr, Reg};
 use seq::Seq;
 

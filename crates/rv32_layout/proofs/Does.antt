@@ -19,7 +19,7 @@ use Rattle.rv32_items.specs.declared.Cond.TheVariants.{Eq, Ne, Lt, Ge, Ltu, Geu}
 use Rattle.rv32_items.specs.declared.Item.{Item}
 use Rattle.rv32_items.specs.declared.Item.TheVariants.{Plain, Branch, Jump}
 use Rattle.rv32_items.specs.Course.{kind_of}
-use Rattle.rv32_items.specs.Placed.{IsPlain, Climbs, Closes}
+use Rattle.rv32_items.specs.Placed.{IsPlain, is_jump, Climbs, Closes}
 use Rattle.rv32_items.specs.Told.{is_call, returns}
 use Rattle.rv32_layout.specs.declared.form.Way.{Way}
 use Rattle.rv32_layout.specs.declared.form.Way.TheVariants.{ByBranch, ByJump, ByAddress}
@@ -94,7 +94,7 @@ pub record Goes (i : Item) (most end : ℕ) (s t : State) : Type 0 where
   pub climbs : Climbs i steps end s t
 
 -- the last instruction of an item, by what is read
-pub closes : (i : Item) (j : Instr) (end : ℕ) (s : State) → instruction_at s ≡ Some j → is_return j ≡ returns (Some i) → writes_link (Some j) ≡ is_call (Some i) → (is_call (Some i) ≡ true → s.pc + 4 ≡ end) → Closes i end s
+pub closes : (i : Item) (j : Instr) (end : ℕ) (s : State) → instruction_at s ≡ Some j → is_return j ≡ returns (Some i) → writes_link (Some j) ≡ is_call (Some i) → (is_jump i ≡ true → s.pc + 4 ≡ end) → Closes i end s
 closes i j end s e r l last = record { returning = ap returns' e ∙ r; linking = ap writes_link e ∙ l; at_end = last }
 
 -- a jump by an address that is no return
@@ -124,14 +124,14 @@ module _ (c : Stretch) (rest : List Stretch) where
       ap (λ v. plus v (pattern low) / 2 * 2) read ∙ distance_lands from to hf ht in
       let four : address to % 4 ≡ 0 = omega arith in
       let second = jalr c (pc + 4) (set_reg regs through half) rest link through (address to) low has.1.0.holds lands four in
-      let closed = closes i (Jalr link through low) end (here (set_reg regs through half) (pc + 4)) (has.1.0.reads (set_reg regs through half) rest) (jump_is_no_return link through low apart ∙ sym still) links (λ call. last) in
+      let closed = closes i (Jalr link through low) end (here (set_reg regs through half) (pc + 4)) (has.1.0.reads (set_reg regs through half) rest) (jump_is_no_return link through low apart ∙ sym still) links (λ jump. last) in
       (here (set_reg regs through half) (pc + 4), (omega arith, (first, (ap returns' (has.0.reads regs rest), (omega arith, (second, closed))))))
 
   -- a branch that is taken
   pub branch_taken : (w : Way) (at to next : ℕ) (cond : Cond) (left right l : ℕ) (regs : ℕ → ℕ) → at ≤ 268435456 → to ≤ 268435456 → next ≡ at + branch_width w → HasAll c (address at) (branch_code w at to cond left right) → is_taken (kind_of cond) (value regs left) (value regs right) ≡ true → Goes (Branch cond left right l) 3 (address next) (here regs (address at)) (here (branch_far w at to regs) (address to))
   branch_taken ByBranch at to next cond left right l regs ha ht e has test =
       let four : address to % 4 ≡ 0 = omega arith in
-      let closed = closes (Branch cond left right l) (Branch' (kind_of cond) left right (offset at to)) (address next) (here regs (address at)) (has.0.reads regs rest) refl refl (λ call. cc) in
+      let closed = closes (Branch cond left right l) (Branch' (kind_of cond) left right (offset at to)) (address next) (here regs (address at)) (has.0.reads regs rest) refl refl (λ jump. cc) in
       record {
         steps = 1;
         few = omega arith;
@@ -145,7 +145,7 @@ module _ (c : Stretch) (rest : List Stretch) where
       let link : address at + 4 + 4 ≡ address (at + 2) = omega arith in
       let lands : plus (address at + 4) (pattern (offset (at + 1) to)) ≡ address to = ap (λ p. plus p (pattern (offset (at + 1) to))) word ∙ offset_lands (at + 1) to (omega arith) ht in
       let second = jal c (address at + 4) regs rest 0 (offset (at + 1) to) (address to) has.1.0.holds lands four in
-      let closed = closes (Branch cond left right l) (Jal 0 (offset (at + 1) to)) (address next) (here regs (address at + 4)) (has.1.0.reads regs rest) refl refl (λ call. cc) in
+      let closed = closes (Branch cond left right l) (Jal 0 (offset (at + 1) to)) (address next) (here regs (address at + 4)) (has.1.0.reads regs rest) refl refl (λ jump. cc) in
       record {
         steps = 2;
         few = omega arith;
@@ -169,7 +169,7 @@ module _ (c : Stretch) (rest : List Stretch) where
   pub branch_stays : (w : Way) (at to next : ℕ) (cond : Cond) (left right l : ℕ) (regs : ℕ → ℕ) → at ≤ 268435456 → next ≡ at + branch_width w → HasAll c (address at) (branch_code w at to cond left right) → is_taken (kind_of cond) (value regs left) (value regs right) ≡ false → Goes (Branch cond left right l) 1 (address next) (here regs (address at)) (here regs (address next))
   branch_stays ByBranch at to next cond left right l regs ha e has test =
       let behind : address at + 4 ≡ address next = omega arith in
-      let closed = closes (Branch cond left right l) (Branch' (kind_of cond) left right (offset at to)) (address next) (here regs (address at)) (has.0.reads regs rest) refl refl (λ call. cc) in
+      let closed = closes (Branch cond left right l) (Branch' (kind_of cond) left right (offset at to)) (address next) (here regs (address at)) (has.0.reads regs rest) refl refl (λ jump. cc) in
       record {
         steps = 1;
         few = omega arith;
@@ -179,7 +179,7 @@ module _ (c : Stretch) (rest : List Stretch) where
       let goes : is_taken (kind_of (opposite cond)) (value regs left) (value regs right) ≡ true = turned cond _ _ ∙ ap not test in
       let four : address next % 4 ≡ 0 = omega arith in
       let lands : plus (address at) 8 ≡ address next = omega arith in
-      let closed = closes (Branch cond left right l) (Branch' (kind_of (opposite cond)) left right (pos 8)) (address next) (here regs (address at)) (has.0.reads regs rest) refl refl (λ call. cc) in
+      let closed = closes (Branch cond left right l) (Branch' (kind_of (opposite cond)) left right (pos 8)) (address next) (here regs (address at)) (has.0.reads regs rest) refl refl (λ jump. cc) in
       record {
         steps = 1;
         few = omega arith;
@@ -189,7 +189,7 @@ module _ (c : Stretch) (rest : List Stretch) where
       let goes : is_taken (kind_of (opposite cond)) (value regs left) (value regs right) ≡ true = turned cond _ _ ∙ ap not test in
       let four : address next % 4 ≡ 0 = omega arith in
       let lands : plus (address at) 12 ≡ address next = omega arith in
-      let closed = closes (Branch cond left right l) (Branch' (kind_of (opposite cond)) left right (pos 12)) (address next) (here regs (address at)) (has.0.reads regs rest) refl refl (λ call. cc) in
+      let closed = closes (Branch cond left right l) (Branch' (kind_of (opposite cond)) left right (pos 12)) (address next) (here regs (address at)) (has.0.reads regs rest) refl refl (λ jump. cc) in
       record {
         steps = 1;
         few = omega arith;
@@ -200,7 +200,7 @@ module _ (c : Stretch) (rest : List Stretch) where
   jump_near at to next link l regs ha ht e has =
       let four : address to % 4 ≡ 0 = omega arith in
       let behind : address at + 4 ≡ address next = omega arith in
-      let closed = closes (Jump link l) (Jal link (offset at to)) (address next) (here regs (address at)) (has.0.reads regs rest) refl refl (λ call. behind) in
+      let closed = closes (Jump link l) (Jal link (offset at to)) (address next) (here regs (address at)) (has.0.reads regs rest) refl refl (λ jump. behind) in
       record {
         steps = 1;
         few = omega arith;

@@ -132,7 +132,7 @@ module _ (ways : List Way) (items : List Item) (words : List ℕ) (few : size_of
     -- a plain instruction closes its item
     plain_closes : (n : ℕ) (i : Instr) → IsPlain (Plain i) → Has seg (address (place ways items n)) i → Closes (Plain i) (address (place ways items (suc n))) (before n)
     plain_closes n i plain has =
-        closes (Plain i) i (address (place ways items (suc n))) (before n) (has.reads regs rest) refl (plain_links_nothing i plain) (λ call. cc)
+        closes (Plain i) i (address (place ways items (suc n))) (before n) (has.reads regs rest) refl (plain_links_nothing i plain) (λ jump. cc)
 
     does_outcome : (n : ℕ) (i : Instr) → Closes (Plain i) (address (place ways items (suc n))) (before n) → (o : Outcome) → step (before n) ≡ o → Behind (plus (address (place ways items n)) 4) o → place ways items (suc n) ≡ place ways items n + 1 → Done 1 n (Plain i) (before n) (behind_plain lay items (point n) o)
     does_outcome n i closed (Next' t) e b w =

@@ -22,7 +22,7 @@ use Rattle.rv32_select.specs.Emit.{leave_code, result_spots}
 use Rattle.rv32_select.specs.IsSelected.{sources}
 use Rattle.low_code.specs.Literals.{AreSmall}
 use Rattle.rv32_select.proofs.Courses.{Stands}
-use Rattle.rv32_select.proofs.Straight.{Data, with_reg, Good, good_reg, Does, does_on, does_load_stack}
+use Rattle.rv32_select.proofs.Straight.{Data, with_reg, Good, good_reg, Does, does_on, does_load_stack, at}
 use Rattle.rv32_select.proofs.NumberParts.{does_add}
 use Rattle.rv32_select.proofs.JumpStretches.{jumped, links, there_less, address_small}
 use Rattle.rv32_select.proofs.FrameViews.{spots, InFrame}
@@ -32,9 +32,10 @@ use Rattle.rv32_select.proofs.Relation.{bases, regs_of, word_of, AllHold, HoldsC
 use Rattle.rv32_select.proofs.PlaceFacts.{IsOwn, ProcedureFine, Setting}
 use Rattle.rv32_select.proofs.BlockFacts.{Block, Simulates}
 use Rattle.rv32_select.proofs.OneBound.{operand_read}
-use Rattle.rv32_select.proofs.Stops.{good_far, no_alternative_stop}
+use Rattle.rv32_select.proofs.Leaves.{Remains, leaves_now}
+use Rattle.rv32_select.proofs.Stops.{good_far, no_alternative_stop, no_alternative_remains}
 use Rattle.seq.specs.Lists.{is_among}
-use Rattle.rv32_machine.proofs.Registers.{set_there}
+use Rattle.rv32_machine.proofs.Registers.{set_there, set_here}
 use Rattle.seq.proofs.Counted.{among_left, among_right}
 
 -- each operand is read as its word
@@ -163,7 +164,11 @@ module _ (l : Program) (a : Assignment) (cells stack : ℕ) (lay : Layout) (item
       let here : slice_get items p ≡ Some (Jump 5 (length l.procs)) = (subst (λ x. Stands items p x) b.emits.1 b.stands).0 in
       let step = links (bases stack) lay items p stop.place 5 (length l.procs) d w.input (m ∷ outer) refl here stop.found in
       let ran = quiet lay items begins w w step refl refl refl refl refl in
-      ends_on lay items begins ran (stop.ends (jumped (bases stack) lay items p 5 d) (m ∷ outer) w (good_jumped l a cells stack lay items begins s p 5 (Jump 5 (length l.procs)) d here b.stood.world.good))
+      let good = good_jumped l a cells stack lay items begins s p 5 (Jump 5 (length l.procs)) d here b.stood.world.good in
+      let to = jumped (bases stack) lay items p 5 d in
+      let five : to.regs 5 ≡ lay.address (suc p) = s.rises.far_keeps p 5 (set_reg d.regs 5 (lay.address (suc p))) (omega arith) (omega arith) ∙ set_here d.regs 5 (lay.address (suc p)) in
+      let remains = subst (λ x. Remains lay items s.stops_at x w.input (at (bases stack) lay items stop.place to)) five (no_alternative_remains l a cells stack lay items begins s to w.input good) in
+      (ends_on lay items begins ran (stop.ends to (m ∷ outer) w good), leaves_now lay items s.stops_at (length l.procs) here s.last step remains)
 
   -- the operands of a statement are read as their words
   pub record OperandsRead (os : List Operand) (vs : List Word) (d : Data) : Type 0 where

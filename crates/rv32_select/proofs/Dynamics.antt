@@ -1,5 +1,5 @@
 -- What the courses of selected items are, where none of the program's runs is missing: they follow its runs, arrive where those do,
--- and each return goes home.
+-- each return goes home, and where no alternative was found they leave by the jump there.
 use Rattle.std.proofs.Common.{◌≡◌, ◌≢◌, ℕ, ◌+◌, List, [], length, Some, sym, ap, ◌∙◌, subst, refl}
 use Rattle.headline.specs.Carries.{IsBytes}
 use Rattle.low_code.specs.Tree.{Program}
@@ -10,15 +10,16 @@ use Rattle.low_code.proofs.MoreUnits.{one_entry_a_unit}
 use Rattle.register_alloc.specs.Assignment.{Assignment, words_at}
 use Rattle.rv32_steps.specs.Trace.{procedures_at}
 use Rattle.rv32_items.specs.declared.Item.{Item}
-use Rattle.rv32_items.specs.Course.{Layout, Point, course}
+use Rattle.rv32_items.specs.Course.{Layout, Point, Exited, course}
 use Rattle.rv32_items.specs.Told.{ReturnsHome}
-use Rattle.rv32_select.specs.Selects.{start_at, Follows, Arrives}
+use Rattle.rv32_select.specs.Selects.{start_at, Finishes, Follows, Arrives}
 use Rattle.rv32_select.proofs.Straight.{at}
+use Rattle.rv32_select.proofs.Leaves.{Leaves}
 use Rattle.rv32_select.proofs.Relation.{bases}
 use Rattle.rv32_select.proofs.PlaceFacts.{Setting}
 use Rattle.rv32_select.proofs.StartUp.{start_data, starts_at}
 use Rattle.rv32_select.proofs.WholeRun.{Started, whole_run}
-use Rattle.rv32_select.proofs.Outcomes.{IsStart, follows, arrives, home}
+use Rattle.rv32_select.proofs.Outcomes.{IsStart, follows, arrives, home, leaves}
 
 module _ (l : Program) (a : Assignment) (cells stack : ℕ) (lay : Layout) (items : List Item) (begins : List ℕ) (s : Setting l a cells stack lay items begins) (z : Started l a cells stack items) (whole : NeverMissing l) where
   -- no run with limits is missing
@@ -63,3 +64,14 @@ module _ (l : Program) (a : Assignment) (cells stack : ℕ) (lay : Layout) (item
   selected_home i bytes k =
       subst (λ p. ReturnsHome lay items k i p []) from_is
       (home lay items begins i from (start_world l (words_at a) i k) (starting i k) k (limited l (words_at a) cells stack i k) (whole_run l a cells stack lay items begins s z i k bytes (never i k bytes)) (counted i k))
+
+  -- a course that has come to exit 3 has left by the jump where no alternative was found
+  pub selected_leaves : (i : List ℕ) → IsBytes i → (k : ℕ) → (course lay items k i (start_at l.width cells stack lay)).end ≡ Exited 3 → Leaves lay items i (start_at l.width cells stack lay)
+  selected_leaves i bytes k exited =
+      let begin = start_at l.width cells stack lay in
+      let n = length (procedures_at begins (course lay items k i begin).passed) in
+      let x = limited l (words_at a) cells stack i n in
+      let f = selected_follows i bytes k in
+      let exit = (subst (λ e. Finishes i x (course lay items k i begin) e) exited f.finish).0 in
+      subst (λ p. Leaves lay items i p) from_is
+      (leaves lay items begins i from (start_world l (words_at a) i n) (starting i n) x (whole_run l a cells stack lay items begins s z i n bytes (never i n bytes)) exit)

@@ -1,5 +1,7 @@
 pub mod Plain
 pub mod Courses
+pub mod Fronts
+pub mod Leaves
 pub mod Straight
 pub mod JumpStretches
 pub mod Linked
@@ -38,7 +40,6 @@ pub mod SearchStatement
 pub mod MachineCalls
 pub mod ByteStatements
 pub mod Simulation
-pub mod Fronts
 pub mod Outcomes
 pub mod StartUp
 pub mod WholeRun

@@ -13,6 +13,7 @@ use Rattle.rv32_items.specs.Told.{ReturnsHome}
 use Rattle.rv32_select.specs.Selects.{exit_of, SameEnd, Finishes, Follows, Matches, Arrives}
 use Rattle.rv32_select.proofs.Courses.{course_more, course_none}
 use Rattle.rv32_select.proofs.Fronts.{IsFront, front_itself, passed_few, course_front, home_front}
+use Rattle.rv32_select.proofs.Leaves.{Leaves}
 use Rattle.rv32_select.proofs.Relation.{Ran, Ends, Waits}
 use Rattle.rv32_machine.proofs.Composed.{end_append}
 
@@ -41,7 +42,7 @@ module _ (lay : Layout) (items : List Item) (begins input : List ℕ) (p : Point
   -- the machine does from p what a run does that ends so
   abbrev pub Outcome : World → Answer → Type 0
   Outcome w0 (gives vs w) = Ends lay items begins p [] w0 w 0
-  Outcome w0 (stops no_alternative w) = Ends lay items begins p [] w0 w 3
+  Outcome w0 (stops no_alternative w) = Ends lay items begins p [] w0 w 3 × Leaves lay items w0.input p
   Outcome w0 (stops heap_full w) = Ends lay items begins p [] w0 w 4
   Outcome w0 (stops stack_full w) = Ends lay items begins p [] w0 w 5
   Outcome w0 (stops out_of_units w) = (q : Point) × ((calls : List ℕ) × (Ran lay items begins p [] w0 q calls w × Waits lay items begins q w))
@@ -88,7 +89,7 @@ module _ (lay : Layout) (items : List Item) (begins input : List ℕ) (p : Point
 
     pub arrives : (x : Answer) → Outcome w0 x → (k : ℕ) × Arrives begins input x (course lay items k input p)
     arrives (gives vs w) e = (e.count + 0, arrives_exit w 0 e (gives vs w) refl refl)
-    arrives (stops no_alternative w) e = (e.count + 0, arrives_exit w 3 e (stops no_alternative w) refl refl)
+    arrives (stops no_alternative w) e = (e.0.count + 0, arrives_exit w 3 e.0 (stops no_alternative w) refl refl)
     arrives (stops heap_full w) e = (e.count + 0, arrives_exit w 4 e (stops heap_full w) refl refl)
     arrives (stops stack_full w) e = (e.count + 0, arrives_exit w 5 e (stops stack_full w) refl refl)
     arrives (stops out_of_units w) h =
@@ -190,7 +191,7 @@ module _ (lay : Layout) (items : List Item) (begins input : List ℕ) (p : Point
 
     pub follows : (k : ℕ) (x : Answer) → Outcome w0 x → length (world_of x).entered + (world_of x).left ≡ length (procedures_at begins (course lay items k input p).passed) → Follows begins input x (course lay items k input p)
     follows k (gives vs w) e count = follows_exit w 0 k e (gives vs w) refl refl (omega arith)
-    follows k (stops no_alternative w) e count = follows_exit w 3 k e (stops no_alternative w) refl refl (omega arith)
+    follows k (stops no_alternative w) e count = follows_exit w 3 k e.0 (stops no_alternative w) refl refl (omega arith)
     follows k (stops heap_full w) e count = follows_exit w 4 k e (stops heap_full w) refl refl (omega arith)
     follows k (stops stack_full w) e count = follows_exit w 5 k e (stops stack_full w) refl refl (omega arith)
     follows k (stops out_of_units w) h count = let none = h.1.1.1.spent in follows_waits w k h.0 h.1.0 h.1.1.0 h.1.1.1 (omega arith)
@@ -210,7 +211,7 @@ module _ (lay : Layout) (items : List Item) (begins input : List ℕ) (p : Point
     -- with k units
     pub home : (k : ℕ) (x : Answer) → Outcome w0 x → length (world_of x).entered + (world_of x).left ≡ k → ReturnsHome lay items k input p []
     home k (gives vs w) e count = home_exit w 0 k e
-    home k (stops no_alternative w) e count = home_exit w 3 k e
+    home k (stops no_alternative w) e count = home_exit w 3 k e.0
     home k (stops heap_full w) e count = home_exit w 4 k e
     home k (stops stack_full w) e count = home_exit w 5 k e
     home k (stops out_of_units w) h count =
@@ -226,3 +227,14 @@ module _ (lay : Layout) (items : List Item) (begins input : List ℕ) (p : Point
         let d : k + (r.count - k) ≡ r.count = omega arith in
         home_front lay items k (r.count - k) input p [] (subst (λ n. ReturnsHome lay items n input p []) (sym d) whole)
     home k (stops missing w) e count = absurd e
+
+    -- ---- leaving
+
+    -- where a run ends with exit 3
+    pub leaves : (x : Answer) → Outcome w0 x → exit_of (end_of x) ≡ Some 3 → Leaves lay items input p
+    leaves (gives vs w) e exit = absurd (cc)
+    leaves (stops no_alternative w) e exit = subst (λ i. Leaves lay items i p) start.input_is e.1
+    leaves (stops heap_full w) e exit = absurd (cc)
+    leaves (stops stack_full w) e exit = absurd (cc)
+    leaves (stops out_of_units w) e exit = absurd (cc)
+    leaves (stops missing w) e exit = absurd e

@@ -20,6 +20,7 @@ use Rattle.rv32_select.specs.declared.source.Way.{Way}
 use Rattle.rv32_select.specs.declared.source.Way.TheVariants.{Returns, Follows, Jumps}
 use Rattle.rv32_select.specs.IsSelected.{heap_base, stack_end, all_keep, is_lasting}
 use Rattle.rv32_select.proofs.Courses.{Goes, Exits, goes, exits}
+use Rattle.rv32_select.proofs.Leaves.{Leaves, leaves_on}
 use Rattle.rv32_select.proofs.Straight.{Data, Good, at}
 use Rattle.rv32_select.proofs.FrameViews.{spots, InFrame}
 use Rattle.seq.specs.Lists.{is_among}
@@ -169,7 +170,7 @@ module _ (lay : Layout) (items : List Item) (begins : List ℕ) where
   -- what the machine does from p for a run from w that ends so; where the run gives words, this is to hold
   abbrev pub Does' : (Given : List Word → World → Point → List ℕ → Type 0) → Point → List ℕ → World → Answer → Type 0
   Does' Given p calls w (gives vs w') = (q : Point) × ((calls' : List ℕ) × (Ran p calls w q calls' w' × Given vs w' q calls'))
-  Does' Given p calls w (stops no_alternative w') = Ends p calls w w' 3
+  Does' Given p calls w (stops no_alternative w') = Ends p calls w w' 3 × Leaves lay items w.input p
   Does' Given p calls w (stops heap_full w') = Ends p calls w w' 4
   Does' Given p calls w (stops stack_full w') = Ends p calls w w' 5
   Does' Given p calls w (stops out_of_units w') = (q : Point) × ((calls' : List ℕ) × (Ran p calls w q calls' w' × Waits q w'))
@@ -209,7 +210,7 @@ module _ (lay : Layout) (items : List Item) (begins : List ℕ) where
   -- a stretch first
   pub does_after : (Given : List Word → World → Point → List ℕ → Type 0) {p q : Point} {c d : List ℕ} {w v : World} (x : Answer) → Ran p c w q d v → Does' Given q d v x → Does' Given p c w x
   does_after Given (gives vs w') h k = (k.0, (k.1.0, (ran_on h k.1.1.0, k.1.1.1)))
-  does_after Given (stops no_alternative w') h k = ends_on h k
+  does_after Given (stops no_alternative w') h k = (ends_on h k.0, leaves_on lay items h.way k.1)
   does_after Given (stops heap_full w') h k = ends_on h k
   does_after Given (stops stack_full w') h k = ends_on h k
   does_after Given (stops out_of_units w') h k = (k.0, (k.1.0, (ran_on h k.1.1.0, k.1.1.1)))

@@ -1,22 +1,23 @@
--- Selected items do what low code does, whatever their layout: their courses follow its runs and arrive where those do, and each
--- return goes home.
-use Rattle.std.proofs.Common.{ℕ, List, [], length, refl}
+-- Selected items do what low code does, whatever their layout: their courses follow its runs and arrive where those do, each return
+-- goes home, and where no alternative was found a course leaves by the jump there.
+use Rattle.std.proofs.Common.{◌≡◌, ℕ, List, [], length, refl}
 use Rattle.headline.specs.Carries.{IsBytes}
 use Rattle.rv32_steps.specs.Trace.{procedures_at}
 use Rattle.low_code.specs.Tree.{Program}
 use Rattle.low_code.specs.Run.{limited, NeverMissing}
 use Rattle.register_alloc.specs.Assignment.{Assignment, words_at}
 use Rattle.rv32_items.specs.declared.Item.{Item}
-use Rattle.rv32_items.specs.Course.{Layout, course}
+use Rattle.rv32_items.specs.Course.{Layout, Exited, course}
 use Rattle.rv32_items.specs.Placed.{Rises}
 use Rattle.rv32_items.specs.Told.{ReturnsHome}
 use Rattle.rv32_select.specs.IsSelected.{IsSelected}
 use Rattle.rv32_select.specs.Laws.{SelectedItemsDo}
 use Rattle.rv32_select.specs.Selectable.{Selectable}
 use Rattle.rv32_select.specs.Selects.{BelowHeap, start_at, Follows, Arrives}
+use Rattle.rv32_select.proofs.Leaves.{Leaves, leaves_by}
 use Rattle.rv32_select.proofs.PlaceFacts.{Setting}
 use Rattle.rv32_select.proofs.WholeRun.{Started}
-use Rattle.rv32_select.proofs.Dynamics.{selected_follows, selected_arrives, selected_home}
+use Rattle.rv32_select.proofs.Dynamics.{selected_follows, selected_arrives, selected_home, selected_leaves}
 use Rattle.rv32_select.proofs.SelectedSetting.{selected_setting, selected_start}
 use Rattle.rv32_select.proofs.Statics.{begins, selected_statics}
 
@@ -29,6 +30,8 @@ pub record SelectedRuns (l : Program) (a : Assignment) (cells stack : ℕ) (item
       (k : ℕ) × Arrives begins i (limited l (words_at a) cells stack i n) (course lay items k i (start_at l.width cells stack lay))
   pub home : (lay : Layout) → Rises items lay → BelowHeap lay → (i : List ℕ) → IsBytes i → (k : ℕ) →
       ReturnsHome lay items k i (start_at l.width cells stack lay) []
+  pub leaves : (lay : Layout) → Rises items lay → BelowHeap lay → (i : List ℕ) → IsBytes i → (k : ℕ)
+      → (course lay items k i (start_at l.width cells stack lay)).end ≡ Exited 3 → Leaves lay items i (start_at l.width cells stack lay)
 
 module _ (l : Program) (a : Assignment) (cells stack : ℕ) (items : List Item) (fine : Selectable l a cells stack) (s : IsSelected l a cells stack items) where
   setting : (lay : Layout) → Rises items lay → BelowHeap lay → Setting l a cells stack lay items (begins (length l.procs))
@@ -42,6 +45,7 @@ module _ (l : Program) (a : Assignment) (cells stack : ℕ) (items : List Item) 
     follows = λ lay rises below i bytes k. selected_follows l a cells stack lay items (begins (length l.procs)) (setting lay rises below) started there i bytes k;
     arrives = λ lay rises below i bytes n. selected_arrives l a cells stack lay items (begins (length l.procs)) (setting lay rises below) started there i bytes n;
     home = λ lay rises below i bytes k. selected_home l a cells stack lay items (begins (length l.procs)) (setting lay rises below) started there i bytes k;
+    leaves = λ lay rises below i bytes k exited. selected_leaves l a cells stack lay items (begins (length l.procs)) (setting lay rises below) started there i bytes k exited;
   }
 
 pub selected_items_do : SelectedItemsDo
@@ -58,8 +62,10 @@ selected_items_do l a cells stack items fine there s =
       labels = still.labels;
       some_item = still.some_item;
       flows = still.flows;
+      nine_stop = still.nine_stop;
       few = still.few;
       follows = runs.follows;
       arrives = runs.arrives;
       home = runs.home;
+      leaves = λ lay rises below i bytes k exited. leaves_by lay items still.flows.stops 3 k i (start_at l.width cells stack lay) still.last still.flows.all_stop exited (runs.leaves lay rises below i bytes k exited);
     }

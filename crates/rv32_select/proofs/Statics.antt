@@ -1,8 +1,9 @@
 -- What is known of selected items before they run: they are plain, labels stand once, and the items flow and are few.
-use Rattle.std.proofs.Common.{◌≡◌, ℕ, zero, suc, ◌+◌, ◌-◌, ◌*◌, ◌<◌, ◌≤◌, Bool, true, false, List, [], ◌∷◌, ◌++◌, length, Some, None, Option, ◌⊎◌, inl, inr, refl, sym, ap, ◌∙◌, subst, arith}
+use Rattle.std.proofs.Common.{◌≡◌, ℕ, zero, suc, ◌+◌, ◌-◌, ◌*◌, ◌<◌, ◌≤◌, Bool, true, false, List, [], ◌∷◌, ◌++◌, length, drop, Some, None, Option, ◌⊎◌, inl, inr, refl, sym, ap, ◌∙◌, subst, arith, length-append}
 use Rattle.std.specs.Prelude.{slice_get, nat_eq, nat_lt, ◌||◌, if◌then◌else◌}
 use Rattle.std.specs.List.{range_with_len}
 use Rattle.std.proofs.lemmas.Bool.{cases_lt, false≢true}
+use Rattle.std.proofs.Math.Seq.{drop-append_seam}
 use Rattle.std.proofs.lemmas.List.FromFn.{length-range_with_len}
 use Rattle.std.proofs.lemmas.Bool.Decides.{nat_tests}
 use Rattle.std.proofs.lemmas.Option.{same_Some}
@@ -315,6 +316,7 @@ module _ (l : Program) (a : Assignment) (cells stack : ℕ) where
     flows = record {
       stops = front;
       procedures_before = begins_before;
+      first_stop = (procs, at_stops front (omega arith) ∙ ap (slice_get stop) (let e : front - front ≡ 0 = omega arith in e));
       all_stop = all_stops;
       instruction_behind = λ n h. behind_begin n (slice_get items n) refl h;
       goes_on = goes_on;
@@ -330,9 +332,12 @@ pub record SelectedStatics (l : Program) (items : List Item) : Type 0 where
   pub labels : LabelsStand items
   pub some_item : (n : ℕ) × (is_instruction (slice_get items n) ≡ true)
   pub flows : Flows (begins (length l.procs)) items
+  pub last : length items ≡ flows.stops + 12
+  pub nine_stop : size_of (drop flows.stops items) ≡ 9
   pub few : AtMostTwoTests l → size_of items ≤ 64 * (length l.procs + length l.globals + 1) + 8 * low_all l + 256 * calls_of l
 
 pub selected_statics : (l : Program) (a : Assignment) (cells stack : ℕ) (items : List Item) → Selectable l a cells stack → IsSelected l a cells stack items → SelectedStatics l items
+unfolding flows
 selected_statics l a cells stack items s is =
     let w = whole l a cells stack items (can_write l a cells stack s).0 is in
     record {
@@ -343,6 +348,8 @@ selected_statics l a cells stack items s is =
       labels = labels_stand l a cells stack items w;
       some_item = (0, w.first);
       flows = flows l a cells stack items w;
+      last = ap length w.is ∙ length-append w.front (stop l a cells stack);
+      nine_stop = ap (λ is. size_of (drop (length w.front) is)) w.is ∙ ap size_of (drop-append_seam w.front (stop l a cells stack));
       few = w.size;
     }
 

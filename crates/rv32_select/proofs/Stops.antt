@@ -20,7 +20,8 @@ use Rattle.register_alloc.specs.Assignment.{Assignment}
 use Rattle.rv32_items.specs.Placed.{Rises}
 use Rattle.rv32_select.specs.Emit.{plain, add_to, room_items, raise_items, exit_with}
 use Rattle.rv32_select.proofs.Courses.{Stands, front, back, Goes, Exits, one_ended}
-use Rattle.rv32_select.proofs.Straight.{Data, with_reg, Good, does_on, does_imm, at}
+use Rattle.rv32_select.proofs.Leaves.{Remains, remains_on, remains_exit}
+use Rattle.rv32_select.proofs.Straight.{Data, with_reg, Good, does_on, does_imm, at, block}
 use Rattle.rv32_select.proofs.JumpStretches.{with_regs, passes, branches, goes_on}
 use Rattle.rv32_select.proofs.NumberParts.{does_add}
 use Rattle.rv32_select.proofs.FrameViews.{Kept, kept_reg, kept_on}
@@ -99,6 +100,25 @@ module _ (l : Program) (a : Assignment) (cells stack : ℕ) (lay : Layout) (item
     found = s.once s.stops_at (length l.procs) first_stop.0;
     ends = λ d calls w g. stop_exits 3 (length l.procs) s.stops_at d calls w (omega arith) (omega arith) first_stop g;
   }
+
+  -- until the exit without an alternative x5 stays as it is
+  pub no_alternative_remains : (d : Data) (input : List ℕ) → Good lay.code (bases stack) d → Remains lay items s.stops_at (d.regs 5) input (at (bases stack) lay items no_alternative_stop.place d)
+  unfolding no_alternative_stop
+  no_alternative_remains d input g =
+      let t = suc s.stops_at in
+      let five = d.regs 5 in
+      let first = does_imm lay.code (bases stack) Addi 10 0 (pos 3) 3 d g (let e : plus 0 3 ≡ 3 = omega arith in e) (omega arith) in
+      let one = with_reg d 10 3 in
+      let second = does_imm lay.code (bases stack) Addi 17 0 (pos 93) 93 one first.good refl (omega arith) in
+      let two = with_reg one 17 93 in
+      let next : suc t ≡ t + 1 = omega arith in
+      let third : suc (suc t) ≡ t + 1 + 1 = omega arith in
+      let to_call : slice_get items (t + 1) ≡ Some (Plain (OpImm Addi 17 0 (pos 93))) = subst (λ x. slice_get items x ≡ Some (Plain (OpImm Addi 17 0 (pos 93)))) next first_stop.1.1.0 in
+      let call : slice_get items (t + 1 + 1) ≡ Some (Plain Ecall) = subst (λ x. slice_get items x ≡ Some (Plain Ecall)) third first_stop.1.1.1.0 in
+      remains_on lay items s.stops_at five (omega arith) refl (passes (bases stack) lay items s.stops_at (length l.procs) d input [] first_stop.0)
+      (remains_on lay items s.stops_at five (omega arith) refl (block (bases stack) lay items t input [] g first (first_stop.1.0, tt))
+      (remains_on lay items s.stops_at five (omega arith) refl (block (bases stack) lay items (t + 1) input [] first.good second (to_call, tt))
+      (remains_exit lay items s.stops_at five (omega arith) refl (exit_call (bases stack) lay items (t + 1 + 1) 3 two input [] call refl refl))))
 
   pub heap_full_stop : StopAt (1 + length l.procs) 4
   heap_full_stop = record {

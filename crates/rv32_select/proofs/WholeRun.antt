@@ -23,6 +23,7 @@ use Rattle.rv32_select.specs.Emit.{plain, load_constant, room_items, globals_cod
 use Rattle.rv32_select.specs.IsSelected.{heap_base, stack_end, sources, start_argument, is_lasting}
 use Rattle.low_code.specs.Literals.{TagsSmall}
 use Rattle.rv32_select.proofs.Courses.{Stands, front, back}
+use Rattle.rv32_select.proofs.Leaves.{leaves_on}
 use Rattle.rv32_select.proofs.Straight.{Data, words, with_reg, Good, Does, does_nothing, does_on, at}
 use Rattle.rv32_select.proofs.NumberParts.{does_number}
 use Rattle.rv32_select.proofs.JumpStretches.{jumped, calls_to, comes_back}
@@ -167,7 +168,7 @@ module _ (l : Program) (a : Assignment) (cells stack : ℕ) (lay : Layout) (item
       let ends = exits_here l a cells stack lay items begins s 0 (suc pj) given.0 [] w (omega arith) exit back.world.good in
       let here = subst (λ p. Ends lay items begins p h.1.0 w w 0) (sym given.1.0) (subst (λ c. Ends lay items begins (at (bases stack) lay items (suc pj) given.0) c w w 0) (sym given.1.1.0) ends) in
       ends_on lay items begins ran (ends_on lay items begins h.1.1.0 here)
-  outcome_of t pj d d1 w0 (stops no_alternative w) exit there ran h = ends_on lay items begins ran h
+  outcome_of t pj d d1 w0 (stops no_alternative w) exit there ran h = (ends_on lay items begins ran h.0, leaves_on lay items ran.way h.1)
   outcome_of t pj d d1 w0 (stops heap_full' w) exit there ran h = ends_on lay items begins ran h
   outcome_of t pj d d1 w0 (stops stack_full' w) exit there ran h = ends_on lay items begins ran h
   outcome_of t pj d d1 w0 (stops out_of_units w) exit there ran h = (h.0, (h.1.0, (ran_on lay items begins ran h.1.1.0, h.1.1.1)))

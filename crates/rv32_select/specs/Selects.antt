@@ -1,5 +1,5 @@
 -- Items that do what low code does, in frames and on a heap of the given sizes.
-use Rattle.std.specs.Prelude.{◌≡◌, ℕ, ◌+◌, ◌-◌, ◌*◌, ◌≤◌, true, false, List, [], ◌∷◌, length, replicate, Option, Some, None, slice_get}
+use Rattle.std.specs.Prelude.{◌≡◌, ℕ, ◌+◌, ◌-◌, ◌*◌, ◌≤◌, true, false, List, [], ◌∷◌, length, drop, replicate, Option, Some, None, slice_get}
 use Rattle.std.specs.List.{range_with_len}
 use Rattle.headline.specs.Carries.{IsBytes, Begins}
 use Rattle.low_code.specs.Tree.{Program}
@@ -13,6 +13,7 @@ use Rattle.rv32_items.specs.declared.Item.{Item}
 use Rattle.rv32_items.specs.Course.{Layout, Point, End as CourseEnd, Going, Exited, Stopped, Course, course}
 use Rattle.rv32_items.specs.Placed.{is_instruction, size_of, AllPlain, LabelsStand, times, Rises}
 use Rattle.rv32_items.specs.Told.{ReturnsHome}
+use Rattle.rv32_items.specs.Leaving.{LeavesBy}
 pub use Rattle.rv32_items.specs.Flows.{is_begin, NoBegin, GoesOn, IsStop, Flows}
 
 -- ---- where the items start
@@ -86,6 +87,8 @@ pub record Selects (l : Program) (a : Assignment) (cells stack : ℕ) (items : L
   pub labels : LabelsStand items
   pub some_item : (n : ℕ) × (is_instruction (slice_get items n) ≡ true)
   pub flows : Flows begins items
+  -- the stops are nine instructions, three for each code with which a run ends early
+  pub nine_stop : size_of (drop flows.stops items) ≡ 9
   -- no more items, counted as they are placed, than this
   pub few : AtMostTwoTests l
       → size_of items
@@ -103,6 +106,12 @@ pub record Selects (l : Program) (a : Assignment) (cells stack : ℕ) (items : L
       (k : ℕ)
       × Arrives begins i (limited l (words_at a) cells stack i n)
       (course lay items k i (start_at l.width cells stack lay))
-  -- and each return goes behind the last call that is open
+  -- each return goes behind the last call that is open,
   pub home : (lay : Layout) → Rises items lay → BelowHeap lay → (i : List ℕ) → IsBytes i → (k : ℕ) →
       ReturnsHome lay items k i (start_at l.width cells stack lay) []
+  -- and where a course ends because no alternative was found, it left the procedures by a jump that
+  -- links x5
+  pub leaves : (lay : Layout) → Rises items lay → BelowHeap lay
+      → (i : List ℕ) → IsBytes i → (k : ℕ)
+      → (course lay items k i (start_at l.width cells stack lay)).end ≡ Exited 3
+      → LeavesBy lay items flows.stops 5 i (start_at l.width cells stack lay) k

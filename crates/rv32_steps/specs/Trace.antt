@@ -1,5 +1,6 @@
--- The procedures that a run enters, by their addresses, and how it goes forward between them.
-use Rattle.std.specs.Prelude.{◌⊎◌, ◌≡◌, ℕ, zero, suc, ◌<◌, pos, nat_eq, ◌&&◌, ◌||◌, Bool, true, false, if◌then◌else◌, List, [], ◌∷◌, ◌++◌, drop, Option, Some, None, slice_get}
+-- The procedures that a run enters, by their addresses, how it goes forward between them, and where
+-- it leaves them.
+use Rattle.std.specs.Prelude.{◌⊎◌, ◌≡◌, ℕ, zero, suc, ◌<◌, ◌≤◌, pos, nat_eq, ◌&&◌, ◌||◌, Bool, true, false, if◌then◌else◌, List, [], ◌∷◌, ◌++◌, drop, Option, Some, None, slice_get}
 use Rattle.rv32_isa.specs.declared.instr.Instr.{Instr}
 use Rattle.rv32_isa.specs.declared.instr.Instr.TheVariants.{Jal, Jalr}
 use Rattle.rv32_isa.specs.Table.{instr_of}
@@ -39,6 +40,21 @@ procedure_from f (b ∷ bs) a = if nat_eq a b then f ∷ [] else procedure_from 
 abbrev pub procedures_at : (begins way : List ℕ) → List ℕ
 procedures_at begins [] = []
 procedures_at begins (a ∷ way) = procedure_from 0 begins a ++ procedures_at begins way
+
+-- ---- the last step before an address
+
+-- each address of a way is this one, or lies behind it
+abbrev pub AllFrom : (end : ℕ) → (way : List ℕ) → Type 0
+AllFrom end [] = Unit {0}
+AllFrom end (a ∷ way) = (end ≤ a) × AllFrom end way
+
+-- the last address of a way that lies before `end`
+pub record IsLastBefore (end : ℕ) (way : List ℕ) (at : ℕ) : Type 0 where
+  pub before : List ℕ
+  pub behind : List ℕ
+  pub splits : way ≡ before ++ at ∷ behind
+  pub below : at < end
+  pub past : AllFrom end behind
 
 -- ---- going forward
 

@@ -17,9 +17,14 @@ pub const MOST_OF_TEXT: usize = 1_048_577;
 /// The most bytes of one reading.
 const PIECE: usize = 4096;
 
-/// Reads the next bytes of the open file after those that were read, up to so many in all; whether
-/// there were any.
-fn read_piece<F: Shelf>(shelf: &mut F, most: usize, bytes: &mut Vec<u8>) -> Result<bool, Status>
+/// Reads the next bytes of the open file into a buffer, and puts them after those that were read, up
+/// to so many in all; whether there were any.
+fn read_piece<F: Shelf>(
+    shelf: &mut F,
+    most: usize,
+    buffer: &mut [u8; PIECE],
+    bytes: &mut Vec<u8>,
+) -> Result<bool, Status>
     requires opened { F.is_open shelf.old ≡ true }
     requires room { length bytes.old.items < most }
     ensures opened { F.is_open shelf.new ≡ true }
@@ -31,7 +36,6 @@ fn read_piece<F: Shelf>(shelf: &mut F, most: usize, bytes: &mut Vec<u8>) -> Resu
     ensures unread { IfErr result (IsUnread (of_shelf F.content F.faults shelf.old shelf.new)) }
     ensures later { F.faults shelf.old ≤ F.faults shelf.new }
 {
-    let mut buffer = [0; PIECE];
     let room = (most - bytes.len()).min(PIECE);
     let piece = &mut buffer[..room];
     let Ok(count) = shelf.read(piece) else {
@@ -62,11 +66,12 @@ pub fn read_file<F: Shelf>(
         return Err(Status::ReadFault);
     };
     let mut bytes = Vec::new(alloc);
+    let mut buffer = [0; PIECE];
     for _step in 0..most {
         if bytes.len() == most {
             return Ok(bytes);
         }
-        let more = read_piece(shelf, most, &mut bytes)?;
+        let more = read_piece(shelf, most, &mut buffer, &mut bytes)?;
         if !more {
             return Ok(bytes);
         }

@@ -1,11 +1,11 @@
 use Rattle.std.proofs.Common.{◌≡◌, map, ap, arith}
 use Rattle.grin_syntax.specs.Tree.{procedure_of, program_of}
-use Rattle.apply_inline.specs.Size.{total}
-use Rattle.apply_inline.specs.Inlining.{inlined_size}
+use Rattle.inlining.specs.Size.{total}
+use Rattle.inlining.specs.Applications.{inlined_size}
 use Rattle.points_to.specs.Found.{found}
-use Rattle.apply_inline.specs.Expanded.{expanded_procedure}
-use Rattle.apply_inline.proofs.Measured.{measured}
-use Rattle.apply_inline.proofs.OneArgumentMore.{have_next}
+use Rattle.inlining.specs.Expanded.{expanded_procedure}
+use Rattle.inlining.proofs.Measured.{measured}
+use Rattle.inlining.proofs.OneArgumentMore.{have_next}
 use Rattle.apply_inline.proofs.expanded_size.Goals as goal
 
 pub returns : goal.returns

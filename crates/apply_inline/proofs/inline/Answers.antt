@@ -4,8 +4,8 @@ use Rattle.grin_syntax.specs.Formed.{Formed}
 use Rattle.grin_meaning.specs.Keeps.{Keeps}
 use Rattle.grin_meaning.specs.Ready.{IsInlined}
 use Rattle.points_to.specs.Found.{found}
-use Rattle.apply_inline.proofs.Done.{inlining_done}
-use Rattle.apply_inline.proofs.Well.{inlining_formed}
+use Rattle.inlining.proofs.NoApplications.{inlining_done}
+use Rattle.inlining.proofs.ApplicationsFormed.{inlining_formed}
 use Rattle.apply_inline.proofs.InlinedProgram.{whole, keeps_after}
 use Rattle.apply_inline.proofs.inline.Goals as goal
 

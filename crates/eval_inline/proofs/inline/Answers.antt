@@ -3,7 +3,7 @@ use Rattle.std.proofs.lemmas.Iterator.Adapters.{YieldsList-from_vec}
 use Rattle.std.proofs.lemmas.Iterator.Consumers.{YieldsList-end}
 use Rattle.grin_syntax.specs.Tree.{program_of, procedure_of}
 use Rattle.grin_syntax.specs.Fresh.{past_procs}
-use Rattle.eval_inline.specs.Inlining.{eval_inlined}
+use Rattle.inlining.specs.Evaluations.{eval_inlined}
 use Rattle.points_to.specs.Found.{found}
 use Rattle.eval_inline.proofs.Statements.{one_more_proc}
 use Rattle.eval_inline.proofs.InlinedProgram.{inlined_is, inlined_keeps, inlined_formed, inlined_without}

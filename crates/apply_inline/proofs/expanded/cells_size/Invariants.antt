@@ -1,6 +1,6 @@
 use Rattle.std.proofs.Common.{◌≡◌, take}
-use Rattle.apply_inline.specs.Size.{cells_size}
-use Rattle.apply_inline.specs.Expanded.{capped}
+use Rattle.inlining.specs.Size.{cells_size}
+use Rattle.inlining.specs.Expanded.{capped}
 use Rattle.apply_inline.proofs.expanded.cells_size.Given as goal
 
 abbrev pub invariant-loop-cell : goal.invariant-loop-cell

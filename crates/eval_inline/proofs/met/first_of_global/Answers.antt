@@ -1,7 +1,7 @@
 use Rattle.std.proofs.Common.{◌≡◌, None, slice_get, ap, refl, rules}
 use Rattle.grin_syntax.specs.Tree.{program_of}
 use Rattle.points_to.specs.Found.{found}
-use Rattle.eval_inline.specs.Inlining.{site_of}
+use Rattle.inlining.specs.Evaluations.{site_of}
 use Rattle.eval_inline.proofs.Sites.{global_meets, nothing_met}
 use Rattle.eval_inline.proofs.met.first_of_global.Goals as goal
 

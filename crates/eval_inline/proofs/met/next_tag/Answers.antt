@@ -1,7 +1,7 @@
 use Rattle.std.proofs.Common.{ap, sym, subst}
 use Rattle.grin_syntax.specs.Tree.{program_of}
 use Rattle.points_to.specs.Found.{found}
-use Rattle.eval_inline.specs.Inlining.{sites_of}
+use Rattle.inlining.specs.Evaluations.{sites_of}
 use Rattle.eval_inline.specs.Met.{IsFirst}
 use Rattle.eval_inline.proofs.First.{same_end}
 use Rattle.eval_inline.proofs.Sites.{has_tag, variable_meets, same_word_meets, nothing_met}

@@ -2,7 +2,7 @@ use Rattle.std.proofs.Common.{◌+◌, refl, sym, ap, ◌∙◌, subst, rules}
 use Rattle.std.proofs.lemmas.Iterator.Adapters.{YieldsList-from_vec}
 use Rattle.std.proofs.lemmas.Iterator.Consumers.{YieldsList-end}
 use Rattle.grin_syntax.specs.Tree.{act_of, before_of, program_of}
-use Rattle.apply_inline.specs.Inlining.{apply_act, apply_act_room, apply_code, apply_code_room}
+use Rattle.inlining.specs.Applications.{apply_act, apply_act_room, apply_code, apply_code_room}
 use Rattle.points_to.specs.Found.{found}
 use Rattle.apply_inline.proofs.Loops.{AllApply, other_stays, other_room, alts_done, alts_room, case_done, case_room, one_more, one_more_alt, store_applies, store_room, bind_applies, bind_room}
 use Rattle.apply_inline.proofs.blocks.Inlining.+inline.Goals as goal

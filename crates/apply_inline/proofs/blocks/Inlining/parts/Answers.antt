@@ -1,7 +1,7 @@
 use Rattle.std.proofs.Common.{◌≡◌, ◌+◌, map, take, sym, ap, ◌∙◌}
 use Rattle.std.specs.List.{filter}
 use Rattle.grin_syntax.specs.Tree.{program_of}
-use Rattle.apply_inline.specs.Inlining.{apply_arms, part_tags_of, parts_room}
+use Rattle.inlining.specs.Applications.{apply_arms, part_tags_of, parts_room}
 use Rattle.points_to.specs.Found.{found}
 use Rattle.apply_inline.specs.Applied.{meets_part}
 use Rattle.apply_inline.proofs.Filtered.{parts_filtered}

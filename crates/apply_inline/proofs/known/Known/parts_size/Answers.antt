@@ -1,10 +1,10 @@
 use Rattle.std.proofs.Common.{◌≡◌, map, take, sym, ap, ◌∙◌, arith}
 use Rattle.std.specs.List.{filter}
 use Rattle.grin_syntax.specs.Tree.{program_of}
-use Rattle.apply_inline.specs.Inlining.{part_tags_of}
+use Rattle.inlining.specs.Applications.{part_tags_of}
 use Rattle.points_to.specs.Found.{found}
 use Rattle.apply_inline.specs.Applied.{meets_part}
-use Rattle.apply_inline.specs.Expanded.{capped, parts_size}
+use Rattle.inlining.specs.Expanded.{capped, parts_size}
 use Rattle.apply_inline.proofs.Filtered.{parts_filtered}
 use Rattle.apply_inline.proofs.Placed.{map_all}
 use Rattle.apply_inline.proofs.Loops.{kept_yes, kept_no}

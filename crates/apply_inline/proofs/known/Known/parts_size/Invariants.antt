@@ -3,7 +3,7 @@ use Rattle.std.specs.List.{filter}
 use Rattle.grin_syntax.specs.Tree.{program_of}
 use Rattle.points_to.specs.Found.{found}
 use Rattle.apply_inline.specs.Applied.{meets_part}
-use Rattle.apply_inline.specs.Expanded.{capped, parts_size}
+use Rattle.inlining.specs.Expanded.{capped, parts_size}
 use Rattle.apply_inline.proofs.known.Known.parts_size.Given as goal
 
 abbrev pub invariant-loop-t : goal.invariant-loop-t

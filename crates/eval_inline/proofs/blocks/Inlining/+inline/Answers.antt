@@ -4,7 +4,7 @@ use Rattle.std.proofs.lemmas.Iterator.Consumers.{YieldsList-end}
 use Rattle.grin_syntax.specs.Tree.{program_of, act_of, arm_of, arms_of, eval}
 use Rattle.grin_syntax.proofs.TreeOf.{act_of-Fetch, act_of-Eval}
 use Rattle.points_to.specs.Found.{found}
-use Rattle.eval_inline.specs.Inlining.{eval_all, all_room}
+use Rattle.inlining.specs.Evaluations.{eval_all, all_room}
 use Rattle.eval_inline.proofs.Statements.{one_more_stmt, store_done, store_room, bind_done, bind_room, block_done, block_room, other_is_plain, plain_stays, plain_room, same_follows, eval_follows, eval_room, one_more_arm, arms_done, arms_room_done, case_done, case_room, nested_done, nested_room}
 use Rattle.eval_inline.proofs.Pieces.{on_ok_follows}
 use Rattle.eval_inline.proofs.blocks.Inlining.+inline.Goals as goal

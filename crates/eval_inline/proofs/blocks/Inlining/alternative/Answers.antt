@@ -4,7 +4,7 @@ use Rattle.grin_syntax.proofs.TreeOf.{act_of-Unit, act_of-Fail}
 use Rattle.grin_syntax.specs.Fresh.{variable}
 use Rattle.grin_meaning.specs.Run.{is_fun_kind}
 use Rattle.points_to.specs.Found.{found}
-use Rattle.eval_inline.specs.Inlining.{eval_body}
+use Rattle.inlining.specs.Evaluations.{eval_body}
 use Rattle.eval_inline.proofs.Bodies.{known_tag, fun_body, no_call_body, given_body, alternative_is, alternative_room}
 use Rattle.eval_inline.proofs.blocks.Inlining.alternative.Goals as goal
 use Rattle.eval_inline.proofs.blocks.Inlining.alternative.Goals.{in-Fun+in-Some+in_ok-body-in-Some, in-Fun+in-None+in_ok-body-in-None, in-Con+in_ok-body-in-Con, in-Part+in_ok-body-in-Part}

@@ -1,0 +1,17 @@
+pub mod ApplicationsBind
+pub mod ApplicationsFormed
+pub mod ApplicationsKeep
+pub mod Bounds
+pub mod CellTags
+pub mod EvaluationsApart
+pub mod EvaluationsBind
+pub mod EvaluationsFormed
+pub mod EvaluationsKeep
+pub mod EvaluationsStay
+pub mod InlinedTogether
+pub mod Measured
+pub mod NoApplications
+pub mod NoEvaluations
+pub mod OneArgumentMore
+pub mod ValueTags
+pub mod Weighed

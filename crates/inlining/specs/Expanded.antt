@@ -1,0 +1,93 @@
+-- The size that a program will have once its evaluations and applications are inlined, by the
+-- program's own text.
+use Rattle.std.specs.Prelude.{ℕ, zero, suc, ◌+◌, ◌-◌, ◌^◌, min, cond, List, [], ◌∷◌, length, Option, Some, None, slice_get}
+use Rattle.grin_syntax.specs.declared.program.ProcId.{ProcId}
+use Rattle.grin_syntax.specs.declared.program.Tag.{Tag}
+use Rattle.grin_syntax.specs.declared.program.Word as W
+use Rattle.grin_syntax.specs.declared.program.Val.{Val}
+use Rattle.grin_syntax.specs.Tree.{Code, end, store, bind, Act, unit, fetch, fetch_word, update, eval, apply, call, prim, read, write, case, nested, fail, Arms, no_arm, arm, Procedure, Program}
+use Rattle.grin_meaning.specs.Run.{is_fun_kind}
+use Rattle.flow_system.specs.Solution.{Solution}
+use Rattle.inlining.specs.Size.{shape_size, val_size, target_size, cells_size, act_size}
+use Rattle.inlining.specs.Evaluations.{tags_of}
+use Rattle.inlining.specs.Applications.{part_tags_of, others_of}
+
+-- a number of 64 bits, the largest one for all that are larger
+abbrev pub capped : ℕ → ℕ
+capped n = min n (2 ^ 64 - 1)
+
+-- the body of an alternative of an evaluation: a call of the fields, the update and the unit, or a
+-- unit alone
+abbrev pub called_size : Option ProcId → ℕ → ℕ
+called_size None k = 1
+called_size (Some f) k = 7 + k
+
+abbrev pub eval_body_size : Tag → ℕ
+eval_body_size t = cond (is_fun_kind t.kind) (called_size t.proc t.fields) 2
+
+-- the body of an alternative of an application: a call of the fields and the argument, or a node of
+-- them
+abbrev pub given_size : ℕ → ℕ → ℕ
+given_size zero k = 1
+given_size (suc r) k = 2 + k
+
+abbrev pub part_body_size : Tag → Option ProcId → ℕ
+part_body_size t None = 1
+part_body_size t (Some f) = given_size t.missing t.fields
+
+module _ (p : Program) (A : Solution) where
+  abbrev pub eval_tag_size : Option Tag → ℕ
+  eval_tag_size None = 0
+  eval_tag_size (Some t) = t.fields + eval_body_size t
+
+  abbrev pub eval_tags_size : List ℕ → ℕ
+  eval_tags_size [] = 0
+  eval_tags_size (t ∷ ts) = eval_tag_size (slice_get p.tags t) + eval_tags_size ts
+
+  -- a fetch that binds a node variable, and the case
+  abbrev pub evaluation_size : W.Word → ℕ
+  evaluation_size a = 5 + eval_tags_size (tags_of p A a)
+
+  abbrev pub part_tag_size : Option Tag → ℕ
+  part_tag_size None = 0
+  part_tag_size (Some t) = t.fields + part_body_size t t.proc
+
+  abbrev pub parts_size : List ℕ → ℕ
+  parts_size [] = 0
+  parts_size (t ∷ ts) = part_tag_size (slice_get p.tags t) + parts_size ts
+
+  abbrev pub else_size : List ℕ → ℕ
+  else_size [] = 0
+  else_size (t ∷ ts) = 1
+
+  abbrev pub application_size : Val → ℕ
+  application_size v =
+      1 + val_size v + parts_size (part_tags_of p A v) + else_size (others_of p A v)
+
+  unfoldable mutual
+    pub expanded_act : Act → ℕ
+    expanded_act (unit v) = act_size (unit v)
+    expanded_act (fetch a) = act_size (fetch a)
+    expanded_act (fetch_word a i) = act_size (fetch_word a i)
+    expanded_act (update a v) = act_size (update a v)
+    expanded_act (eval a) = evaluation_size a
+    expanded_act (apply v a) = application_size v
+    expanded_act (call f ws) = act_size (call f ws)
+    expanded_act (prim f a b) = act_size (prim f a b)
+    expanded_act read = act_size read
+    expanded_act (write a) = act_size (write a)
+    expanded_act (case v as') = 1 + val_size v + expanded_arms as'
+    expanded_act (nested b) = 1 + expanded_code b
+    expanded_act fail = act_size fail
+
+    pub expanded_code : Code → ℕ
+    expanded_code (end o) = expanded_act o
+    expanded_code (store cs b) = cells_size cs + expanded_code b
+    expanded_code (bind t o b) = target_size t + expanded_act o + expanded_code b
+
+    pub expanded_arms : Arms → ℕ
+    expanded_arms no_arm = 0
+    expanded_arms (arm s b as') = shape_size s + expanded_code b + expanded_arms as'
+
+  abbrev pub expanded_procedure : Procedure → ℕ
+  expanded_procedure q = length q.params + expanded_code q.body

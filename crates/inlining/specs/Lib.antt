@@ -1,0 +1,11 @@
+pub mod Analysed
+pub mod Applications
+pub mod Before
+pub mod Evaluations
+pub mod Expanded
+pub mod InPlace
+pub mod Laws
+pub mod Parts
+pub mod Size
+pub mod Small
+pub mod Without

@@ -1,0 +1,21 @@
+-- How a course leaves the procedures for the stops, which stand behind all procedures.
+use Rattle.std.specs.Prelude.{◌≡◌, ℕ, suc, ◌<◌, ◌≤◌, List, Some, slice_get}
+use Rattle.rv32_items.specs.declared.Item.{Item}
+use Rattle.rv32_items.specs.declared.Item.TheVariants.{Jump}
+use Rattle.rv32_items.specs.Course.{Layout, Point, Going, course}
+
+-- Within k items a course leaves the items before the stops by a jump that links a register: after
+-- so many items it stands at the jump, and behind it at the stops alone, with the address behind
+-- the jump in that register.
+pub record LeavesBy (lay : Layout) (items : List Item) (stops link : ℕ) (input : List ℕ)
+    (start : Point) (k : ℕ) : Type 0 where
+  pub taken : ℕ
+  pub within : taken < k
+  pub point : Point
+  pub stood : (course lay items taken input start).end ≡ Going point
+  pub before : point.item < stops
+  pub target : ℕ
+  pub jumps : slice_get items point.item ≡ Some (Jump link target)
+  pub stays : (m : ℕ) (q : Point) → taken < m → m ≤ k
+      → (course lay items m input start).end ≡ Going q
+      → (stops ≤ q.item) × (q.regs link ≡ lay.address (suc point.item))
